@@ -1,6 +1,9 @@
 -- Which words the program understands, and what is read of them.
-use Rattle.std.proofs.Common.{◌≡◌, ◌⊎◌, ◌∙◌, ◌&&◌, ap, subst, sym, refl, inl, inr, false, not, is_some, List, [], ◌∷◌, Some, None, Result, Ok, Err, IfOk, IsErrAnd, MatchResult, codes, IfSome, ◌≤◌, ◌^◌, find, fold, bytes_eq, ◌++◌, arith, ℕ, Bool, true, slice_index_or, ne_eqb, ◌==◌}
-use Rattle.clap.specs.Walk.{Names, Text, Walk, answers_to, has_long, has_short, nothing_held, rows_after, subcommand_met, idle, walk, walk_from, walked, one_of}
+use Rattle.std.proofs.Common.{◌≡◌, ◌⊎◌, ◌∙◌, ◌&&◌, ap, subst, sym, refl, inl, inr, false, not, is_some, List, [], ◌∷◌, Some}
+use Rattle.std.proofs.Common.{None, Result, Ok, Err, IfOk, IsErrAnd, MatchResult, codes, IfSome, ◌≤◌, ◌^◌, find, fold, bytes_eq}
+use Rattle.std.proofs.Common.{◌++◌, arith, ℕ, Bool, true, slice_index_or, ne_eqb, ◌==◌}
+use Rattle.clap.specs.Walk.{Names, Text, Walk, answers_to, has_long, has_short, nothing_held, rows_after, subcommand_met}
+use Rattle.clap.specs.Walk.{idle, walk, walk_from, walked, one_of}
 use Rattle.clap.specs.Words.{kind_of, subcommand_of}
 use Rattle.clap.specs.Simple.{Shape, built, entered, label_of, names_of}
 use Rattle.clap.specs.Kinds.{IsAmong, Kinds, or_else, value_kinds}
@@ -15,7 +18,9 @@ use Rattle.cml_shell.specs.Prelude.{error_status}
 use Rattle.cml.specs.Prelude.{AsksFor, AsksHelp, HasOrder, Reads, asked_of, faults_of, limit_of, usage, AreUses, FindsBoth, FindsFlag, Flag}
 use Rattle.cml.specs.Prelude.{form_if, IsLimitOption, Limit, ReadsAs, Use, given_by, state_by, Order}
 use Rattle.cml.specs.declared.asked.Order.TheVariants.{Replay, Run, Check}
-use Rattle.cml.proofs.CommandWordsLemmas.{Found, IsBare, IsOrOther, Uses, a_flag, a_value, dashes, flagged, help, help_alone, holding, limit_parser, limited, long_help, neither, none_of_both, same_or_other, some_kind, turn_of, uses_of}
+use Rattle.cml.proofs.CommandWordsLemmas.{Found, IsBare, IsOrOther, Uses, a_flag, a_value, dashes, flagged, help, help_alone}
+use Rattle.cml.proofs.CommandWordsLemmas.{holding, limit_parser, limited, long_help, neither, none_of_both, same_or_other}
+use Rattle.cml.proofs.CommandWordsLemmas.{some_kind, turn_of, uses_of}
 use Rattle.clap.specs.Lexer.{long_of, short_of}
 use Rattle.cml_script.specs.Prelude.{Form}
 use Rattle.cml_script.specs.declared.form.Form.TheVariants.{Report, Journal}
@@ -42,9 +47,11 @@ below name = record (slice_index_or (built usage).subs 0 (built usage).top) { na
 abbrev below_check : Shape
 below_check = slice_index_or (built usage).subs 2 (built usage).top
 
-uses_below : (name : Text) (words : List Text) → level_fault (below name) [] nothing_held words false [] ≡ [] → Uses (below name) (codes "journal") words
+uses_below : (name : Text) (words : List Text) → level_fault (below name) [] nothing_held words false [] ≡ []
+    → Uses (below name) (codes "journal") words
 uses_below name =
-    uses_of (below name) (codes "journal") (record { once = refl; short = λ x. help_alone (λ a. not (is_some a.index) && has_short a x); others = refl })
+    uses_of (below name) (codes "journal")
+    (record { once = refl; short = λ x. help_alone (λ a. not (is_some a.index) && has_short a x); others = refl })
     (λ word. found word (same_or_other _ word) (same_or_other _ word)) refl refl refl
   where
     found : (word : Text) → IsOrOther (codes "limit") word → IsOrOther (codes "journal") word → Found (below name) (codes "journal") word
@@ -54,7 +61,8 @@ uses_below name =
 
 uses_check : (words : List Text) → level_fault below_check [] nothing_held words false [] ≡ [] → Uses below_check (codes "state") words
 uses_check =
-    uses_of below_check (codes "state") (record { once = refl; short = λ x. help_alone (λ a. not (is_some a.index) && has_short a x); others = refl })
+    uses_of below_check (codes "state")
+    (record { once = refl; short = λ x. help_alone (λ a. not (is_some a.index) && has_short a x); others = refl })
     (λ word. found word (same_or_other _ word)) refl refl refl
   where
     found : (word : Text) → IsOrOther (codes "state") word → Found below_check (codes "state") word
@@ -65,7 +73,8 @@ uses_check =
 
 module _ (name : Text) (level : Shape) (met : subcommand_met names idle name ≡ Some name) (other : bytes_eq name (codes "help") ≡ false)
     (found : find (λ sub. answers_to name (label_of sub)) (built usage).subs ≡ Some level) where
-  stops : (rest : List Text) → (record (walk_from nothing_held) { stopped = Some (name, rest) } ≡ walk top.rules names nothing_held (name ∷ rest))
+  stops : (rest : List Text)
+      → (record (walk_from nothing_held) { stopped = Some (name, rest) } ≡ walk top.rules names nothing_held (name ∷ rest))
       × (walk_fault top names (walk_from nothing_held) (name ∷ rest) ≡ [])
   unfolding walk_fault walked
   stops rest = (
@@ -82,11 +91,13 @@ module _ (name : Text) (level : Shape) (met : subcommand_met names idle name ≡
   left : (words : List Text) (word : Text) (rest : List Text) → faults_of words ≡ [] → asked_of words ≡ word ∷ rest → name ≡ word
       → (asked_of words ≡ name ∷ rest) × (level_fault level [] nothing_held rest false [] ≡ [])
   left words word rest fine are is =
-      let named = are ∙ ap (λ w. w ∷ rest) (sym is) in (named, (none_of_both _ _ (sym (fault_below rest) ∙ ap fault_at (sym named) ∙ fine)).0)
+      let named = are ∙ ap (λ w. w ∷ rest) (sym is) in
+      (named, (none_of_both _ _ (sym (fault_below rest) ∙ ap fault_at (sym named) ∙ fine)).0)
 
   -- and what is found is found there
   has_order : (words rest : List Text) (order : Order) → asked_of words ≡ name ∷ rest → level_fault level [] nothing_held rest false [] ≡ []
-      → HasOrder (Some (level.name, rows_after level.rules [] rest)) order → (faults_of words ≡ []) × HasOrder (subcommand_of usage words) order
+      → HasOrder (Some (level.name, rows_after level.rules [] rest)) order
+      → (faults_of words ≡ []) × HasOrder (subcommand_of usage words) order
   has_order words rest order are none has =
       let order_at : Walk → Type 0 = λ w. HasOrder (entered (built usage) w.stopped) order in
       (ap fault_at are ∙ fault_below rest ∙ ap (λ kinds. or_else kinds []) none, rw are (subst order_at (stops rest).0 (rw found has)))
@@ -108,14 +119,16 @@ other_first word rest met none =
     let first = (none_of_both _ _ (none_of_both _ _ none).0).0 in
     elim (turn_of top bare names idle [] None word met first) [
       | dashes is ↦ odd_words (word ∷ rest) rest (inr (inr (ap (λ w. w ∷ rest) is))) none
-      | a_flag name value e d fine ↦ long_help top.rules _ value (holding [] None) (help_alone (λ a. not (is_some a.index) && has_long a name)) fine
+      | a_flag name value e d fine ↦
+          long_help top.rules _ value (holding [] None) (help_alone (λ a. not (is_some a.index) && has_long a name)) fine
       | a_value d is stray ↦ stray refl
     ]
 
 pub understood : (words : List Text) → faults_of words ≡ [] → (order : Order) × AsksFor words order
 understood words fine = by_words (asked_of words) refl
   where
-    by_first : (word : Text) (rest : List Text) → asked_of words ≡ word ∷ rest → IsOrOther (codes "replay") word → IsOrOther (codes "run") word → IsOrOther (codes "check") word
+    by_first : (word : Text) (rest : List Text) → asked_of words ≡ word ∷ rest → IsOrOther (codes "replay") word
+        → IsOrOther (codes "run") word → IsOrOther (codes "check") word
         → IsOrOther (codes "help") word → (order : Order) × AsksFor words order
     by_first word rest are (inl is) run_or check_or help_or =
         let here = left (codes "replay") (below (codes "replay")) refl refl refl words word rest fine are is in
@@ -130,18 +143,22 @@ understood words fine = by_words (asked_of words) refl
         let by = uses_check rest here.1 in
         let state = by.3 (λ has. cc) in
         (Check state.0, record { uses = by.0; rest = rest; gives = state.1; reads = by.1; are = here.0 })
-    by_first word rest are (inr r) (inr u) (inr k) (inl is) = absurd (odd_words (asked_of words) rest (inr (inl (are ∙ ap (λ w. w ∷ rest) (sym is)))) fine)
-    by_first word rest are (inr r) (inr u) (inr k) (inr h) = absurd (other_first word rest (rw (r, u, k, h) refl) (ap fault_at (sym are) ∙ fine))
+    by_first word rest are (inr r) (inr u) (inr k) (inl is) =
+        absurd (odd_words (asked_of words) rest (inr (inl (are ∙ ap (λ w. w ∷ rest) (sym is)))) fine)
+    by_first word rest are (inr r) (inr u) (inr k) (inr h) =
+        absurd (other_first word rest (rw (r, u, k, h) refl) (ap fault_at (sym are) ∙ fine))
 
     by_words : (asked : List Text) → asked_of words ≡ asked → (order : Order) × AsksFor words order
     by_words [] are = absurd (odd_words (asked_of words) [] (inl are) fine)
-    by_words (word ∷ rest) are = by_first word rest are (same_or_other _ word) (same_or_other _ word) (same_or_other _ word) (same_or_other _ word)
+    by_words (word ∷ rest) are =
+        by_first word rest are (same_or_other _ word) (same_or_other _ word) (same_or_other _ word) (same_or_other _ word)
 
 -- ---- the levels take the words of an order
 
 -- a text that may be a limit is no flag, and passes
 abbrev pub Fits : Text → Type 0
-Fits text = (bytes_eq text (codes "--") ≡ false) × (long_of text ≡ None) × (short_of text ≡ None) × (value_kinds false limit_parser text ≡ [])
+Fits text = (bytes_eq text (codes "--") ≡ false) × (long_of text ≡ None) × (short_of text ≡ None)
+    × (value_kinds false limit_parser text ≡ [])
 
 pub number_fits : (text : Text) (limit : ℕ) → ReadsAs text limit → 1 ≤ limit → limit ≤ 2 ^ 32 → Fits text
 number_fits [] limit reads least most = let bad = reads.0.0 in absurd (omega arith)
@@ -157,27 +174,42 @@ IsGiven words text = ((words ≡ []) × (text ≡ codes "65536")) ⊎ IsLimitOpt
 module _ (name : Text) where
   -- the level finds no fault in the words, and this limit's text and flag
   abbrev Takes : List Text → Text → Bool → Type 0
-  Takes words text set = (level_fault (below name) [] nothing_held words false [] ≡ []) × (one_of (codes "limit") (rows_after (below name).rules [] words) ≡ Some text)
+  Takes words text set = (level_fault (below name) [] nothing_held words false [] ≡ [])
+      × (one_of (codes "limit") (rows_after (below name).rules [] words) ≡ Some text)
       × FindsFlag (λ id. one_of id (rows_after (below name).rules [] words)) (codes "journal") set
 
   takes : (text : Text) (given end : List Text) → Fits text → IsGiven given text → AreUses (codes "--journal") [] end
-      → Takes (given ++ end) text false × Takes (given ++ codes "--journal" ∷ end) text true × Takes (codes "--journal" ∷ (given ++ end)) text true
+      → Takes (given ++ end) text false × Takes (given ++ codes "--journal" ∷ end) text true
+      × Takes (codes "--journal" ∷ (given ++ end)) text true
   unfolding clap_on_literals
   takes text given end fits (inl none) (inl e) = rw (none.0, none.1, e) ((refl, refl, refl), (refl, refl, refl), (refl, refl, refl))
   takes text given end fits (inl none) (inr e) = rw (none.0, none.1, e) ((refl, refl, refl), (refl, refl, refl), (refl, refl, refl))
   takes text given end (d, l, s, p) (inr (inl two)) (inl e) =
-      rw (two, e) ((rw (d, l, s, p) refl, rw (d, l, s) refl, rw (d, l, s) refl), (rw (d, l, s, p) refl, rw (d, l, s) refl, rw (d, l, s) refl), (rw (d, l, s, p) refl, rw (d, l, s) refl, rw (d, l, s) refl))
+      rw (two, e) (
+        (rw (d, l, s, p) refl, rw (d, l, s) refl, rw (d, l, s) refl),
+        (rw (d, l, s, p) refl, rw (d, l, s) refl, rw (d, l, s) refl),
+        (rw (d, l, s, p) refl, rw (d, l, s) refl, rw (d, l, s) refl),
+      )
   takes text given end (d, l, s, p) (inr (inl two)) (inr e) =
-      rw (two, e) ((rw (d, l, s, p) refl, rw (d, l, s) refl, rw (d, l, s) refl), (rw (d, l, s, p) refl, rw (d, l, s) refl, rw (d, l, s) refl), (rw (d, l, s, p) refl, rw (d, l, s) refl, rw (d, l, s) refl))
-  takes text given end (d, l, s, p) (inr (inr one)) (inl e) = rw (one, e) ((rw p refl, refl, refl), (rw p refl, refl, refl), (rw p refl, refl, refl))
-  takes text given end (d, l, s, p) (inr (inr one)) (inr e) = rw (one, e) ((rw p refl, refl, refl), (rw p refl, refl, refl), (rw p refl, refl, refl))
+      rw (two, e) (
+        (rw (d, l, s, p) refl, rw (d, l, s) refl, rw (d, l, s) refl),
+        (rw (d, l, s, p) refl, rw (d, l, s) refl, rw (d, l, s) refl),
+        (rw (d, l, s, p) refl, rw (d, l, s) refl, rw (d, l, s) refl),
+      )
+  takes text given end (d, l, s, p) (inr (inr one)) (inl e) =
+      rw (one, e) ((rw p refl, refl, refl), (rw p refl, refl, refl), (rw p refl, refl, refl))
+  takes text given end (d, l, s, p) (inr (inr one)) (inr e) =
+      rw (one, e) ((rw p refl, refl, refl), (rw p refl, refl, refl), (rw p refl, refl, refl))
 
   -- the level takes these words as this limit and this form
   abbrev IsTakenAs : List Text → ℕ × Form → Type 0
-  IsTakenAs words both = (level_fault (below name) [] nothing_held words false [] ≡ []) × FindsBoth (λ id. one_of id (rows_after (below name).rules [] words)) both
+  IsTakenAs words both = (level_fault (below name) [] nothing_held words false [] ≡ [])
+      × FindsBoth (λ id. one_of id (rows_after (below name).rules [] words)) both
 
-  taken_with : (given end : List Text) (limit : ℕ) → (text : Text) × IsGiven given text × ReadsAs text limit × (1 ≤ limit) × (limit ≤ 2 ^ 32) → AreUses (codes "--journal") [] end
-      → IsTakenAs (given ++ end) (limit, Report) × IsTakenAs (given ++ codes "--journal" ∷ end) (limit, Journal) × IsTakenAs (codes "--journal" ∷ (given ++ end)) (limit, Journal)
+  taken_with : (given end : List Text) (limit : ℕ)
+      → (text : Text) × IsGiven given text × ReadsAs text limit × (1 ≤ limit) × (limit ≤ 2 ^ 32) → AreUses (codes "--journal") [] end
+      → IsTakenAs (given ++ end) (limit, Report) × IsTakenAs (given ++ codes "--journal" ∷ end) (limit, Journal)
+      × IsTakenAs (codes "--journal" ∷ (given ++ end)) (limit, Journal)
   taken_with given end limit (text, how, reads, least, most) stop =
       let by = takes text given end (number_fits text limit reads least most) how stop in
       let found : (words : List Text) (set : Bool) → Takes words text set → IsTakenAs words (limit, form_if set) =
@@ -185,12 +217,19 @@ module _ (name : Text) where
       (found _ false by.0, found _ true by.1, found _ true by.2)
 
   default : (text : Text) × IsGiven [] text × ReadsAs text 65536 × (1 ≤ 65536) × (65536 ≤ 2 ^ 32)
-  default = (codes "65536", inl (refl, refl), ((omega arith, (omega arith, (omega arith, (omega arith, (omega arith, (omega arith, tt)))))), refl), omega arith, omega arith)
+  default = (
+    codes "65536",
+    inl (refl, refl),
+    ((omega arith, (omega arith, (omega arith, (omega arith, (omega arith, (omega arith, tt)))))), refl),
+    omega arith,
+    omega arith,
+  )
 
   taken_below : (uses : List Use) (words : List Text) → AreUses (codes "--journal") uses words → IfSome (given_by uses) (IsTakenAs words)
   taken_below [] words end = (taken_with [] words 65536 default end).0
   taken_below (Flag ∷ []) words (first, rest, is, flag, end) = rw (is, flag) (taken_with [] rest 65536 default end).1
-  taken_below (Limit n ∷ []) words (first, rest, is, one, end) = rw is (taken_with first rest n (one.0, inr one.1, one.2, one.3, one.4) end).0
+  taken_below (Limit n ∷ []) words (first, rest, is, one, end) =
+      rw is (taken_with first rest n (one.0, inr one.1, one.2, one.3, one.4) end).0
   taken_below (Limit n ∷ Flag ∷ []) words (first, rest, is, one, (second, last, also, flag, end)) =
       rw (is, also, flag) (taken_with first last n (one.0, inr one.1, one.2, one.3, one.4) end).1
   taken_below (Flag ∷ Limit n ∷ []) words (first, rest, is, flag, (second, last, also, one, end)) =
@@ -199,7 +238,8 @@ module _ (name : Text) where
 
 -- the level takes the option, and finds it
 taken_check : (uses : List Use) (words : List Text) → AreUses (codes "--state") uses words
-    → IfSome (state_by uses) (λ state. (level_fault below_check [] nothing_held words false [] ≡ []) × FindsFlag (λ id. one_of id (rows_after below_check.rules [] words)) (codes "state") state)
+    → IfSome (state_by uses) (λ state. (level_fault below_check [] nothing_held words false [] ≡ [])
+    × FindsFlag (λ id. one_of id (rows_after below_check.rules [] words)) (codes "state") state)
 unfolding clap_on_literals
 taken_check [] words (inl e) = rw e (refl, refl)
 taken_check [] words (inr e) = rw e (refl, refl)
@@ -210,12 +250,14 @@ taken_check _ words reads = tt
 -- ---- words that ask for an order are without fault, and a parse finds the order
 
 abbrev pub IsTaken : List Text → Order → Type 0
-IsTaken words order = ((faults_of words ≡ []) × HasOrder (subcommand_of usage words) order) × IfSome (limit_of order) (λ limit. (1 ≤ limit) × (limit ≤ 2 ^ 32))
+IsTaken words order = ((faults_of words ≡ []) × HasOrder (subcommand_of usage words) order)
+    × IfSome (limit_of order) (λ limit. (1 ≤ limit) × (limit ≤ 2 ^ 32))
 
 pub taken : (words : List Text) (order : Order) → AsksFor words order → IsTaken words order
 taken words (Replay limit form) asks =
     let by = rw asks.gives at (taken_below (codes "replay") asks.uses asks.rest asks.reads) in
-    let has = has_order (codes "replay") (below (codes "replay")) refl refl refl words asks.rest (Replay limit form) asks.are by.0 (refl, by.1) in
+    let has =
+    has_order (codes "replay") (below (codes "replay")) refl refl refl words asks.rest (Replay limit form) asks.are by.0 (refl, by.1) in
     (has, (by.1.0.2, by.1.0.3))
 taken words (Run limit form) asks =
     let by = rw asks.gives at (taken_below (codes "run") asks.uses asks.rest asks.reads) in
@@ -239,7 +281,8 @@ told_asked words (Ok order) reads asked asks = reads.1 asked (taken words asked 
 told_asked words (Err error) (inl memory, done) asked asks = memory
 told_asked words (Err error) (inr among, done) asked asks = absurd (subst (IsAmong (kind_of error)) (taken words asked asks).0.0 among)
 
-pub told_range : (words : List Text) (read : Result Order Error) → Reads words read → IfOk read (λ order. IfSome (limit_of order) (λ limit. (1 ≤ limit) × (limit ≤ 2 ^ 32)))
+pub told_range : (words : List Text) (read : Result Order Error) → Reads words read
+    → IfOk read (λ order. IfSome (limit_of order) (λ limit. (1 ≤ limit) × (limit ≤ 2 ^ 32)))
 told_range words (Err error) reads = tt
 told_range words (Ok order) reads = (taken words order (told words (Ok order) reads)).1
 
@@ -256,7 +299,8 @@ pub told_help : (words : List Text) (read : Result Order Error) → Reads words 
     → IsErrAnd read (λ error. (kind_of error ≡ kind.DisplayHelp) ⊎ (kind_of error ≡ kind.OutOfMemory))
 told_help words (Ok order) reads asks = some_kind _ _ (sym (help_is_shown words asks) ∙ reads.0)
 told_help words (Err error) (inl memory, done) asks = inr memory
-told_help words (Err error) (inr among, done) asks = elim (subst (IsAmong (kind_of error)) (help_is_shown words asks) among) [ inl h ↦ inl h | inr h ↦ absurd h ]
+told_help words (Err error) (inr among, done) asks =
+    elim (subst (IsAmong (kind_of error)) (help_is_shown words asks) among) [ inl h ↦ inl h | inr h ↦ absurd h ]
 
 -- each error is a usage fault, asks for help, or is want of memory
 usage_or_help : (k : ErrorKind) → (error_status k ≡ 3) ⊎ ((k ≡ kind.DisplayHelp) ⊎ (k ≡ kind.OutOfMemory))
@@ -265,6 +309,7 @@ usage_or_help kind.OutOfMemory = inr (inr refl)
 usage_or_help _ = inl refl
 
 pub told_others : (words : List Text) (read : Result Order Error) → Reads words read → ((order : Order) → AsksFor words order → ⊥)
-    → IsErrAnd read (λ error. (error_status (kind_of error) ≡ 3) ⊎ ((kind_of error ≡ kind.DisplayHelp) ⊎ (kind_of error ≡ kind.OutOfMemory)))
+    → IsErrAnd read (λ error. (error_status (kind_of error) ≡ 3)
+    ⊎ ((kind_of error ≡ kind.DisplayHelp) ⊎ (kind_of error ≡ kind.OutOfMemory)))
 told_others words (Ok order) reads none = none order (told words (Ok order) reads)
 told_others words (Err error) reads none = usage_or_help (kind_of error)

@@ -1,12 +1,15 @@
 -- Words as `clap` reads them, and which of them a level understands whose options are a flag and perhaps `--limit`.
-use Rattle.std.proofs.Common.{◌≡◌, ◌⊎◌, refl, inl, inr, Bool, true, false, ℕ, List, [], ◌∷◌, Option, Some, None, codes, ◌∙◌, ◌++◌, ◌+◌, suc, ap, ap₂, subst, sym, arith, eqb-true, fold, find, slice_get, ◌==◌, option_and_then, bytes_eq, chars}
+use Rattle.std.proofs.Common.{◌≡◌, ◌⊎◌, refl, inl, inr, Bool, true, false, ℕ, List, [], ◌∷◌, Option, Some, None, codes, ◌∙◌, ◌++◌, ◌+◌, suc}
+use Rattle.std.proofs.Common.{ap, ap₂, subst, sym, arith, eqb-true, fold, find, slice_get, ◌==◌, option_and_then, bytes_eq, chars}
 use Rattle.std.proofs.lemmas.Bool.{cases_Bool, true_from_ne_false}
 use Rattle.std.proofs.lemmas.Slice.Eq.{bytes_eq-Decides}
-use Rattle.clap.specs.Walk.{Held, Names, Row, Rule, Text, Waiting, Walk, arg_by_index, arg_by_long, arg_by_short, bundle_met, idle, long_or_other, nothing_held, option, plain_word, subcommand_met, walked, arg_by_id, settled_rows, used}
+use Rattle.clap.specs.Walk.{Held, Names, Row, Rule, Text, Waiting, Walk, arg_by_index, arg_by_long, arg_by_short, bundle_met, idle}
+use Rattle.clap.specs.Walk.{long_or_other, nothing_held, option, plain_word, subcommand_met, walked, arg_by_id, settled_rows, used}
 use Rattle.clap.specs.Simple.{Shape, filled, help_rule}
 use Rattle.clap.specs.Kinds.{Kinds, or_else, value_kinds}
 use Rattle.clap.specs.Lexer.{long_of, short_of, long_of_rest, name_and_value, strip_byte}
-use Rattle.clap.specs.Faults.{flag_word_fault, flags_fault, level_fault, long_fault, settle_fault, short_fault, stray_fault, turn_fault, walk_fault, use_fault}
+use Rattle.clap.specs.Faults.{flag_word_fault, flags_fault, level_fault, long_fault, settle_fault, short_fault, stray_fault}
+use Rattle.clap.specs.Faults.{turn_fault, walk_fault, use_fault}
 use Rattle.clap.specs.declared.error.kind.ErrorKind.{ErrorKind}
 use Rattle.std.proofs.lemmas.Option.{cond_some, option_and_then_some}
 use native.Mathlib.Numerals.{unary_clauses}
@@ -49,12 +52,14 @@ IsHelpAlone rule = (rule ≡ None) ⊎ (rule ≡ Some help)
 pub help_alone : (p : Rule → Bool) → IsHelpAlone (find p (help ∷ []))
 help_alone p = elim (cases_Bool (p help)) [ inl t ↦ inr (rw t refl) | inr t ↦ inl (rw t refl) ]
 
-pub long_help : (c : List Rule) (rule : Option Rule) (value : Option Text) (h : Held) → IsHelpAlone rule → long_fault c false rule value h ≡ [] → ⊥
+pub long_help : (c : List Rule) (rule : Option Rule) (value : Option Text) (h : Held) → IsHelpAlone rule
+    → long_fault c false rule value h ≡ [] → ⊥
 long_help c rule value h (inl e) none = some_kind _ _ (rw e at none)
 long_help c rule None h (inr e) none = some_kind _ _ (none_of_both (settle_fault c false h) _ (rw e at none)).1
 long_help c rule (Some text) h (inr e) none = some_kind _ _ (rw e at none)
 
-short_help : (c : List Rule) (rule : Option Rule) (rest : Text) (h : Held) (next : Held → Kinds) → IsHelpAlone rule → short_fault c false rule rest h next ≡ [] → ⊥
+short_help : (c : List Rule) (rule : Option Rule) (rest : Text) (h : Held) (next : Held → Kinds) → IsHelpAlone rule
+    → short_fault c false rule rest h next ≡ [] → ⊥
 short_help c rule rest h next (inl e) none = some_kind _ _ (rw e at none)
 short_help c rule rest h next (inr e) none = some_kind _ _ (none_of_both (settle_fault c false h) _ (none_of_both _ _ (rw e at none)).0).1
 
@@ -70,37 +75,47 @@ pub data Turn (s : Shape) (waiting : Waiting) (h : Held) (word : Text) : Type 0 
   dashes : word ≡ codes "--" → Turn s waiting h word
   a_flag : (name : Text) (value : Option Text) → long_of word ≡ Some (name, value) → bytes_eq word (codes "--") ≡ false
       → long_fault s.rules false (arg_by_long s.rules name) value h ≡ [] → Turn s waiting h word
-  a_value : bytes_eq word (codes "--") ≡ false → long_or_other s.rules waiting word (long_of word) h ≡ plain_word s.rules waiting word h → (waiting ≡ idle → ⊥) → Turn s waiting h word
+  a_value : bytes_eq word (codes "--") ≡ false → long_or_other s.rules waiting word (long_of word) h ≡ plain_word s.rules waiting word h
+      → (waiting ≡ idle → ⊥) → Turn s waiting h word
 
 module _ (s : Shape) (bare : IsBare s) where
   no_stray : stray_fault s ≡ [] → ⊥
   no_stray none = elim (cases_Bool s.is_leaf) [ inl t ↦ some_kind _ _ (rw t at none) | inr t ↦ some_kind _ _ (rw t at none) ]
 
-  pub turn_of : (names : Names) (waiting : Waiting) (rows : List Row) (pending : Option (Text × List Text)) (word : Text) → subcommand_met names waiting word ≡ None
+  pub turn_of : (names : Names) (waiting : Waiting) (rows : List Row) (pending : Option (Text × List Text)) (word : Text)
+      → subcommand_met names waiting word ≡ None
       → turn_fault s names (standing waiting false (holding rows pending)) word ≡ [] → Turn s waiting (holding rows pending) word
   unfolding flags_fault bundle_met
-  turn_of names waiting rows pending word met none = elim (same_or_other word (codes "--")) [ inl d ↦ dashes d | inr d ↦ by d (long_of word) (short_of word) _ refl refl refl ]
+  turn_of names waiting rows pending word met none =
+      elim (same_or_other word (codes "--")) [ inl d ↦ dashes d | inr d ↦ by d (long_of word) (short_of word) _ refl refl refl ]
     where
-      value : bytes_eq word (codes "--") ≡ false → long_or_other s.rules waiting word (long_of word) (holding rows pending) ≡ plain_word s.rules waiting word (holding rows pending)
+      value : bytes_eq word (codes "--") ≡ false → long_or_other s.rules waiting word (long_of word) (holding rows pending)
+          ≡ plain_word s.rules waiting word (holding rows pending)
           → Turn s waiting (holding rows pending) word
-      value d plain = a_value d plain (λ is. no_stray (none_of_both (flag_word_fault s.rules s.args_override_self (long_of word) word (holding rows pending)) _ (rw (met, d, plain, is, bare.others) at none)).1)
+      value d plain = a_value d plain
+          (λ is. no_stray (none_of_both (flag_word_fault s.rules s.args_override_self (long_of word) word (holding rows pending)) _
+          (rw (met, d, plain, is, bare.others) at none)).1)
 
-      by : bytes_eq word (codes "--") ≡ false → (long : Option (Text × Option Text)) (short : Option Text) (first : Option ℕ) → long_of word ≡ long → short_of word ≡ short
+      by : bytes_eq word (codes "--") ≡ false → (long : Option (Text × Option Text)) (short : Option Text) (first : Option ℕ)
+          → long_of word ≡ long → short_of word ≡ short
           → option_and_then (λ flags. slice_get (chars flags) 0) short ≡ first → Turn s waiting (holding rows pending) word
       by d (Some p) short first e g is = a_flag p.0 p.1 e d (none_of_both _ _ (rw (met, d, e, bare.once) at none)).0
-      by d None (Some (f ∷ fs)) (Some x) e g is = absurd (short_help _ _ _ _ _ (bare.short x) (none_of_both _ _ (rw (met, d, e, g, is, bare.once) at none)).0)
+      by d None (Some (f ∷ fs)) (Some x) e g is =
+          absurd (short_help _ _ _ _ _ (bare.short x) (none_of_both _ _ (rw (met, d, e, g, is, bare.once) at none)).0)
       by d None short first e g is = value d (simp (e, g, is))
 
   -- the words to come, and the end, have no fault
   abbrev pub IsFine : Walk → List Text → Type 0
   IsFine w words = (walk_fault s [] w words ≡ []) × (settle_fault s.rules s.args_override_self (fold (walked s.rules []) w words).held ≡ [])
 
-  pub first_turn : (w : Walk) (word : Text) (rest : List Text) → IsFine w (word ∷ rest) → (turn_fault s [] w word ≡ []) × IsFine (walked s.rules [] w word) rest
+  pub first_turn : (w : Walk) (word : Text) (rest : List Text) → IsFine w (word ∷ rest)
+      → (turn_fault s [] w word ≡ []) × IsFine (walked s.rules [] w word) rest
   unfolding walk_fault
   first_turn w word rest fine = let words = none_of_both _ _ fine.0 in (words.0, (words.1, fine.1))
 
   -- after `--` there is no word
-  pub trailing_end : (waiting : Waiting) (h : Held) (rest : List Text) → IsFine (standing waiting true h) rest → (rest ≡ []) × (settle_fault s.rules false h ≡ [])
+  pub trailing_end : (waiting : Waiting) (h : Held) (rest : List Text) → IsFine (standing waiting true h) rest
+      → (rest ≡ []) × (settle_fault s.rules false h ≡ [])
   trailing_end waiting h [] fine = (refl, rw bare.once at fine.1)
   trailing_end waiting h (word ∷ more) fine = absurd (no_stray (rw bare.others at (first_turn (standing waiting true h) word more fine).0))
 
@@ -126,7 +141,8 @@ rejoined (x ∷ xs) = elim (cases_Bool (x == 61)) [
       rw (t, up) (simp unary_clauses (simp unary_clauses at more))
 ]
 
-pub long_word_is : (word name : Text) (value : Option Text) → long_of word ≡ Some (name, value) → word ≡ 45 ∷ 45 ∷ (name ++ with_equals value)
+pub long_word_is : (word name : Text) (value : Option Text) → long_of word ≡ Some (name, value)
+    → word ≡ 45 ∷ 45 ∷ (name ++ with_equals value)
 long_word_is word name value h =
     option_and_then_some long_of_rest (option_and_then (strip_byte 45) (strip_byte 45 word)) (name, value) h (λ rest there named.
     option_and_then_some (strip_byte 45) (strip_byte 45 word) rest there (λ more first second.
@@ -170,7 +186,8 @@ pub data Found (s : Shape) (own name : Text) : Type 0 where
 -- the words are options and their end, where these rows are of those before them
 data Path (s : Shape) (own : Text) : List Row → List Text → Type 0 where
   ends : {rows : List Row} {words : List Text} → AreUses (45 ∷ 45 ∷ own) [] words → Path s own rows words
-  limits : {rows : List Row} {words : List Text} → (first rest : List Text) (text : Text) → HasLimit s → words ≡ first ++ rest → IsLimitOption first text
+  limits : {rows : List Row} {words : List Text} → (first rest : List Text) (text : Text) → HasLimit s
+      → words ≡ first ++ rest → IsLimitOption first text
       → use_fault false the_limit (text ∷ []) rows ≡ [] → Path s own (used the_limit (text ∷ []) rows) rest → Path s own rows words
   flags : {rows : List Row} {words : List Text} → (rest : List Text) → words ≡ (45 ∷ 45 ∷ own) ∷ rest
       → use_fault false (the_flag own) [] rows ≡ [] → Path s own (used (the_flag own) [] rows) rest → Path s own rows words
@@ -198,19 +215,27 @@ module _ (s : Shape) (own : Text) (bare : IsBare s) (found : (name : Text) → F
   unfolding walked
   next_word word rest ahead = (between, text_first)
     where
-      by_flag : (rows : List Row) (pending : Option (Text × List Text)) (name : Text) (value : Option Text) → long_of word ≡ Some (name, value) → bytes_eq word (codes "--") ≡ false
-          → long_fault s.rules false (arg_by_long s.rules name) value (holding rows pending) ≡ [] → Found s own name → (settle_fault s.rules false (holding rows pending) ≡ [])
+      by_flag : (rows : List Row) (pending : Option (Text × List Text)) (name : Text) (value : Option Text)
+          → long_of word ≡ Some (name, value) → bytes_eq word (codes "--") ≡ false
+          → long_fault s.rules false (arg_by_long s.rules name) value (holding rows pending) ≡ [] → Found s own name
+          → (settle_fault s.rules false (holding rows pending) ≡ [])
           × (IsFine s bare (walked s.rules [] (past rows pending) word) rest → Path s own (settled_rows s.rules pending rows) (word ∷ rest))
       by_flag rows pending name None e d none (limited is rule has) =
-          let alone = long_word_is word name None e ∙ ap (λ n. 45 ∷ 45 ∷ (n ++ [])) is in
-          (rw rule at none, λ left. subst (λ w. Path s own (settled_rows s.rules pending rows) (w ∷ rest)) (sym alone) (ahead.1 _ has (rw (d, e, rule) at left)))
+          let alone = long_word_is word name None e ∙ ap (λ n. 45 ∷ 45 ∷ (n ++ [])) is in (
+            rw rule at none,
+            λ left. subst (λ w. Path s own (settled_rows s.rules pending rows) (w ∷ rest)) (sym alone)
+                (ahead.1 _ has (rw (d, e, rule) at left)),
+          )
       by_flag rows pending name (Some text) e d none (limited is rule has) =
           let both = none_of_both _ _ (rw rule at none) in
           let with_text = ap (λ w. w ∷ []) (long_word_is word name (Some text) e ∙ ap (λ n. 45 ∷ 45 ∷ (n ++ 61 ∷ text)) is) in
           (both.0, λ left. limits (word ∷ []) rest text has refl (inr with_text) both.1 (ahead.0 _ None (rw (d, e, rule) at left)).1)
       by_flag rows pending name None e d none (flagged is rule) =
-          let both = none_of_both _ _ (rw rule at none) in
-          (both.0, λ left. flags rest (ap (λ w. w ∷ rest) (long_word_is word name None e ∙ ap (λ n. 45 ∷ 45 ∷ n) is)) both.1 (ahead.0 _ None (rw (d, e, rule) at left)).1)
+          let both = none_of_both _ _ (rw rule at none) in (
+            both.0,
+            λ left. flags rest (ap (λ w. w ∷ rest) (long_word_is word name None e ∙ ap (λ n. 45 ∷ 45 ∷ n) is)) both.1
+                (ahead.0 _ None (rw (d, e, rule) at left)).1,
+          )
       by_flag rows pending name (Some text) e d none (flagged is rule) = absurd (some_kind _ _ (rw rule at none))
       by_flag rows pending name value e d none (neither alone) = absurd (long_help _ _ _ _ alone none)
 
@@ -229,31 +254,44 @@ module _ (s : Shape) (own : Text) (bare : IsBare s) (found : (name : Text) → F
       text_first rows has fine =
           let turn = first_turn s bare (waits rows) word rest fine in
           elim (turn_of s bare [] (option (codes "limit")) rows (Some (codes "limit", [])) word refl turn.0) [
-            | dashes is ↦ absurd (unread rows has (trailing_end s bare (option (codes "limit")) (holding rows (Some (codes "limit", []))) rest (rw is at turn.1)).1)
-            | a_flag name value e d none ↦ absurd (unread rows has (by_flag rows (Some (codes "limit", [])) name value e d none (found name)).0)
+            | dashes is ↦ absurd (unread rows has
+                (trailing_end s bare (option (codes "limit")) (holding rows (Some (codes "limit", []))) rest (rw is at turn.1)).1)
+            | a_flag name value e d none ↦
+                absurd (unread rows has (by_flag rows (Some (codes "limit", [])) name value e d none (found name)).0)
             | a_value d is stray ↦
                 let next = ahead.0 rows (Some (codes "limit", word ∷ [])) (rw (d, is, has) at turn.1) in
                 limits (codes "--limit" ∷ word ∷ []) rest word has refl (inl refl) (rw has at next.0) (rw has at next.1)
           ]
 
   ahead : (words : List Text) → Between words × TextFirst words
-  ahead [] = (λ rows pending fine. (rw bare.once at fine.1, ends (inl refl)), λ rows has fine. absurd (unread rows has (rw bare.once at fine.1)))
+  ahead [] =
+      (λ rows pending fine. (rw bare.once at fine.1, ends (inl refl)), λ rows has fine. absurd (unread rows has (rw bare.once at fine.1)))
   ahead (word ∷ rest) = next_word word rest (ahead rest)
 
   limit_used : (words : List Text) (text : Text) → IsLimitOption words text → or_else (value_kinds false limit_parser text) [] ≡ []
       → (limit : ℕ) × AreOfUse (45 ∷ 45 ∷ own) (Limit limit) words
   limit_used words text is none =
-      let number = accepts-Accepts false limit_parser text (true_from_ne_false (accepts false limit_parser text) (λ t. some_kind _ _ (rw t at none))) in
+      let number =
+      accepts-Accepts false limit_parser text (true_from_ne_false (accepts false limit_parser text) (λ t. some_kind _ _ (rw t at none))) in
       (_, (text, is, (number.0, refl), number.2, number.3))
 
   uses_in : {words : List Text} → Path s own [] words → Uses s own words
   uses_in (ends end) = ([], end, (_, refl), λ no. (_, refl))
-  uses_in (limits first rest text has is how fine (ends end)) = (Limit _ ∷ [], (first, rest, is, (limit_used first text how fine).1, end), (_, refl), λ no. absurd (no has))
+  uses_in (limits first rest text has is how fine (ends end)) =
+      (Limit _ ∷ [], (first, rest, is, (limit_used first text how fine).1, end), (_, refl), λ no. absurd (no has))
   uses_in (flags rest is fine (ends end)) = (Flag ∷ [], (_ ∷ [], rest, is, refl, end), (_, refl), λ no. (_, refl))
-  uses_in (limits first rest text has is how fine (flags more also once (ends end))) =
-      (Limit _ ∷ Flag ∷ [], (first, rest, is, (limit_used first text how fine).1, (_ ∷ [], more, also, refl, end)), (_, refl), λ no. absurd (no has))
-  uses_in (flags rest is fine (limits first more text has also how once (ends end))) =
-      (Flag ∷ Limit _ ∷ [], (_ ∷ [], rest, is, refl, (first, more, also, (limit_used first text how (none_of_both _ _ once).1).1, end)), (_, refl), λ no. absurd (no has))
+  uses_in (limits first rest text has is how fine (flags more also once (ends end))) = (
+    Limit _ ∷ Flag ∷ [],
+    (first, rest, is, (limit_used first text how fine).1, (_ ∷ [], more, also, refl, end)),
+    (_, refl),
+    λ no. absurd (no has),
+  )
+  uses_in (flags rest is fine (limits first more text has also how once (ends end))) = (
+    Flag ∷ Limit _ ∷ [],
+    (_ ∷ [], rest, is, refl, (first, more, also, (limit_used first text how (none_of_both _ _ once).1).1, end)),
+    (_, refl),
+    λ no. absurd (no has),
+  )
   uses_in (limits _ _ _ _ _ _ _ (limits _ _ _ _ _ _ again _)) = absurd (some_kind _ _ again)
   uses_in (flags _ _ _ (flags _ _ again _)) = absurd (some_kind _ _ (rw same at again))
   uses_in (limits _ _ _ _ _ _ _ (flags _ _ _ (limits _ _ _ _ _ _ again _))) = absurd (some_kind _ _ (simp apart at again))

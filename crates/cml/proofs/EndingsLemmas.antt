@@ -1,5 +1,6 @@
 -- What an ending says of what was read and checked.
-use Rattle.std.proofs.Common.{◌≡◌, inl, inr, ℕ, ◌+◌, ◌<◌, ◌≤◌, take, drop, length, add-one, Bool, true, false, List, [], ◌++◌, reverse, Option, Some, None, Ok, refl, sym, ap, ◌∙◌, subst, append_assoc}
+use Rattle.std.proofs.Common.{◌≡◌, inl, inr, ℕ, ◌+◌, ◌<◌, ◌≤◌, take, drop, length, add-one, Bool, true, false, List, [], ◌++◌}
+use Rattle.std.proofs.Common.{reverse, Option, Some, None, Ok, refl, sym, ap, ◌∙◌, subst, append_assoc}
 use Rattle.std.proofs.lemmas.List.{append-nil, take_all, take_at, take-append-drop}
 use Rattle.std.proofs.KnownBytes.{Consumes-nil, Consumes-trans}
 use Rattle.std.specs.Io.KnownBytes.{Appends, Consumes, IsAtEnd}
@@ -11,7 +12,8 @@ use Rattle.std.specs.Fmt.{decimal}
 use Rattle.std.specs.Global.{Global}
 use Rattle.std.specs.Prelude.{String, string_bytes}
 use Rattle.cml.specs.declared.check.ending.Ending.{Ending}
-use Rattle.cml.specs.declared.check.ending.Ending.TheVariants.{Lawful as lawful, Unlawful, Fault, Torn, BehindCut, ReadFault, WriteFault, NoMemory}
+use Rattle.cml.specs.declared.check.ending.Ending.TheVariants.{Lawful as lawful, Unlawful, Fault, Torn, BehindCut, ReadFault}
+use Rattle.cml.specs.declared.check.ending.Ending.TheVariants.{WriteFault, NoMemory}
 use Rattle.cml.specs.Prelude.{Writes, answer_text, lines_for, object_line, object_lines, state_lines, told_state, IsSilent, IsRead, IsFront}
 use Rattle.cml.specs.Prelude.{GivesCut, EndsInFront, is_behind_cut, IsVerdict, TellsAs, ConcludesAs, ConcludesBy, is_of_bytes, Tells}
 use Rattle.cml.specs.Prelude.{EndsAs, EndsIn, IsEarly, IsHeardOut, IsStateOf, IsToldLawful, IsToldUnlawful, Concludes}
@@ -24,7 +26,8 @@ module _ {M : Type 0} (version : ℕ) (meaning : List ℕ → Option M) (text : 
   -- ---- a stop
   told_unlawful : (bytes : List ℕ) (at position : ℕ) (line entry answer : String Global) (new : Progress M)
       → (shows : ShowsUnlawful version meaning bytes at new) → string_bytes line ≡ line_of text shows.entry
-      → (position ≡ at) × (entry ≡ line) × ((expected : Expected M) → expected_of new.checker ≡ Some expected → string_bytes answer ≡ answer_text text expected)
+      → (position ≡ at) × (entry ≡ line)
+      × ((expected : Expected M) → expected_of new.checker ≡ Some expected → string_bytes answer ≡ answer_text text expected)
       → IsToldUnlawful version meaning text bytes position (string_bytes entry) (string_bytes answer)
   told_unlawful bytes at position line entry answer new shows is ends =
       subst (λ (k : ℕ). IsToldUnlawful version meaning text bytes k (string_bytes entry) (string_bytes answer)) (sym ends.0) (record {
@@ -37,8 +40,11 @@ module _ {M : Type 0} (version : ℕ) (meaning : List ℕ → Option M) (text : 
 
   pub ends_as_stopped : (old new : Progress M) (bytes : List ℕ) (told : Stop) (ending : Ending) → EndsAs text new told ending
       → StopsIn version meaning text old bytes new told → EndsIn version meaning text old bytes ending
-  ends_as_stopped old new bytes (stop.Unlawful at line) (Unlawful position entry answer) ends stops =
-      (tt, λ asked before so. let tells = stops before so in told_unlawful (before ++ bytes) at position line entry answer new tells.0 tells.1 ends)
+  ends_as_stopped old new bytes (stop.Unlawful at line) (Unlawful position entry answer) ends stops = (
+    tt,
+    λ asked before so. let tells = stops before so in
+        told_unlawful (before ++ bytes) at position line entry answer new tells.0 tells.1 ends,
+  )
   ends_as_stopped old new bytes (stop.Unlawful at line) NoMemory ends stops = (tt, λ asked before so. tt)
   ends_as_stopped old new bytes (stop.Unlawful at line) (lawful count state) ends stops = absurd ends
   ends_as_stopped old new bytes (stop.Unlawful at line) (Fault number what) ends stops = absurd ends
@@ -52,8 +58,10 @@ module _ {M : Type 0} (version : ℕ) (meaning : List ℕ → Option M) (text : 
       subst (λ (e : Ending). EndsIn version meaning text old bytes e) (sym ends) (tt, λ asked before so. tt)
 
   -- ---- the end
-  pub told_lawful : (asked : Bool) (bytes : List ℕ) (progress : Progress M) (count : ℕ) (state : String Global) → IsLawfulJournal version meaning bytes count
-      → IsStateOf version meaning text asked bytes progress (string_bytes state) → IsSoFar version meaning bytes progress → IsToldLawful version meaning text asked bytes count (string_bytes state)
+  pub told_lawful : (asked : Bool) (bytes : List ℕ) (progress : Progress M) (count : ℕ) (state : String Global)
+      → IsLawfulJournal version meaning bytes count
+      → IsStateOf version meaning text asked bytes progress (string_bytes state) → IsSoFar version meaning bytes progress
+      → IsToldLawful version meaning text asked bytes count (string_bytes state)
   told_lawful asked bytes progress count state is told so = record {
     is = is;
     told = told so ∙ ap (λ (es : List (Entry M)). told_state text asked (reverse es)) (same_entries (so.read) is.read);
@@ -64,11 +72,13 @@ module _ {M : Type 0} (version : ℕ) (meaning : List ℕ → Option M) (text : 
 
   -- the lines of a board that has made what was read so far
   pub state_restored : (bytes : List ℕ) (progress : Progress M) (restored : RestoredShown M) (lines : List ℕ)
-      → (IsSoFar version meaning bytes progress → IsRestored version meaning bytes 1 restored) → lines ≡ state_lines text restored.board.history
+      → (IsSoFar version meaning bytes progress → IsRestored version meaning bytes 1 restored)
+      → lines ≡ state_lines text restored.board.history
       → IsStateOf version meaning text true bytes progress lines
   state_restored bytes progress restored lines restores is so =
       let of = restores so in
-      is ∙ ap (state_lines text) of.made.history ∙ ap (λ (es : List (Entry M)). state_lines text (reverse es)) (same_entries of.read so.read)
+      is ∙ ap (state_lines text) of.made.history
+      ∙ ap (λ (es : List (Entry M)). state_lines text (reverse es)) (same_entries of.read so.read)
     where
       same_entries : {a b : State} {xs ys : List (Entry M)} {read : Read M} → read ≡ Ok (a, xs) → read ≡ Ok (b, ys) → xs ≡ ys
       same_entries {a} {b} {xs} {ys} one other = let both : (a, xs) ≡ (b, ys) = cc in ap (λ (p : State × List (Entry M)). p.1) both
@@ -95,7 +105,8 @@ module _ {M : Type 0} (version : ℕ) (meaning : List ℕ → Option M) (text : 
   heard_at_end WriteFault new end = tt
 
   -- it was not asked yet
-  pub concludes_in_front : (asked : Bool) (check : Progress M) (front : List ℕ) (old : Option (List ℕ)) (ending : Ending) → IsFront front old → IsSoFar version meaning [] check
+  pub concludes_in_front : (asked : Bool) (check : Progress M) (front : List ℕ) (old : Option (List ℕ)) (ending : Ending)
+      → IsFront front old → IsSoFar version meaning [] check
       → EndsIn version meaning text check front ending → Concludes version meaning text asked front old old ending
   concludes_in_front asked check front old ending long so ends = record {
     bytes = [];
@@ -106,7 +117,8 @@ module _ {M : Type 0} (version : ℕ) (meaning : List ℕ → Option M) (text : 
   }
 
   -- there was no memory for a check
-  pub concludes_without : (asked : Bool) (front : List ℕ) (old : Option (List ℕ)) → IsFront front old → Concludes version meaning text asked front old old NoMemory
+  pub concludes_without : (asked : Bool) (front : List ℕ) (old : Option (List ℕ)) → IsFront front old
+      → Concludes version meaning text asked front old old NoMemory
   concludes_without asked front old long = record {
     bytes = [];
     long = short_front front long.most;
@@ -116,8 +128,10 @@ module _ {M : Type 0} (version : ℕ) (meaning : List ℕ → Option M) (text : 
   }
 
   -- it was at its end
-  pub concludes_short : (asked : Bool) (check later : Progress M) (front : List ℕ) (old : Option (List ℕ)) (ending : Ending) → IsFront front old → length front < 15
-      → IsSoFar version meaning [] check → Goes version meaning check front later → ((all : List ℕ) → IsSoFar version meaning all later → Tells version meaning text asked all ending)
+  pub concludes_short : (asked : Bool) (check later : Progress M) (front : List ℕ) (old : Option (List ℕ)) (ending : Ending)
+      → IsFront front old → length front < 15
+      → IsSoFar version meaning [] check → Goes version meaning check front later
+      → ((all : List ℕ) → IsSoFar version meaning all later → Tells version meaning text asked all ending)
       → Concludes version meaning text asked front old old ending
   concludes_short asked check later front old ending long few so goes tells = record {
     bytes = [];
@@ -127,23 +141,30 @@ module _ {M : Type 0} (version : ℕ) (meaning : List ℕ → Option M) (text : 
     told = tells (front ++ []) (subst (λ (b : List ℕ). IsSoFar version meaning b later) (sym (append-nil front)) (goes [] so));
   }
 
-  pub concludes_early : (asked : Bool) (check : Progress M) (front bytes more : List ℕ) (old mid new : Option (List ℕ)) (ending : Ending) → length front ≡ 15 → Consumes old mid bytes → Consumes mid new more
-      → IsSoFar version meaning (front ++ bytes) check → EndsIn version meaning text check more ending → Concludes version meaning text asked front old new ending
+  pub concludes_early : (asked : Bool) (check : Progress M) (front bytes more : List ℕ) (old mid new : Option (List ℕ)) (ending : Ending)
+      → length front ≡ 15 → Consumes old mid bytes → Consumes mid new more
+      → IsSoFar version meaning (front ++ bytes) check → EndsIn version meaning text check more ending
+      → Concludes version meaning text asked front old new ending
   concludes_early asked check front bytes more old mid new ending long first second so ends = record {
     bytes = bytes ++ more;
     long = sym (take_at front (bytes ++ more) 15 long);
     given = Consumes-trans old mid new bytes more first second;
     heard = heard_early ending new ends.0;
-    told = subst (λ (b : List ℕ). Tells version meaning text asked b ending) (append_assoc front bytes more) (ends.1 asked (front ++ bytes) so);
+    told = subst (λ (b : List ℕ). Tells version meaning text asked b ending) (append_assoc front bytes more)
+        (ends.1 asked (front ++ bytes) so);
   }
 
-  pub so_on : (check later : Progress M) (front bytes more : List ℕ) → IsSoFar version meaning (front ++ bytes) check → Goes version meaning check more later
+  pub so_on : (check later : Progress M) (front bytes more : List ℕ) → IsSoFar version meaning (front ++ bytes) check
+      → Goes version meaning check more later
       → IsSoFar version meaning (front ++ (bytes ++ more)) later
-  so_on check later front bytes more so goes = subst (λ (b : List ℕ). IsSoFar version meaning b later) (append_assoc front bytes more) (goes (front ++ bytes) so)
+  so_on check later front bytes more so goes =
+      subst (λ (b : List ℕ). IsSoFar version meaning b later) (append_assoc front bytes more) (goes (front ++ bytes) so)
 
-  pub concludes_at_end : (asked : Bool) (check later : Progress M) (front bytes more : List ℕ) (old mid new : Option (List ℕ)) (ending : Ending) → length front ≡ 15 → Consumes old mid bytes → Consumes mid new more
+  pub concludes_at_end : (asked : Bool) (check later : Progress M) (front bytes more : List ℕ) (old mid new : Option (List ℕ))
+      (ending : Ending) → length front ≡ 15 → Consumes old mid bytes → Consumes mid new more
       → IsSoFar version meaning (front ++ bytes) check → Goes version meaning check more later → IsAtEnd new
-      → ((all : List ℕ) → IsSoFar version meaning all later → Tells version meaning text asked all ending) → Concludes version meaning text asked front old new ending
+      → ((all : List ℕ) → IsSoFar version meaning all later → Tells version meaning text asked all ending)
+      → Concludes version meaning text asked front old new ending
   concludes_at_end asked check later front bytes more old mid new ending long first second so goes end tells = record {
     bytes = bytes ++ more;
     long = sym (take_at front (bytes ++ more) 15 long);
@@ -153,7 +174,8 @@ module _ {M : Type 0} (version : ℕ) (meaning : List ℕ → Option M) (text : 
   }
 
 -- ---- a front
-pub verdict_behind : (asked : Bool) (old mid new : Option (List ℕ)) (front : List ℕ) (ending : Ending) → Consumes old mid front → is_behind_cut front ≡ false
+pub verdict_behind : (asked : Bool) (old mid new : Option (List ℕ)) (front : List ℕ) (ending : Ending)
+    → Consumes old mid front → is_behind_cut front ≡ false
     → ConcludesBy asked front mid new ending → IsVerdict asked old new ending
 verdict_behind asked old mid new front ending first uncut concluded = by (is_of_bytes front) refl concluded
   where
@@ -190,7 +212,8 @@ silent_heard (Unlawful at line answer) new silent = absurd silent
 silent_heard (Fault line what) new silent = absurd silent
 silent_heard (Torn line) new silent = absurd silent
 
-silent_tells : {M : Type 0} (version : ℕ) (meaning : List ℕ → Option M) (text : M → List ℕ) (asked : Bool) (bytes : List ℕ) (ending : Ending) → IsSilent ending
+silent_tells : {M : Type 0} (version : ℕ) (meaning : List ℕ → Option M) (text : M → List ℕ) (asked : Bool) (bytes : List ℕ)
+    (ending : Ending) → IsSilent ending
     → Tells version meaning text asked bytes ending
 silent_tells version meaning text asked bytes ReadFault silent = tt
 silent_tells version meaning text asked bytes WriteFault silent = tt
@@ -205,7 +228,8 @@ silent_told : (of_bytes asked : Bool) (bytes : List ℕ) (ending : Ending) → I
 silent_told true asked bytes ending silent = silent_tells 2 message_of_word bytes_text asked bytes ending silent
 silent_told false asked bytes ending silent = silent_tells 1 number_of decimal asked bytes ending silent
 
-pub verdict_silent : (asked : Bool) (old new : Option (List ℕ)) (ending : Ending) → IsSilent ending → IsRead old new → IsVerdict asked old new ending
+pub verdict_silent : (asked : Bool) (old new : Option (List ℕ)) (ending : Ending) → IsSilent ending
+    → IsRead old new → IsVerdict asked old new ending
 verdict_silent asked old new ending silent read =
     let bytes = read.0 in
     let all : take 15 bytes ++ drop 15 bytes ≡ bytes = take-append-drop 15 bytes in record {
@@ -235,7 +259,8 @@ verdict_cut asked old new gives =
     }
 
 -- a check that ends in the front
-pub verdict_in_front : (asked : Bool) (old new : Option (List ℕ)) (ending : Ending) → EndsInFront old new ending → IsVerdict asked old new ending
+pub verdict_in_front : (asked : Bool) (old new : Option (List ℕ)) (ending : Ending)
+    → EndsInFront old new ending → IsVerdict asked old new ending
 verdict_in_front asked old new BehindCut ends = verdict_cut asked old new ends
 verdict_in_front asked old new ReadFault ends = verdict_silent asked old new ReadFault ends.0 ends.1
 verdict_in_front asked old new WriteFault ends = verdict_silent asked old new WriteFault ends.0 ends.1
@@ -256,7 +281,8 @@ silent_in_front old new (Fault line what) silent read = absurd silent
 silent_in_front old new (Torn line) silent read = absurd silent
 
 -- the front is behind a cut
-pub cut_in_front : (old new : Option (List ℕ)) (front : List ℕ) (ending : Ending) → Consumes old new front → length front ≤ 15 → (ending ≡ BehindCut) × (is_behind_cut front ≡ true)
+pub cut_in_front : (old new : Option (List ℕ)) (front : List ℕ) (ending : Ending) → Consumes old new front → length front ≤ 15
+    → (ending ≡ BehindCut) × (is_behind_cut front ≡ true)
     → EndsInFront old new ending
 cut_in_front old new front ending given most cut =
     subst (λ (e : Ending). EndsInFront old new e) (sym cut.0) (record { front = front; given = given; most = most; cut = cut.1 })
@@ -264,11 +290,14 @@ cut_in_front old new front ending given most cut =
 pub read_on_from : (old mid new : Option (List ℕ)) (front : List ℕ) → Consumes old mid front → IsRead mid new → IsRead old new
 read_on_from old mid new front first second = (front ++ second.0, Consumes-trans old mid new front second.0 first second.1)
 
-pub verdict_unwritten : (asked : Bool) (old new : Option (List ℕ)) (ending why : Ending) → IsVerdict asked old new ending → IsSilent why → IsVerdict asked old new why
-verdict_unwritten asked old new ending why verdict silent = verdict_silent asked old new why silent (verdict.front ++ verdict.rest, verdict.given)
+pub verdict_unwritten : (asked : Bool) (old new : Option (List ℕ)) (ending why : Ending) → IsVerdict asked old new ending
+    → IsSilent why → IsVerdict asked old new why
+verdict_unwritten asked old new ending why verdict silent =
+    verdict_silent asked old new why silent (verdict.front ++ verdict.rest, verdict.given)
 
 -- ---- what is written
-pub writes_line : (old new : Option (List ℕ)) (ending : Ending) (line : List ℕ) → line ≡ lines_for ending → Appends old new line → Writes ending old new
+pub writes_line : (old new : Option (List ℕ)) (ending : Ending) (line : List ℕ) → line ≡ lines_for ending
+    → Appends old new line → Writes ending old new
 writes_line old new ending line is appends = by ending (subst (Appends old new) is appends)
   where
     by : (e : Ending) → Appends old new (lines_for e) → Writes e old new

@@ -1,5 +1,6 @@
 -- What a check tells of the bytes of a journal.
-use Rattle.std.specs.Prelude.{◌≡◌, ◌⊎◌, ℕ, ◌<◌, ◌≤◌, Bool, true, false, ◌||◌, nat_eq, codes, string_bytes, List, ◌++◌, take, length, reverse, String, Option, Some, None, Result, Ok, Err, ⊤}
+use Rattle.std.specs.Prelude.{◌≡◌, ◌⊎◌, ℕ, ◌<◌, ◌≤◌, Bool, true, false, ◌||◌, nat_eq, codes, string_bytes, List, ◌++◌, take}
+use Rattle.std.specs.Prelude.{length, reverse, String, Option, Some, None, Result, Ok, Err, ⊤}
 use Rattle.std.specs.Io.KnownBytes.{Consumes, IsAtEnd}
 use Rattle.cml_board.specs.Prelude.{Entry, Lawful, Expected, expected_of}
 use Rattle.cml_journal.specs.Prelude.{Stop, State, waiting_at, end_of, reading, Progress, IsSoFar, IsUnlawfulJournal, IsFaultyJournal}
@@ -10,12 +11,14 @@ use Rattle.std.specs.Fmt.{decimal}
 use Rattle.std.specs.Global.{Global}
 use Rattle.cml.specs.Lines.{answer_text, told_state}
 use Rattle.cml.specs.declared.check.ending.Ending.{Ending}
-use Rattle.cml.specs.declared.check.ending.Ending.TheVariants.{Lawful as lawful, Unlawful, Fault, Torn, BehindCut, ReadFault, WriteFault, NoMemory}
+use Rattle.cml.specs.declared.check.ending.Ending.TheVariants.{Lawful as lawful, Unlawful, Fault, Torn, BehindCut, ReadFault}
+use Rattle.cml.specs.declared.check.ending.Ending.TheVariants.{WriteFault, NoMemory}
 
 -- the ending by what stopped a check: there may be no memory for the right answer to the call
 abbrev pub EndsAs : {M : Type 0} → (M → List ℕ) → Progress M → Stop → Ending → Type 0
 EndsAs {M} text progress (stop.Unlawful at line) (Unlawful position entry answer) =
-    (position ≡ at) × (entry ≡ line) × ((expected : Expected M) → expected_of progress.checker ≡ Some expected → string_bytes answer ≡ answer_text text expected)
+    (position ≡ at) × (entry ≡ line)
+    × ((expected : Expected M) → expected_of progress.checker ≡ Some expected → string_bytes answer ≡ answer_text text expected)
 EndsAs text progress (stop.Unlawful at line) NoMemory = ⊤
 EndsAs text progress (stop.Unlawful at line) ending = ⊥
 EndsAs text progress (stop.Fault line what) ending = ending ≡ Fault line what
@@ -90,7 +93,8 @@ module _ {M : Type 0} (version : ℕ) (meaning : List ℕ → Option M) (text : 
 
   -- a check ends in these bytes, behind any others
   abbrev pub EndsIn : Progress M → List ℕ → Ending → Type 0
-  EndsIn old bytes ending = IsEarly ending × ((asked : Bool) (before : List ℕ) → IsSoFar version meaning before old → Tells asked (before ++ bytes) ending)
+  EndsIn old bytes ending =
+      IsEarly ending × ((asked : Bool) (before : List ℕ) → IsSoFar version meaning before old → Tells asked (before ++ bytes) ending)
 
   -- a reader gave some bytes, and this is how the check of them ends behind the first 15 bytes, or behind all if they are fewer
   pub record Concludes (asked : Bool) (front : List ℕ) (old new : Option (List ℕ)) (ending : Ending) : Type 0 where

@@ -1,7 +1,8 @@
 -- What the words of the command line ask for.
 use Rattle.std.specs.Prelude.{◌≡◌, ◌⊎◌, ◌≤◌, ◌^◌, ℕ, Bool, true, false, List, [], ◌∷◌, ◌++◌, Option, Some, None, Result, IfOk, drop, codes}
 use Rattle.std.specs.Str.Parse.{IsNumeral, digits_value, without_leading_plus}
-use Rattle.clap.specs.Words.{App, Kinds, Row, Rule, Shape, Text, FailsBy, fault_of, new_app, new_rule, one_of, subcommand_of, with_rule, with_subcommand}
+use Rattle.clap.specs.Words.{App, Kinds, Row, Rule, Shape, Text, FailsBy, fault_of, new_app, new_rule, one_of}
+use Rattle.clap.specs.Words.{subcommand_of, with_rule, with_subcommand}
 use Rattle.clap.specs.Simple.{on_top}
 use Rattle.clap.specs.declared.error.Error.{Error}
 use Rattle.clap.specs.declared.builder.value_parser.ValueParser.TheVariants as parser
@@ -38,7 +39,8 @@ AreOfUse flag Flag words = words ≡ flag ∷ []
 -- the words of these options, one after another, with or without the `--` that ends them
 abbrev pub AreUses : Text → List Use → List Text → Type 0
 AreUses flag [] words = (words ≡ []) ⊎ (words ≡ codes "--" ∷ [])
-AreUses flag (one ∷ more) words = (first : List Text) × (rest : List Text) × (words ≡ first ++ rest) × AreOfUse flag one first × AreUses flag more rest
+AreUses flag (one ∷ more) words = (first : List Text) × (rest : List Text) × (words ≡ first ++ rest)
+    × AreOfUse flag one first × AreUses flag more rest
 
 -- the limit and the form that the options of a script's subcommand give: each option at most once, in any order
 abbrev pub given_by : List Use → Option (ℕ × Form)
@@ -166,4 +168,5 @@ faults_of words = fault_of usage words
 
 -- a parse fails as the words' faults say, and what is read of it is the order that it found
 abbrev pub Reads : List Text → Result Order Error → Type 0
-Reads words read = FailsBy (faults_of words) read × IfOk read (λ order. (asked : Order) → HasOrder (subcommand_of usage words) asked → order ≡ asked)
+Reads words read = FailsBy (faults_of words) read
+    × IfOk read (λ order. (asked : Order) → HasOrder (subcommand_of usage words) asked → order ≡ asked)

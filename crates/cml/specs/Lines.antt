@@ -30,13 +30,15 @@ module _ {M : Type 0} (text : M → List ℕ) where
 
   abbrev pub mailbox_line : List (Entry M) → ℕ → List ℕ
   mailbox_line history number =
-      object_head (codes "mailbox") number ++ (codes " sent " ++ counted (sent_count history number)) ++ (codes " got " ++ counted (got_count history number))
+      object_head (codes "mailbox") number ++ (codes " sent " ++ counted (sent_count history number))
+      ++ (codes " got " ++ counted (got_count history number))
       ++ (codes " waits " ++ counted (owed_count history number)) ++ 10 ∷ []
 
   -- a chunk holds four messages
   abbrev pub channel_line : List (Entry M) → ℕ → List ℕ
   channel_line history number =
-      object_head (codes "channel") number ++ (codes " sent " ++ counted (sent_count history number)) ++ (codes " kept " ++ counted (kept_count 4 history number))
+      object_head (codes "channel") number ++ (codes " sent " ++ counted (sent_count history number))
+      ++ (codes " kept " ++ counted (kept_count 4 history number))
       ++ (codes " first " ++ counted (first_of 4 history number)) ++ 10 ∷ []
 
   abbrev pub owed_or_closed : Option ℕ → List ℕ
@@ -45,7 +47,8 @@ module _ {M : Type 0} (text : M → List ℕ) where
 
   abbrev pub port_line : List (Entry M) → ℕ → List ℕ
   port_line history number =
-      object_head (codes "port") number ++ codes " start " ++ counted (start_of history number) ++ codes " got " ++ counted (got_count history number)
+      object_head (codes "port") number ++ codes " start " ++ counted (start_of history number) ++ codes " got "
+      ++ counted (got_count history number)
       ++ owed_or_closed (owed_count history number) ++ 10 ∷ []
 
   abbrev pub held_text : Option (Option M) → List ℕ

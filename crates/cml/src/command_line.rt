@@ -1,6 +1,7 @@
 //! The words of the command line, by `clap`, which also writes the help.
 ghost use Rattle.std.specs.Prelude.{◌≡◌, ◌⊎◌, ◌≤◌, ◌^◌, ℕ, Bool, IfOk, IfErr, IfSome, IsErrAnd, MatchResult, Some, codes, false, map};
-ghost use Rattle.clap.specs.Words.{app_of, found_of, FailsBy, kind_of, new_app, one_text, rule_of, subcommand_of, with_rule, subcommand_rows_of, with_subcommand};
+ghost use Rattle.clap.specs.Words.{app_of, found_of, FailsBy, kind_of, new_app, one_text, rule_of, subcommand_of, with_rule};
+ghost use Rattle.clap.specs.Words.{subcommand_rows_of, with_subcommand};
 ghost use Rattle.clap.specs.declared.builder.command.Command.TheViews.{out-Command as fields_of};
 ghost use Rattle.cml_shell.specs.Prelude.{error_status};
 ghost use Rattle.cml.specs.Prelude.{usage, faults_of, form_if, limit_of, limit_rule, flag_rule, performing, checking, AsksFor, AsksHelp};

@@ -11,7 +11,8 @@ use Rattle.cml_board.proofs.LogsLemmas.{get-on_log_from}
 
 module _ {M : Type 0} where
   -- a change to a log changes nothing that an object is to agree on
-  Agrees-map_log : {A : Type 0} (facts : Facts M) (change : A → A) (object : Object M A) → Agrees facts object → Agrees facts (map_log change object)
+  Agrees-map_log : {A : Type 0} (facts : Facts M) (change : A → A) (object : Object M A) → Agrees facts object
+      → Agrees facts (map_log change object)
   Agrees-map_log facts change (Mailbox log key) agrees = agrees
   Agrees-map_log facts change (Channel log) agrees = agrees
   Agrees-map_log facts change (Port p) agrees = agrees
@@ -75,7 +76,8 @@ module _ {M : Type 0} where
   ]
 
   -- the objects agree with the facts where one more is made that agrees
-  pub Agrees_pushed : {A : Type 0} (n : ℕ) (f g : ℕ → Facts M) (objects : List (Object M A)) (new : Object M A) → length objects ≡ n → Agrees (g n) new
+  pub Agrees_pushed : {A : Type 0} (n : ℕ) (f g : ℕ → Facts M) (objects : List (Object M A)) (new : Object M A)
+      → length objects ≡ n → Agrees (g n) new
       → ((k : ℕ) → k ≢ n → g k ≡ f k)
       → ((k : ℕ) (object : Object M A) → slice_get objects k ≡ Some object → Agrees (f k) object)
       → (k : ℕ) (object : Object M A) → slice_get (objects ++ new ∷ []) k ≡ Some object → Agrees (g k) object

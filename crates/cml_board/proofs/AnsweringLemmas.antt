@@ -11,7 +11,8 @@ use Rattle.cml_calls.specs.declared.table.Ask.TheVariants as ask
 use Rattle.cml_calls.specs.declared.table.Give.TheVariants as give
 
 module _ {M : Type 0} where
-  pub answer_put : (h : List (Entry M)) (gives : Give) (name : Name) (message : M) → adds gives ≡ true → answer h (given_call gives name message) ≡ Some Done
+  pub answer_put : (h : List (Entry M)) (gives : Give) (name : Name) (message : M) → adds gives ≡ true
+      → answer h (given_call gives name message) ≡ Some Done
   answer_put h give.Send name message is = refl
   answer_put h give.Cast name message is = refl
   answer_put h other name message is = absurd (false≢true is)
@@ -24,7 +25,8 @@ module _ {M : Type 0} where
   answer_closed h ask.ClosePort name is closed = rw closed refl
   answer_closed h other name is closed = absurd (false≢true is)
 
-  pub answer_nothing : (h : List (Entry M)) (name : Name) → is_open h name.0 ≡ true → owed h name.0 ≡ [] → answer h (Poll name) ≡ Some Nothing
+  pub answer_nothing : (h : List (Entry M)) (name : Name) → is_open h name.0 ≡ true → owed h name.0 ≡ []
+      → answer h (Poll name) ≡ Some Nothing
   answer_nothing h name opened none = rw (opened, none) refl
 
   pub answer_taken : (h : List (Entry M)) (asks : Ask) (name : Name) (message : M) → takes_next asks ≡ true → is_open h name.0 ≡ true
@@ -45,15 +47,18 @@ module _ {M : Type 0} where
   answer_shut h name opened = rw opened refl
 
   -- an object of the right kind takes the call
-  fits_kind : (test : Kind → Bool) (kind : Option Kind) (call : Call M) → ((k : Kind) → takes k call ≡ test k) → option_map_or test kind false ≡ true
+  fits_kind : (test : Kind → Bool) (kind : Option Kind) (call : Call M) → ((k : Kind) → takes k call ≡ test k)
+      → option_map_or test kind false ≡ true
       → IsSome kind × IfSome kind (λ k. IsTrue (takes k call))
   fits_kind test None call same is = absurd (false≢true is)
   fits_kind test (Some k) call same is = (refl, same k ∙ is)
 
-  pub fits_by : (test : Kind → Bool) (h : List (Entry M)) (name : Name) (call : Call M) → object_in call ≡ Some name → ((k : Kind) → takes k call ≡ test k) → is_a test h name.0 ≡ true → Fits h call
+  pub fits_by : (test : Kind → Bool) (h : List (Entry M)) (name : Name) (call : Call M) → object_in call ≡ Some name
+      → ((k : Kind) → takes k call ≡ test k) → is_a test h name.0 ≡ true → Fits h call
   fits_by test h name call on same is = rw on (fits_kind test (kind_of h name.0) call same is)
 
-  pub fits_taking : (h : List (Entry M)) (asks : Ask) (name : Name) → takes_next asks ≡ true → is_a is_receiver h name.0 ≡ true → Fits h (asked_call asks name)
+  pub fits_taking : (h : List (Entry M)) (asks : Ask) (name : Name) → takes_next asks ≡ true
+      → is_a is_receiver h name.0 ≡ true → Fits h (asked_call asks name)
   fits_taking h ask.Recv name takes is = fits_by is_receiver h name (Recv name) refl (λ k. refl) is
   fits_taking h ask.Poll name takes is = fits_by is_receiver h name (Poll name) refl (λ k. refl) is
   fits_taking h other name takes is = absurd (false≢true takes)

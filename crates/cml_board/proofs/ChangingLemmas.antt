@@ -1,5 +1,6 @@
 -- When a changed log, and the cursors in it, still show the facts.
-use Rattle.std.proofs.Common.{◌≡◌, ◌≢◌, inl, inr, ℕ, ◌+◌, List, [], ◌∷◌, ◌++◌, length, slice_get, Some, None, refl, sym, ap, subst, ◌∙◌, arith}
+use Rattle.std.proofs.Common.{◌≡◌, ◌≢◌, inl, inr, ℕ, ◌+◌, List, [], ◌∷◌, ◌++◌, length, slice_get, Some, None, refl}
+use Rattle.std.proofs.Common.{sym, ap, subst, ◌∙◌, arith}
 use Rattle.std.proofs.lemmas.Bool.{cases_eq}
 use Rattle.std.proofs.lemmas.List.{length_push}
 use Rattle.std.proofs.lemmas.Option.{none-some, same_Some}
@@ -31,7 +32,8 @@ module _ {M : Type 0} where
         → (cursor_at objects k ≡ Some (other, key)) × (place_by (g k) ≡ place_by (f k))
     pub owned : (key at : ℕ) → place_at new key ≡ Some at → (k : ℕ) × (cursor_at after k ≡ Some (source, key))
     pub other_owned : (k other key : ℕ) → other ≢ source → cursor_at objects k ≡ Some (other, key) → cursor_at after k ≡ Some (other, key)
-    pub apart : (name other from key : ℕ) → cursor_at after name ≡ Some (from, key) → cursor_at after other ≡ Some (from, key) → name ≡ other
+    pub apart : (name other from key : ℕ) → cursor_at after name ≡ Some (from, key)
+        → cursor_at after other ≡ Some (from, key) → name ≡ other
 
   -- it is enough, where the objects agree with those facts
   pub shows_changed : (chunk n m : ℕ) (f g : ℕ → Facts M) (objects after : List (Object M (Log M))) (source : ℕ) (new : Log M)
@@ -45,7 +47,8 @@ module _ {M : Type 0} where
           let is : new ≡ log = same_Some new log (sym change.stands ∙ ap (log_at after) (sym same) ∙ found) in
           subst (λ j. Holds chunk log (g j).sent) (sym same) (subst (λ l. Holds chunk l (g source).sent) is change.holds)
       | inr other ↦
-          subst (λ s. Holds chunk log s) (sym (change.other_sent k log other found)) (shows.logs k log (sym (change.others k other) ∙ found))
+          subst (λ s. Holds chunk log s) (sym (change.other_sent k log other found))
+          (shows.logs k log (sym (change.others k other) ∙ found))
     ];
     cursors = λ k from key reads. elim (cases_eq from source) [
       | inl same ↦
@@ -76,7 +79,8 @@ module _ {M : Type 0} where
       shows.distinct name other from key (sym (same name) ∙ one) (sym (same other) ∙ two)
 
   -- a cursor's move: its place is one more, and each other's stays
-  pub advanced_place : (chunk n : ℕ) (f g : ℕ → Facts M) (objects : List (Object M (Log M))) (name source key : ℕ) (message : M) (log : Log M)
+  pub advanced_place : (chunk n : ℕ) (f g : ℕ → Facts M) (objects : List (Object M (Log M)))
+      (name source key : ℕ) (message : M) (log : Log M)
       → Shows chunk n f objects → cursor_at objects name ≡ Some (source, key) → log_at objects source ≡ Some log
       → g name ≡ record (f name) { got = (f name).got ++ message ∷ [] } → ((k : ℕ) → k ≢ name → g k ≡ f k)
       → (k own : ℕ) → cursor_at objects k ≡ Some (source, own) → place_at (advanced chunk key log) own ≡ Some (place_by (g k))
@@ -91,9 +95,11 @@ module _ {M : Type 0} where
             ∙ sym (ap (λ x. place_by x) more ∙ one_more (f name) message) in
             subst (λ j. place_at (advanced chunk key log) j ≡ Some (place_by (g k))) (sym same)
             (subst (λ j. place_at (advanced chunk key log) key ≡ Some (place_by (g j))) (sym is)
-            (place_at-with_place_same log key (Some (place_of log key + 1)) (IsOpen-at log key (place_by (f name)) stood) ∙ ap (λ p. Some p) next))
+            (place_at-with_place_same log key (Some (place_of log key + 1)) (IsOpen-at log key (place_by (f name)) stood)
+            ∙ ap (λ p. Some p) next))
         | inr differs ↦
-            let other : k ≢ name = λ is. differs (same_key objects name source source own key (subst (λ j. cursor_at objects j ≡ Some (source, own)) is at) reads) in
+            let other : k ≢ name = λ is.
+            differs (same_key objects name source source own key (subst (λ j. cursor_at objects j ≡ Some (source, own)) is at) reads) in
             place_at-with_place_other log key own (Some (place_of log key + 1)) differs
             ∙ cursor_place chunk n f objects k source own log shows at found ∙ ap (λ x. Some (place_by x)) (sym (others k other))
       ]
@@ -173,7 +179,8 @@ module _ {M : Type 0} where
           joins.other_placed k own differs before ∙ ap (λ x. Some (place_by x)) (sym (joins.same k old))
     ];
     other_placed = λ k from own other at.
-        let old : k ≢ n = λ same. other (same_source after n from source own key (subst (λ j. cursor_at after j ≡ Some (from, own)) same at) joins.reads) in
+        let old : k ≢ n =
+        λ same. other (same_source after n from source own key (subst (λ j. cursor_at after j ≡ Some (from, own)) same at) joins.reads) in
         (sym (joins.other_reads k old) ∙ at, ap (λ x. place_by x) (joins.same k old));
     owned = λ own at stands. elim (cases_eq own key) [
       | inl same ↦ (n, joins.reads ∙ ap (λ (j : ℕ). Some (source, j)) (sym same))
@@ -191,7 +198,8 @@ module _ {M : Type 0} where
   }
 
   -- an object reads its log no more, and the cursor there is closed
-  pub record Leaves (chunk : ℕ) (f g : ℕ → Facts M) (objects after : List (Object M (Log M))) (name source key : ℕ) (old : Log M) : Type 0 where
+  pub record Leaves (chunk : ℕ) (f g : ℕ → Facts M) (objects after : List (Object M (Log M)))
+      (name source key : ℕ) (old : Log M) : Type 0 where
     pub found : log_at objects source ≡ Some old
     pub stands : log_at after source ≡ Some (shut chunk key old)
     pub others : (k : ℕ) → k ≢ source → log_at after k ≡ log_at objects k
@@ -211,7 +219,8 @@ module _ {M : Type 0} where
 
   -- so the objects show the new facts
   pub Leaves-changes : (chunk n : ℕ) (f g : ℕ → Facts M) (objects after : List (Object M (Log M))) (name source key : ℕ) (old : Log M)
-      → Shows chunk n f objects → Leaves chunk f g objects after name source key old → Changes chunk f g objects after source (shut chunk key old)
+      → Shows chunk n f objects → Leaves chunk f g objects after name source key old
+      → Changes chunk f g objects after source (shut chunk key old)
   Leaves-changes chunk n f g objects after name source key old shows leaves =
       let stood = cursor_place chunk n f objects name source key old shows leaves.read leaves.found in
       let opened : IsOpen old key = IsOpen-at old key (place_by (f name)) stood in
@@ -224,7 +233,8 @@ module _ {M : Type 0} where
         other_sent = λ k log other found. leaves.sends k;
         placed = λ k own at.
             let before = still k source own at in
-            let differs : own ≢ key = λ same. before.0 (shows.distinct k name source key (before.1 ∙ ap (λ (j : ℕ). Some (source, j)) same) leaves.read) in
+            let differs : own ≢ key =
+            λ same. before.0 (shows.distinct k name source key (before.1 ∙ ap (λ (j : ℕ). Some (source, j)) same) leaves.read) in
             place_at-with_place_other old key own None differs
             ∙ cursor_place chunk n f objects k source own old shows before.1 leaves.found ∙ ap (λ p. Some p) (sym (leaves.places k));
         other_placed = λ k from own other at. ((still k from own at).1, leaves.places k);
@@ -235,7 +245,8 @@ module _ {M : Type 0} where
           | inr differs ↦
               let owner = shows.owners source old own at leaves.found (sym (place_at-with_place_other old key own None differs) ∙ stands) in
               let other : owner.0 ≢ name = λ here.
-              differs (same_key objects name source source own key (subst (λ j. cursor_at objects j ≡ Some (source, own)) here owner.1) leaves.read) in
+              differs (same_key objects name source source own key
+              (subst (λ j. cursor_at objects j ≡ Some (source, own)) here owner.1) leaves.read) in
               (owner.0, leaves.other_reads owner.0 other ∙ owner.1)
         ];
         other_owned = λ k from own other at.

@@ -15,7 +15,8 @@ module _ {M : Type 0} where
         entry = stops.entry;
         stands = stops.stands;
         lawful = subst Lawful (followed_from_nothing journal stops.k) stops.lawful;
-        unlawful = λ unlawful. stops.unlawful (subst (λ h. IsLawfulNext h stops.entry) (sym (followed_from_nothing journal stops.k)) (unlawful.fits, unlawful.answered));
+        unlawful = λ unlawful. stops.unlawful (subst (λ h. IsLawfulNext h stops.entry) (sym (followed_from_nothing journal stops.k))
+            (unlawful.fits, unlawful.answered));
       })
 
   pub stops_here : (history piece now : List (Entry M)) (k at : ℕ) (entry : Entry M) (expected : Expected M)

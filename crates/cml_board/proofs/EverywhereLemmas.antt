@@ -8,7 +8,8 @@ use Rattle.cml_board.proofs.ListLemmas.{pushed_cases, slice_get-append_some, sli
 
 module _ {M : Type 0} where
   -- what stood before a position stays when one more entry follows
-  before_old : (journal : List (Entry M)) (entry : Entry M) (k : ℕ) → k ≤ length journal → before (journal ++ entry ∷ []) k ≡ before journal k
+  before_old : (journal : List (Entry M)) (entry : Entry M) (k : ℕ) → k ≤ length journal
+      → before (journal ++ entry ∷ []) k ≡ before journal k
   before_old journal entry k within = ap reverse (take-append-le k journal (entry ∷ []) within)
 
   before_last : (earlier : List (Entry M)) (entry : Entry M) → before (reverse earlier ++ entry ∷ []) (length (reverse earlier)) ≡ earlier
@@ -36,15 +37,21 @@ module _ {M : Type 0} where
       subst (λ (j : List (Entry M)). IsLawfulEverywhere j) (sym (reverse_onto earlier last []))
       (more earlier last (lawful_each earlier lawful.2) lawful.0 lawful.1)
 
-  fewer : (earlier : List (Entry M)) (last : Entry M) → IsLawfulEverywhere (reverse earlier ++ last ∷ []) → IsLawfulEverywhere (reverse earlier)
+  fewer : (earlier : List (Entry M)) (last : Entry M) → IsLawfulEverywhere (reverse earlier ++ last ∷ [])
+      → IsLawfulEverywhere (reverse earlier)
   fewer earlier last lawful k entry found =
       let there = lawful k entry (slice_get-append_some (reverse earlier) (last ∷ []) k entry found) in
       let within : k ≤ length (reverse earlier) = omega (arith, slice_get_within (reverse earlier) k entry found) in
-      at_same _ k entry (before (reverse earlier ++ last ∷ []) k) (sym (before_old (reverse earlier) last k within)) there.fits there.answered
+      at_same _ k entry (before (reverse earlier ++ last ∷ []) k)
+      (sym (before_old (reverse earlier) last k within)) there.fits there.answered
 
   pub lawful_only : (history : List (Entry M)) → IsLawfulEverywhere (reverse history) → Lawful history
   lawful_only [] lawful = tt
   lawful_only (last ∷ earlier) lawful =
-      let all : IsLawfulEverywhere (reverse earlier ++ last ∷ []) = subst (λ (j : List (Entry M)). IsLawfulEverywhere j) (reverse_onto earlier last []) lawful in
-      let there = all (length (reverse earlier)) last (slice_get_pushed (reverse earlier) last) in
-      (rw (before_last earlier last) at there.fits, rw (before_last earlier last) at there.answered, lawful_only earlier (fewer earlier last all))
+      let all : IsLawfulEverywhere (reverse earlier ++ last ∷ []) =
+      subst (λ (j : List (Entry M)). IsLawfulEverywhere j) (reverse_onto earlier last []) lawful in
+      let there = all (length (reverse earlier)) last (slice_get_pushed (reverse earlier) last) in (
+        rw (before_last earlier last) at there.fits,
+        rw (before_last earlier last) at there.answered,
+        lawful_only earlier (fewer earlier last all),
+      )

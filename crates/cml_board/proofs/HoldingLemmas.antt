@@ -1,5 +1,6 @@
 -- Variables, what they hold, and what calls on them are answered.
-use Rattle.std.proofs.Common.{◌≡◌, ◌≢◌, ℕ, true, false, List, slice_get, Option, Some, None, is_some, cond, IsTrue, IsSome, IfSome, refl, sym, ap, subst, ◌∙◌}
+use Rattle.std.proofs.Common.{◌≡◌, ◌≢◌, ℕ, true, false, List, slice_get, Option, Some, None, is_some, cond, IsTrue}
+use Rattle.std.proofs.Common.{IsSome, IfSome, refl, sym, ap, subst, ◌∙◌}
 use Rattle.std.specs.Option.{option_map, option_map_or, option_and_then}
 use Rattle.std.proofs.lemmas.Bool.{false≢true}
 use Rattle.cml_log.specs.Prelude.{Log}
@@ -34,7 +35,8 @@ module _ {M : Type 0} where
   pub swap_variable : (h : List (Entry M)) (name : Name) (message : M) → Fits h (call.Swap name message) → is_a is_variable h name.0 ≡ true
   swap_variable h name message fits = mvar_kind (kind_of h name.0) fits.0 fits.1
 
-  pub look_variable : (h : List (Entry M)) (asks : Ask) (name : Name) → reads_variable asks ≡ true → Fits h (asked_call asks name) → is_a is_variable h name.0 ≡ true
+  pub look_variable : (h : List (Entry M)) (asks : Ask) (name : Name) → reads_variable asks ≡ true → Fits h (asked_call asks name)
+      → is_a is_variable h name.0 ≡ true
   look_variable h ask.Get name is fits = variable_kind (kind_of h name.0) fits.0 fits.1
   look_variable h ask.GetPoll name is fits = variable_kind (kind_of h name.0) fits.0 fits.1
   look_variable h ask.Take name is fits = mvar_kind (kind_of h name.0) fits.0 fits.1
@@ -61,10 +63,12 @@ module _ {M : Type 0} where
   pub answer_full : (h : List (Entry M)) (name : Name) (message : M) → held h name.0 ≢ None → answer h (call.Put name message) ≡ Some Put
   answer_full h name message full = ap (λ t. Some (cond t Put Done)) (some_held (held h name.0) full)
 
-  pub answer_swapped : (h : List (Entry M)) (name : Name) (message old : M) → held h name.0 ≡ Some old → answer h (call.Swap name message) ≡ Some (Got old)
+  pub answer_swapped : (h : List (Entry M)) (name : Name) (message old : M) → held h name.0 ≡ Some old
+      → answer h (call.Swap name message) ≡ Some (Got old)
   answer_swapped h name message old full = rw full refl
 
-  pub answer_read : (h : List (Entry M)) (asks : Ask) (name : Name) (message : M) → reads_variable asks ≡ true → held h name.0 ≡ Some message
+  pub answer_read : (h : List (Entry M)) (asks : Ask) (name : Name) (message : M)
+      → reads_variable asks ≡ true → held h name.0 ≡ Some message
       → answer h (asked_call asks name) ≡ Some (Got message)
   answer_read h ask.Get name message is full = rw full refl
   answer_read h ask.GetPoll name message is full = rw full refl
@@ -72,7 +76,8 @@ module _ {M : Type 0} where
   answer_read h ask.TakePoll name message is full = rw full refl
   answer_read h other name message is full = absurd (false≢true is)
 
-  pub answer_empty : (h : List (Entry M)) (asks : Ask) (name : Name) → reads_variable asks ≡ true → (asked asks).blocks ≡ false → held h name.0 ≡ None
+  pub answer_empty : (h : List (Entry M)) (asks : Ask) (name : Name) → reads_variable asks ≡ true
+      → (asked asks).blocks ≡ false → held h name.0 ≡ None
       → answer h (asked_call asks name) ≡ Some Nothing
   answer_empty h ask.Get name is polls empty = absurd (false≢true (sym polls))
   answer_empty h ask.GetPoll name is polls empty = rw empty refl
@@ -86,19 +91,25 @@ module _ {M : Type 0} where
   some_message (Some message) full = (message, refl)
 
   -- there is a variable under its name
-  pub variable_stands : (chunk : ℕ) (board : Shown M) (name : ℕ) → Keeps chunk board → is_a is_variable board.history name ≡ true → HasVariable board.objects name
+  pub variable_stands : (chunk : ℕ) (board : Shown M) (name : ℕ) → Keeps chunk board
+      → is_a is_variable board.history name ≡ true → HasVariable board.objects name
   variable_stands chunk board name keeps is = by_option (slice_get board.objects name) refl
     where
-      by_object : (object : Object M (Log M)) → slice_get board.objects name ≡ Some object → Agrees (facts_of board.history name) object → HasVariable board.objects name
-      by_object (Mailbox log key) found agrees = absurd (not_variable (kind_of board.history name) kind.Mailbox (ap (option_map kind_by) agrees.0) refl is)
-      by_object (Channel log) found agrees = absurd (not_variable (kind_of board.history name) kind.Channel (ap (option_map kind_by) agrees) refl is)
-      by_object (Port p) found agrees = absurd (not_variable (kind_of board.history name) kind.Port (ap (option_map kind_by) agrees.0) refl is)
+      by_object : (object : Object M (Log M)) → slice_get board.objects name ≡ Some object
+          → Agrees (facts_of board.history name) object → HasVariable board.objects name
+      by_object (Mailbox log key) found agrees =
+          absurd (not_variable (kind_of board.history name) kind.Mailbox (ap (option_map kind_by) agrees.0) refl is)
+      by_object (Channel log) found agrees =
+          absurd (not_variable (kind_of board.history name) kind.Channel (ap (option_map kind_by) agrees) refl is)
+      by_object (Port p) found agrees =
+          absurd (not_variable (kind_of board.history name) kind.Port (ap (option_map kind_by) agrees.0) refl is)
       by_object (Variable form value) found agrees = record { form = form; held = value; found = found }
 
       by_option : (o : Option (Object M (Log M))) → slice_get board.objects name ≡ o → HasVariable board.objects name
       by_option (Some object) found = by_object object found (keeps.shows.each name object found)
       by_option None none =
-          absurd (false≢true (sym (ap (λ o. option_map_or is_variable (option_map kind_by o) false) (none_made chunk board name keeps none)) ∙ is))
+          absurd
+          (false≢true (sym (ap (λ o. option_map_or is_variable (option_map kind_by o) false) (none_made chunk board name keeps none)) ∙ is))
 
   -- and holds what the history tells
   pub variable_holds : (chunk : ℕ) (board : Shown M) (name : ℕ) (form : Form) (value : Option M) → Keeps chunk board
@@ -108,7 +119,8 @@ module _ {M : Type 0} where
   pub keeps_variables : (chunk : ℕ) (board : Shown M) → Keeps chunk board → KeepsVariables board
   keeps_variables chunk board keeps = λ name is.
       let stands = variable_stands chunk board name keeps is in
-      ap (option_and_then held_in) stands.found ∙ ap (λ value. Some value) (sym (variable_holds chunk board name stands.form stands.held keeps stands.found))
+      ap (option_and_then held_in) stands.found
+      ∙ ap (λ value. Some value) (sym (variable_holds chunk board name stands.form stands.held keeps stands.found))
 
   -- so what it held before it was given another value is what the history told
   pub was_held : (chunk : ℕ) {a b : Shown M} → a ≡ b → Keeps chunk a → (after : List (Object M (Log M))) (name : ℕ) (was value : Option M)

@@ -1,5 +1,6 @@
 -- What is really kept of a log is what the history tells.
-use Rattle.std.proofs.Common.{◌≡◌, inl, inr, ℕ, zero, suc, ◌*◌, ◌/◌, ◌<◌, ◌≤◌, min, true, false, eqb, List, length, slice_get, Option, Some, None, refl, sym, ap, ◌∙◌, arith}
+use Rattle.std.proofs.Common.{◌≡◌, inl, inr, ℕ, zero, suc, ◌*◌, ◌/◌, ◌<◌, ◌≤◌, min, true, false, eqb, List, length, slice_get}
+use Rattle.std.proofs.Common.{Option, Some, None, refl, sym, ap, ◌∙◌, arith}
 use Rattle.std.specs.Option.{option_map}
 use Rattle.std.proofs.lemmas.Bool.{cases_eq, cases_Bool, false≢true, eq-eqb, eqb-true, and_parts, and_from, cond-true, cond-false}
 use Rattle.std.proofs.lemmas.Option.{none-some, same_Some, some_pair_parts, option_and_then_some, slice_get_within}
@@ -34,7 +35,8 @@ module _ {M : Type 0} where
   ]
 
   -- nor than that of an object that reads
-  pub least_of-le_place : (history : List (Entry M)) (source n k : ℕ) → k < n → reads history source k ≡ true → least_of history source n ≤ place history k
+  pub least_of-le_place : (history : List (Entry M)) (source n k : ℕ) → k < n → reads history source k ≡ true
+      → least_of history source n ≤ place history k
   least_of-le_place history source zero k below reader = absurd (omega arith)
   least_of-le_place history source (suc n) k below reader = elim (cases_Bool (reads history source n)) [
     | inl last ↦ elim (cases_eq k n) [
@@ -70,10 +72,12 @@ module _ {M : Type 0} where
   reads_told facts name source key (Port p) agrees reads =
       ap (λ o. reads_by name o facts.opened source) agrees.0 ∙ by_reading p.reading agrees.1 reads
     where
-      by_reading : (reading : Reading) → AgreesReading facts reading → option_map {U = ℕ × ℕ} (λ k. (p.channel.0, k)) (key_in reading) ≡ Some (source, key)
+      by_reading : (reading : Reading) → AgreesReading facts reading
+          → option_map {U = ℕ × ℕ} (λ k. (p.channel.0, k)) (key_in reading) ≡ Some (source, key)
           → reads_by name (Some (port p.channel.0 p.start)) facts.opened source ≡ true
       by_reading (Open own) opened reads =
-          and_from facts.opened (eqb p.channel.0 source) opened (eq-eqb p.channel.0 source (some_pair_parts p.channel.0 source own key reads).0)
+          and_from facts.opened (eqb p.channel.0 source) opened
+          (eq-eqb p.channel.0 source (some_pair_parts p.channel.0 source own key reads).0)
       by_reading (Closed received) closed reads = absurd (none-some (source, key) reads)
 
   -- and was made
@@ -118,7 +122,8 @@ module _ {M : Type 0} where
       let down : least end log.places ≤ least_of history source n =
       least_of-ge history source (least end log.places) n (least-le_end end log.places) (λ k within reader.
       let own = told_reader chunk n (facts_of history) objects k source shows within reader in
-      least-le_place end log.places own.0 (place history k) (cursor_place chunk n (facts_of history) objects k source own.0 log shows own.1 found)) in
+      least-le_place end log.places own.0 (place history k)
+      (cursor_place chunk n (facts_of history) objects k source own.0 log shows own.1 found)) in
       omega (arith, up, down)
 
   -- so is the place that it is kept from
@@ -132,7 +137,8 @@ module _ {M : Type 0} where
   pub reader_made : (history : List (Entry M)) (source name : ℕ) → reads history source name ≡ true → name < length (made history)
   reader_made history source name reader = by_origin (origin_of history name) refl reader
     where
-      by_origin : (origin : Option Origin) → origin_of history name ≡ origin → reads_by name origin (is_open history name) source ≡ true → name < length (made history)
+      by_origin : (origin : Option Origin) → origin_of history name ≡ origin
+          → reads_by name origin (is_open history name) source ≡ true → name < length (made history)
       by_origin None begun reader = absurd (false≢true reader)
       by_origin (Some origin) begun reader = slice_get_within (made history) name origin begun
 

@@ -1,5 +1,6 @@
 -- What the calls on variables tell.
-use Rattle.std.proofs.Common.{◌≡◌, ◌≢◌, ℕ, true, false, cond, List, [], ◌∷◌, ◌++◌, length, slice_get, Option, Some, None, unwrap_or, refl, sym, ap, ◌∙◌}
+use Rattle.std.proofs.Common.{◌≡◌, ◌≢◌, ℕ, true, false, cond, List, [], ◌∷◌, ◌++◌, length, slice_get, Option, Some}
+use Rattle.std.proofs.Common.{None, unwrap_or, refl, sym, ap, ◌∙◌}
 use Rattle.std.proofs.lemmas.Bool.{eq-eqb, ne_eqb, false≢true}
 use Rattle.std.proofs.lemmas.List.{append-nil}
 use Rattle.cml_board.specs.Prelude.{Name, Call, Who, Reply, Entry, Origin, asked_call, reads_variable, empties, only_at, left_by, held}
@@ -30,17 +31,20 @@ module _ {M : Type 0} where
       ap (λ origins. length (made h ++ origins)) (spares.makes (made h) h) ∙ ap length (append-nil (made h))
 
   -- where it leaves nothing in a variable, nothing changes
-  pub spared_same : (h : List (Entry M)) (who : Who) (asked : Call M) (reply : Reply M) (k : ℕ) → Spares asked reply → left_by asked reply k ≡ None
+  pub spared_same : (h : List (Entry M)) (who : Who) (asked : Call M) (reply : Reply M) (k : ℕ)
+      → Spares asked reply → left_by asked reply k ≡ None
       → facts_of (noted who asked reply ∷ h) k ≡ facts_of h k
   spared_same h who asked reply k spares leaves =
-      same_facts h (noted who asked reply) k (spared_origin h who asked reply k spares) (spares.sends k) (spares.gets k) (spares.shuts k) leaves
+      same_facts h (noted who asked reply) k (spared_origin h who asked reply k spares) (spares.sends k)
+      (spares.gets k) (spares.shuts k) leaves
 
   -- one that leaves this in a variable changes what it holds
   pub record Sets (asked : Call M) (reply : Reply M) (name : Name) (value : Option M) : Type 0 where
     pub spares : Spares asked reply
     pub leaves : (k : ℕ) → left_by asked reply k ≡ only_at name k value
 
-  pub set_here : (h : List (Entry M)) (who : Who) (asked : Call M) (reply : Reply M) (name : Name) (value : Option M) → Sets asked reply name value
+  pub set_here : (h : List (Entry M)) (who : Who) (asked : Call M) (reply : Reply M) (name : Name) (value : Option M)
+      → Sets asked reply name value
       → facts_of (noted who asked reply ∷ h) name.0 ≡ record (facts_of h name.0) { held = value }
   set_here h who asked reply name value sets =
       let entry : Entry M = noted who asked reply in
@@ -51,7 +55,8 @@ module _ {M : Type 0} where
       (sets.leaves name.0 ∙ ap (λ t. cond t (Some value) None) (eq-eqb name.0 name.0 refl)))
 
   -- and nothing else
-  pub set_other : (h : List (Entry M)) (who : Who) (asked : Call M) (reply : Reply M) (name : Name) (value : Option M) (k : ℕ) → Sets asked reply name value
+  pub set_other : (h : List (Entry M)) (who : Who) (asked : Call M) (reply : Reply M) (name : Name) (value : Option M) (k : ℕ)
+      → Sets asked reply name value
       → k ≢ name.0 → facts_of (noted who asked reply ∷ h) k ≡ facts_of h k
   set_other h who asked reply name value k sets other =
       spared_same h who asked reply k sets.spares (sets.leaves k ∙ none_at name k value (ne_eqb name.0 k (λ same. other (sym same))))
@@ -81,7 +86,8 @@ module _ {M : Type 0} where
   read_spares ask.TakePoll name message is = record { makes = λ origins h. refl; sends = λ k. refl; gets = λ k. refl; shuts = λ k. refl }
   read_spares other name message is = absurd (false≢true is)
 
-  pub read_leaves : (asks : Ask) (name : Name) (message : M) (k : ℕ) → reads_variable asks ≡ true → empties asks ≡ false → left_by (asked_call asks name) (Got message) k ≡ None
+  pub read_leaves : (asks : Ask) (name : Name) (message : M) (k : ℕ) → reads_variable asks ≡ true → empties asks ≡ false
+      → left_by (asked_call asks name) (Got message) k ≡ None
   read_leaves ask.Get name message k is stays = refl
   read_leaves ask.GetPoll name message k is stays = refl
   read_leaves ask.Take name message k is stays = absurd (false≢true (sym stays))
@@ -101,7 +107,8 @@ module _ {M : Type 0} where
   empty_spares ask.TakePoll name is = record { makes = λ origins h. refl; sends = λ k. refl; gets = λ k. refl; shuts = λ k. refl }
   empty_spares other name is = absurd (false≢true is)
 
-  pub empty_leaves : (asks : Ask) (name : Name) (k : ℕ) → reads_variable asks ≡ true → left_by (asked_call {M = M} asks name) Nothing k ≡ None
+  pub empty_leaves : (asks : Ask) (name : Name) (k : ℕ) → reads_variable asks ≡ true
+      → left_by (asked_call {M = M} asks name) Nothing k ≡ None
   empty_leaves ask.Get name k is = refl
   empty_leaves ask.GetPoll name k is = refl
   empty_leaves ask.Take name k is = refl

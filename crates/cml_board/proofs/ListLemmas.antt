@@ -1,5 +1,6 @@
 -- The element at a place, after a write and after a push.
-use Rattle.std.proofs.Common.{◌≡◌, ◌≢◌, ℕ, zero, suc, ◌⊎◌, inl, inr, List, [], ◌∷◌, ◌++◌, length, slice_get, slice_set, Some, Result, Ok, Err, OnOk, OnErr, true, false, refl, ap}
+use Rattle.std.proofs.Common.{◌≡◌, ◌≢◌, ℕ, zero, suc, ◌⊎◌, inl, inr, List, [], ◌∷◌, ◌++◌, length, slice_get, slice_set, Some}
+use Rattle.std.proofs.Common.{Result, Ok, Err, OnOk, OnErr, true, false, refl, ap}
 use Rattle.std.proofs.lemmas.Option.{same_Some, none-some}
 use Rattle.std.proofs.lemmas.Bool.{true≢false, false≢true}
 use Rattle.std.specs.Result.{is_err}
@@ -18,7 +19,8 @@ module _ {X : Type 0} where
   slice_get-set_other (x ∷ xs) (suc i) (suc j) y other = slice_get-set_other xs i j y (λ e. other (ap suc e))
 
   -- an item at a place after a push was there before it, or was pushed
-  pub pushed_cases : (xs : List X) (y z : X) (k : ℕ) → slice_get (xs ++ y ∷ []) k ≡ Some z → (slice_get xs k ≡ Some z) ⊎ ((k ≡ length xs) × (y ≡ z))
+  pub pushed_cases : (xs : List X) (y z : X) (k : ℕ) → slice_get (xs ++ y ∷ []) k ≡ Some z
+      → (slice_get xs k ≡ Some z) ⊎ ((k ≡ length xs) × (y ≡ z))
   pushed_cases [] y z zero found = inr (refl, same_Some y z found)
   pushed_cases [] y z (suc k) found = absurd (none-some z found)
   pushed_cases (x ∷ xs) y z zero found = inl found

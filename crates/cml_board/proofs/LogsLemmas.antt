@@ -1,5 +1,6 @@
 -- Lists of objects of which one log changes, and the logs and cursors in them.
-use Rattle.std.proofs.Common.{◌≡◌, ◌≢◌, ◌⊎◌, inl, inr, ℕ, zero, suc, List, [], ◌∷◌, ◌++◌, length, slice_get, slice_set, Option, Some, None, refl, sym, ap, subst, ◌∙◌, arith}
+use Rattle.std.proofs.Common.{◌≡◌, ◌≢◌, ◌⊎◌, inl, inr, ℕ, zero, suc, List, [], ◌∷◌, ◌++◌, length, slice_get, slice_set}
+use Rattle.std.proofs.Common.{Option, Some, None, refl, sym, ap, subst, ◌∙◌, arith}
 use Rattle.std.specs.Option.{option_map, option_and_then}
 use Rattle.std.proofs.lemmas.Bool.{cases_eq}
 use Rattle.std.proofs.lemmas.Option.{none-some, same_Some, some_pair_parts, slice_get_past}
@@ -34,7 +35,8 @@ module _ {M A : Type 0} where
   length-on_log f (object ∷ objects) (suc name) = ap suc (length-on_log f objects name)
 
   -- and each other object
-  pub get-on_log_other : (f : A → A) (objects : List (Object M A)) (name k : ℕ) → k ≢ name → slice_get (on_log f objects name) k ≡ slice_get objects k
+  pub get-on_log_other : (f : A → A) (objects : List (Object M A)) (name k : ℕ) → k ≢ name
+      → slice_get (on_log f objects name) k ≡ slice_get objects k
   get-on_log_other f [] name k other = refl
   get-on_log_other f (object ∷ objects) zero zero other = absurd (other refl)
   get-on_log_other f (object ∷ objects) zero (suc k) other = refl
@@ -48,7 +50,8 @@ module _ {M A : Type 0} where
   get-on_log_same f (object ∷ objects) (suc name) = get-on_log_same f objects name
 
   -- an object after the change is one from before it, its log changed if it is the one
-  pub get-on_log_from : (f : A → A) (objects : List (Object M A)) (name k : ℕ) (object : Object M A) → slice_get (on_log f objects name) k ≡ Some object
+  pub get-on_log_from : (f : A → A) (objects : List (Object M A)) (name k : ℕ) (object : Object M A)
+      → slice_get (on_log f objects name) k ≡ Some object
       → (old : Object M A) × (slice_get objects k ≡ Some old) × ((object ≡ old) ⊎ (object ≡ map_log f old))
   get-on_log_from f [] name k object found = absurd (none-some object found)
   get-on_log_from f (first ∷ objects) zero zero object found = (first, refl, inr (sym (same_Some _ _ found)))
@@ -57,7 +60,8 @@ module _ {M A : Type 0} where
   get-on_log_from f (first ∷ objects) (suc name) (suc k) object found = get-on_log_from f objects name k object found
 
   -- the other logs stay
-  pub log_at-on_log_other : (f : A → A) (objects : List (Object M A)) (name k : ℕ) → k ≢ name → log_at (on_log f objects name) k ≡ log_at objects k
+  pub log_at-on_log_other : (f : A → A) (objects : List (Object M A)) (name k : ℕ) → k ≢ name
+      → log_at (on_log f objects name) k ≡ log_at objects k
   log_at-on_log_other f objects name k other = ap (option_and_then log_in) (get-on_log_other f objects name k other)
 
   log_in-mapped : (f : A → A) (slot : Option (Object M A))
@@ -126,7 +130,8 @@ module _ {M A : Type 0} where
 
   pub cursor_at-set_same : (objects : List (Object M A)) (name : ℕ) (old object : Object M A) → slice_get objects name ≡ Some old
       → cursor_at (slice_set objects name object) name ≡ cursor_in name object
-  cursor_at-set_same objects name old object found = ap (option_and_then (cursor_in name)) (slice_get-set_same objects name old object found)
+  cursor_at-set_same objects name old object found =
+      ap (option_and_then (cursor_in name)) (slice_get-set_same objects name old object found)
 
   -- an object has one cursor at most
   pub same_source : (objects : List (Object M A)) (name some other one two : ℕ) → cursor_at objects name ≡ Some (some, one)

@@ -1,5 +1,6 @@
 -- What a look at a board finds.
-use Rattle.std.proofs.Common.{◌≡◌, ◌≢◌, ℕ, zero, suc, ◌+◌, ◌<◌, ◌≤◌, true, false, List, [], ◌∷◌, length, drop, slice_get, Some, None, refl, sym, ap, subst, ◌∙◌, arith}
+use Rattle.std.proofs.Common.{◌≡◌, ◌≢◌, ℕ, zero, suc, ◌+◌, ◌<◌, ◌≤◌, true, false, List, [], ◌∷◌, length, drop, slice_get}
+use Rattle.std.proofs.Common.{Some, None, refl, sym, ap, subst, ◌∙◌, arith}
 use Rattle.std.specs.Option.{option_map, option_map_or, option_and_then}
 use Rattle.std.proofs.lemmas.List.{drop-drop}
 use Rattle.std.proofs.lemmas.Option.{none-some, some_pair_parts, slice_get_past, same_Some}
@@ -46,7 +47,8 @@ module _ {M : Type 0} where
   reader_told facts name source key (Variable form held) agrees reads = absurd (none-some (source, key) reads)
   reader_told facts name source key (Port p) agrees reads = by_reading p.reading agrees.1 reads
     where
-      by_reading : (reading : Reading) → AgreesReading facts reading → option_map {U = ℕ × ℕ} (λ k. (p.channel.0, k)) (key_in reading) ≡ Some (source, key)
+      by_reading : (reading : Reading) → AgreesReading facts reading
+          → option_map {U = ℕ × ℕ} (λ k. (p.channel.0, k)) (key_in reading) ≡ Some (source, key)
           → IsReader facts name source
       by_reading (Open own) opened reads = record {
         receiver = ap (λ o. option_map_or is_receiver (option_map kind_by o) false) agrees.0;
@@ -79,7 +81,8 @@ module _ {M : Type 0} where
         opened = reader.opened;
         cursor = cursor.0;
         at = cursor.1;
-        owes = owed_told chunk board.history board.objects name source key cursor.0.stands.log keeps.shows reads cursor.0.stands.found reader.from;
+        owes = owed_told chunk board.history board.objects name source key cursor.0.stands.log keeps.shows reads
+            cursor.0.stands.found reader.from;
       }
 
   -- an object that was found
@@ -91,14 +94,16 @@ module _ {M : Type 0} where
       record {
         found = found;
         agrees = keeps.shows.each name object found;
-        next = λ log own. next_is chunk (length (made board.history)) (facts_of board.history) board.objects name log keeps.shows (at log own);
+        next =
+            λ log own. next_is chunk (length (made board.history)) (facts_of board.history) board.objects name log keeps.shows (at log own);
         first = λ log own. first_is_told chunk board.history board.objects name log keeps.shows (at log own);
         low = λ log own. omega arith;
         reads = λ source key own. reads_at chunk board name source key object keeps found own;
       }
 
   -- where none is found, none was made
-  pub none_made : (chunk : ℕ) (board : Shown M) (name : ℕ) → Keeps chunk board → slice_get board.objects name ≡ None → origin_of board.history name ≡ None
+  pub none_made : (chunk : ℕ) (board : Shown M) (name : ℕ) → Keeps chunk board → slice_get board.objects name ≡ None
+      → origin_of board.history name ≡ None
   none_made chunk board name keeps none =
       slice_get_past (made board.history) name (omega (arith, none_within board.objects name none, keeps.shows.all))
 
@@ -108,21 +113,35 @@ module _ {M : Type 0} where
   some_object (object ∷ objects) name log found = omega arith
 
   -- a log has room for a message more
-  pub has_room : (chunk : ℕ) (board : Shown M) (name : ℕ) → Keeps chunk board → HasRoom board → HasLog board.objects name → HasRoomAt board.objects name
+  pub has_room : (chunk : ℕ) (board : Shown M) (name : ℕ) → Keeps chunk board → HasRoom board
+      → HasLog board.objects name → HasRoomAt board.objects name
   has_room chunk board name keeps room stands =
       let next : next_of stands.log ≡ length (sent board.history name) =
       next_is chunk (length (made board.history)) (facts_of board.history) board.objects name stands.log keeps.shows stands.found in
-      record { stands = stands; room = omega (arith, next, sent_and_made board.history name, keeps.shows.all, some_object board.objects name stands.log stands.found, room, min-le_right (entries_in board.past + board.limit) 18446744073709551615) }
+      record {
+        stands = stands;
+        room = omega (
+          arith,
+          next,
+          sent_and_made board.history name,
+          keeps.shows.all,
+          some_object board.objects name stands.log stands.found,
+          room,
+          min-le_right (entries_in board.past + board.limit) 18446744073709551615,
+        );
+      }
 
   -- a reader that is owed something has a message to take
-  pub reads_owed : (board : Shown M) (name source key : ℕ) → ReadsAt board name source key → owed board.history name ≢ [] → HasOwed board.objects source key
+  pub reads_owed : (board : Shown M) (name source key : ℕ) → ReadsAt board name source key → owed board.history name ≢ []
+      → HasOwed board.objects source key
   reads_owed board name source key own some = record {
     cursor = own.cursor;
     owed = subst (λ xs. 0 < length xs) (sym own.owes) (some_length (owed board.history name) some);
   }
 
   -- the message at a cursor's place is the first that is owed
-  pub first_owed : (board : Shown M) (name source key : ℕ) (log : Log M) (message : M) → ReadsAt board name source key → log_at board.objects source ≡ Some log
+  pub first_owed : (board : Shown M) (name source key : ℕ) (log : Log M) (message : M) → ReadsAt board name source key
+      → log_at board.objects source ≡ Some log
       → slice_get (owed_items log key) 0 ≡ Some message → slice_get (owed board.history name) 0 ≡ Some message
   first_owed board name source key log message own found first =
       let same : log ≡ own.cursor.stands.log = same_Some _ _ (sym found ∙ own.cursor.stands.found) in

@@ -30,7 +30,8 @@ module _ {M : Type 0} where
       let own = keeps.shows.cursors name source key reads in
       let kept = kept_is chunk n f board.objects name source key own.0 keeps.shows reads own.1 in (
         record { key = key; log = own.0; reads = reads; found = own.1; kept = kept.0; within = kept.1 },
-        ap (λ xs. got board.history name ++ xs) (owed_told chunk board.history board.objects name source key own.0 keeps.shows reads own.1 from)
+        ap (λ xs. got board.history name ++ xs)
+            (owed_told chunk board.history board.objects name source key own.0 keeps.shows reads own.1 from)
             ∙ got_append_owed board.history name keeps.lawful,
       )
 

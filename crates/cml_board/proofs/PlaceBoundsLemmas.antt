@@ -1,5 +1,6 @@
 -- No object's place is behind the end of what it reads.
-use Rattle.std.proofs.Common.{◌≡◌, ℕ, zero, suc, ◌+◌, ◌-◌, ◌≤◌, inl, inr, List, [], ◌∷◌, length, drop, slice_get, Option, Some, refl, sym, ap, subst, ◌∙◌, arith}
+use Rattle.std.proofs.Common.{◌≡◌, ℕ, zero, suc, ◌+◌, ◌-◌, ◌≤◌, inl, inr, List, [], ◌∷◌, length, drop, slice_get, Option}
+use Rattle.std.proofs.Common.{Some, refl, sym, ap, subst, ◌∙◌, arith}
 use Rattle.std.proofs.lemmas.Bool.{cases_lt}
 use Rattle.std.proofs.lemmas.List.{length-append, length-drop}
 use Rattle.cml_board.specs.Prelude.{Call, Reply, Entry, Origin, mailbox, channel, port, ivar, mvar, source_by, start_by, copy_of, Lawful}
@@ -14,7 +15,8 @@ module _ {M : Type 0} where
   abbrev BeginsWithin : List (Entry M) → ℕ → Option Origin → Type 0
   BeginsWithin h o origin = start_by origin ≤ length (sent h (source_by o origin))
 
-  within_one : (h : List (Entry M)) (o j : ℕ) (origin : Origin) → BeginsWithin h o (Some origin) → BeginsWithin h o (slice_get (origin ∷ []) j)
+  within_one : (h : List (Entry M)) (o j : ℕ) (origin : Origin) → BeginsWithin h o (Some origin)
+      → BeginsWithin h o (slice_get (origin ∷ []) j)
   within_one h o zero origin within = within
   within_one h o (suc j) origin within = omega arith
 
@@ -29,7 +31,8 @@ module _ {M : Type 0} where
   made_within h o j (NewPort name) lawful others = within_one h o j (port name.0 (length (sent h name.0))) (omega arith)
   made_within h o j (CopyPort name) lawful others = copied (origin_of h name.0) refl
     where
-      copied : (origin : Option Origin) → origin_of h name.0 ≡ origin → BeginsWithin h o (slice_get (copy_of origin (length (got h name.0))) j)
+      copied : (origin : Option Origin) → origin_of h name.0 ≡ origin
+          → BeginsWithin h o (slice_get (copy_of origin (length (got h name.0))) j)
       copied (Some (port from start)) is = within_one h o j (port from (start + length (got h name.0))) (
           let begins = got_begins_due h name.0 lawful in
           let stream : length (due h name.0) ≡ length (sent h from) - start =
@@ -45,7 +48,8 @@ module _ {M : Type 0} where
   entry_within h o j call reply lawful others = omega arith
 
   -- what is sent later comes behind
-  within_later : (entry : Entry M) (before : List (Entry M)) (o : ℕ) (origin : Option Origin) → BeginsWithin before o origin → BeginsWithin (entry ∷ before) o origin
+  within_later : (entry : Entry M) (before : List (Entry M)) (o : ℕ) (origin : Option Origin) → BeginsWithin before o origin
+      → BeginsWithin (entry ∷ before) o origin
   within_later entry before o origin within =
       omega (arith, within, length-append (sent before (source_by o origin)) (sent_by entry.call (source_by o origin)))
 
@@ -66,7 +70,8 @@ module _ {M : Type 0} where
       ]
 
   -- so no object's place is behind the end
-  pub stands_within : (h : List (Entry M)) (o : ℕ) → Lawful h → start_by (origin_of h o) + length (got h o) ≤ length (sent h (source_by o (origin_of h o)))
+  pub stands_within : (h : List (Entry M)) (o : ℕ) → Lawful h
+      → start_by (origin_of h o) + length (got h o) ≤ length (sent h (source_by o (origin_of h o)))
   stands_within h o lawful =
       let origin = origin_of h o in
       let begins = got_begins_due h o lawful in

@@ -1,5 +1,6 @@
 -- A change of one object is a change of the list of all.
-use Rattle.std.proofs.Common.{◌≡◌, ℕ, zero, suc, ◌-◌, ◌<◌, List, [], ◌∷◌, ◌++◌, length, get_or, slice_get, slice_set, Option, Some, sym, ap, ◌∙◌, arith}
+use Rattle.std.proofs.Common.{◌≡◌, ℕ, zero, suc, ◌-◌, ◌<◌, List, [], ◌∷◌, ◌++◌, length, get_or, slice_get, slice_set}
+use Rattle.std.proofs.Common.{Option, Some, sym, ap, ◌∙◌, arith}
 use Rattle.std.specs.Option.{option_and_then}
 use Rattle.std.proofs.lemmas.List.{length-map, map-append, map-set}
 use Rattle.std.proofs.lemmas.Option.{same_Some, none-some, slice_get_within}
@@ -36,12 +37,14 @@ module _ {M A B : Type 0} where
       → log_at (seen_all log xs) i ≡ log_in (map_log log x)
   log_read log xs i x within read = ap (option_and_then log_in) (seen_read log xs i x within read)
 
-  pub seen_pushed : (log : A → B) (xs ys : List (Object M A)) (x : Object M A) → ys ≡ xs ++ x ∷ [] → seen_all log ys ≡ seen_all log xs ++ map_log log x ∷ []
+  pub seen_pushed : (log : A → B) (xs ys : List (Object M A)) (x : Object M A) → ys ≡ xs ++ x ∷ []
+      → seen_all log ys ≡ seen_all log xs ++ map_log log x ∷ []
   seen_pushed log xs ys x pushed = ap (seen_all log) pushed ∙ map-append (map_log log) xs (x ∷ [])
 
 module _ {A M : Type 0} where
   -- one more cursor in an object's log is one more in the list
-  pub opens_at : (log : A → Log M) (xs : List (Object M A)) (i : ℕ) (x y : Object M A) (key : ℕ) (from : Log M → ℕ) → i < length xs → x ≡ get_or xs i x
+  pub opens_at : (log : A → Log M) (xs : List (Object M A)) (i : ℕ) (x y : Object M A) (key : ℕ) (from : Log M → ℕ)
+      → i < length xs → x ≡ get_or xs i x
       → OpensIn (map_log log x) (map_log log y) key from → OpensAt (seen_all log xs) (seen_all log (slice_set xs i y)) i key from
   opens_at log xs i x y key from within read opens = record {
     stands = record { log = opens.was; found = log_read log xs i x within read ∙ opens.found };
@@ -51,8 +54,10 @@ module _ {A M : Type 0} where
   }
 
   -- a port was added behind it
-  pub adds_port : (log : A → Log M) (xs ys : List (Object M A)) (source : Name) (x y : Object M A) (key start : ℕ) (from : Log M → ℕ) (was : Log M)
-      → source.0 < length xs → x ≡ get_or xs source.0 x → OpensIn (map_log log x) (map_log log y) key from → log_in (map_log log x) ≡ Some was → start ≡ from was
+  pub adds_port : (log : A → Log M) (xs ys : List (Object M A)) (source : Name) (x y : Object M A)
+      (key start : ℕ) (from : Log M → ℕ) (was : Log M)
+      → source.0 < length xs → x ≡ get_or xs source.0 x → OpensIn (map_log log x) (map_log log y) key from
+      → log_in (map_log log x) ≡ Some was → start ≡ from was
       → ys ≡ slice_set xs source.0 y ++ Port (record { channel = source; start = start; reading = Open key }) ∷ []
       → AddsPort (seen_all log xs) (seen_all log ys) source.0 from
   unfolding opens_at
@@ -69,11 +74,13 @@ module _ {A M : Type 0} where
       }
 
   -- a port was closed
-  pub closes_port : (chunk : ℕ) (log : A → Log M) (xs : List (Object M A)) (name source : Name) (x y : Object M A) (start key place : ℕ) (was : Log M)
+  pub closes_port : (chunk : ℕ) (log : A → Log M) (xs : List (Object M A)) (name source : Name) (x y : Object M A)
+      (start key place : ℕ) (was : Log M)
       → source.0 < length xs → x ≡ get_or xs source.0 x → log_in (map_log log x) ≡ Some was → place ≡ place_of was key
       → map_log log y ≡ map_log (shut chunk key) (map_log log x)
       → ClosesPort chunk (seen_all log xs)
-      (seen_all log (slice_set (slice_set xs source.0 y) name.0 (Port (record { channel = source; start = start; reading = Closed (place - start) }))))
+      (seen_all log
+      (slice_set (slice_set xs source.0 y) name.0 (Port (record { channel = source; start = start; reading = Closed (place - start) }))))
       name.0 source.0 start key
   closes_port chunk log xs name source x y start key place was within read found at changed =
       let shut_log = slice_set xs source.0 y in
@@ -82,12 +89,14 @@ module _ {A M : Type 0} where
         found = log_read log xs source.0 x within read ∙ found;
         changed =
             map-set (map_log log) shut_log name.0 (Port (record { channel = source; start = start; reading = Closed (place - start) }))
-            ∙ ap (λ os. slice_set os name.0 (closed_port source.0 start (place - start))) (seen_set log (shut chunk key) xs source.0 x y within read changed)
+            ∙ ap (λ os. slice_set os name.0 (closed_port source.0 start (place - start)))
+            (seen_set log (shut chunk key) xs source.0 x y within read changed)
             ∙ ap (λ p. slice_set (on_log (shut chunk key) (seen_all log xs) source.0) name.0 (closed_port source.0 start (p - start))) at;
       }
 
   -- a variable was given another value
-  pub sets_held : (log : A → Log M) (xs : List (Object M A)) (i : ℕ) (x y : Object M A) (was value : Option M) → i < length xs → x ≡ get_or xs i x
+  pub sets_held : (log : A → Log M) (xs : List (Object M A)) (i : ℕ) (x y : Object M A) (was value : Option M)
+      → i < length xs → x ≡ get_or xs i x
       → held_in x ≡ Some was → y ≡ with_held value x → SetsHeld (seen_all log xs) (seen_all log (slice_set xs i y)) i was value
   sets_held log xs i x y was value within read holds changed = by_object x y read holds changed
     where

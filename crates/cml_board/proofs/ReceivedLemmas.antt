@@ -1,5 +1,6 @@
 -- In a lawful history what was received is how what is due begins.
-use Rattle.std.proofs.Common.{◌≡◌, ℕ, zero, suc, ◌<◌, ◌≤◌, inl, inr, Bool, true, false, cond, eqb, List, [], ◌∷◌, ◌++◌, length, drop, slice_get, Option, Some, None, unwrap_or, refl, sym, ap, subst, ◌∙◌, arith}
+use Rattle.std.proofs.Common.{◌≡◌, ℕ, zero, suc, ◌<◌, ◌≤◌, inl, inr, Bool, true, false, cond, eqb, List, [], ◌∷◌, ◌++◌, length, drop}
+use Rattle.std.proofs.Common.{slice_get, Option, Some, None, unwrap_or, refl, sym, ap, subst, ◌∙◌, arith}
 use Rattle.std.proofs.lemmas.Bool.{eqb-true, cases_lt}
 use Rattle.std.proofs.lemmas.List.{append-nil, append_assoc, drop_at}
 use Rattle.std.proofs.lemmas.Option.{same_Some, none-some}
@@ -48,7 +49,8 @@ module _ {M : Type 0} where
           subst (λ r. Begins (front ++ message_in r) whole) gives (xs, append_assoc front (x ∷ []) xs ∙ is)
 
   -- and so is that of a poll's, if there is one
-  begins_polled : (front whole : List M) (reply : Reply M) → Begins front whole → unwrap_or (received (drop (length front) whole)) Nothing ≡ reply
+  begins_polled : (front whole : List M) (reply : Reply M) → Begins front whole
+      → unwrap_or (received (drop (length front) whole)) Nothing ≡ reply
       → Begins (front ++ message_in reply) whole
   begins_polled front whole reply begins is = by_first (received (drop (length front) whole)) refl is
     where
@@ -90,7 +92,8 @@ module _ {M : Type 0} where
   begins_answered before call reply o answered begins = begins_nil (got before o) (due before o) begins
 
   -- what is due to an object that was made only grows
-  due_grows : (entry : Entry M) (before : List (Entry M)) (o : ℕ) → o < length (made before) → Begins (due before o) (due (entry ∷ before) o)
+  due_grows : (entry : Entry M) (before : List (Entry M)) (o : ℕ) → o < length (made before)
+      → Begins (due before o) (due (entry ∷ before) o)
   due_grows entry before o was =
       let same : origin_of (entry ∷ before) o ≡ origin_of before o =
       slice_get-append_within (made before) (if_made entry.reply (begun_by (made before) before entry.call)) o was in

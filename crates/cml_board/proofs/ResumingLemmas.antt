@@ -1,5 +1,6 @@
 -- What a base and the entries since tell of the objects is what the whole history tells.
-use Rattle.std.proofs.Common.{◌≡◌, ℕ, zero, suc, ◌+◌, ◌<◌, inl, inr, true, List, [], ◌∷◌, ◌++◌, length, slice_get, Option, Some, is_some, unwrap_or, refl, sym, ap, ◌∙◌, arith}
+use Rattle.std.proofs.Common.{◌≡◌, ℕ, zero, suc, ◌+◌, ◌<◌, inl, inr, true, List, [], ◌∷◌, ◌++◌, length, slice_get, Option}
+use Rattle.std.proofs.Common.{Some, is_some, unwrap_or, refl, sym, ap, ◌∙◌, arith}
 use Rattle.std.proofs.lemmas.Bool.{cases_lt, cond-true, cond-false}
 use Rattle.std.proofs.lemmas.Option.{slice_get_past}
 use Rattle.cml_board.specs.Prelude.{Call, Entry, Origin, port, start_by, copy_of, left_by, held, Lawful, made, if_made, begun_by, origin_of}
@@ -22,7 +23,8 @@ copy_at_place origin received = refl
 
 module _ {M : Type 0} where
   -- how many messages were sent to an object, whether it is open, and what it holds
-  pub count_told : (chunk : ℕ) (past since : List (Entry M)) (o : ℕ) → count_since (base_of chunk past) since o ≡ length (sent (since ++ past) o)
+  pub count_told : (chunk : ℕ) (past since : List (Entry M)) (o : ℕ)
+      → count_since (base_of chunk past) since o ≡ length (sent (since ++ past) o)
   count_told chunk past since o = sym (length-sent_split past since o)
 
   pub open_told : (chunk : ℕ) (past since : List (Entry M)) (o : ℕ) → open_since (base_of chunk past) since o ≡ is_open (since ++ past) o
@@ -41,7 +43,8 @@ module _ {M : Type 0} where
         ∙ ap (λ origin. start_by origin + length (got past o)) (sym (origin_split past since o was))
     | inr new ↦
         let none : length (got past o) ≡ 0 = ap length (unmade_got past o (lawful_past past since lawful) new) in
-        cond-false (is_some (origin_of past o)) (place past o) (start_by (origin_of (since ++ past) o)) (ap is_some (slice_get_past (made past) o new))
+        cond-false (is_some (origin_of past o)) (place past o) (start_by (origin_of (since ++ past) o))
+        (ap is_some (slice_get_past (made past) o new))
         ∙ omega (arith, none)
   ]
 
@@ -60,10 +63,12 @@ module _ {M : Type 0} where
   begun_told chunk past since call lawful = refl
 
   -- so they give the objects, in order
-  pub made_told : (chunk : ℕ) (past since : List (Entry M)) → Lawful (since ++ past) → made_since (base_of chunk past) since ≡ made (since ++ past)
+  pub made_told : (chunk : ℕ) (past since : List (Entry M)) → Lawful (since ++ past)
+      → made_since (base_of chunk past) since ≡ made (since ++ past)
   made_told chunk past [] lawful = refl
   made_told chunk past (entry ∷ before) lawful =
-      ap (λ origins. origins ++ if_made entry.reply (begun_since (base_of chunk past) origins before entry.call)) (made_told chunk past before lawful.2)
+      ap (λ origins. origins ++ if_made entry.reply (begun_since (base_of chunk past) origins before entry.call))
+      (made_told chunk past before lawful.2)
       ∙ ap (λ begun. made (before ++ past) ++ if_made entry.reply begun) (begun_told chunk past before entry.call lawful.2)
 
   pub origin_told : (chunk : ℕ) (past since : List (Entry M)) (o : ℕ) → Lawful (since ++ past)
@@ -74,4 +79,5 @@ module _ {M : Type 0} where
   pub place_told : (chunk : ℕ) (past since : List (Entry M)) (o : ℕ) → Lawful (since ++ past)
       → place_since (base_of chunk past) since o ≡ place (since ++ past) o
   place_told chunk past since o lawful =
-      ap (λ origin. place_from (base_of chunk past) origin since o) (origin_told chunk past since o lawful) ∙ place_from_told chunk past since o lawful
+      ap (λ origin. place_from (base_of chunk past) origin since o) (origin_told chunk past since o lawful)
+      ∙ place_from_told chunk past since o lawful

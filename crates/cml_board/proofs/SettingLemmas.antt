@@ -1,5 +1,6 @@
 -- The objects that a call on a variable leaves show the history with its entry.
-use Rattle.std.proofs.Common.{◌≡◌, ◌≢◌, inl, inr, ℕ, ◌+◌, List, [], ◌∷◌, ◌++◌, length, slice_get, slice_set, Option, Some, None, sym, ap, subst, ◌∙◌}
+use Rattle.std.proofs.Common.{◌≡◌, ◌≢◌, inl, inr, ℕ, ◌+◌, List, [], ◌∷◌, ◌++◌, length, slice_get, slice_set, Option}
+use Rattle.std.proofs.Common.{Some, None, sym, ap, subst, ◌∙◌}
 use Rattle.std.specs.Option.{option_and_then}
 use Rattle.std.proofs.lemmas.Bool.{cases_eq}
 use Rattle.std.proofs.lemmas.List.{length_push, length-set}
@@ -13,7 +14,8 @@ use Rattle.cml_board.specs.declared.object.Form.TheVariants.{Mutable}
 use Rattle.cml_board.specs.declared.object.Object.TheVariants.{Variable}
 use Rattle.cml_board.specs.Keeps.{Shows}
 use Rattle.cml_board.proofs.ListLemmas.{slice_get-set_same, slice_get-set_other}
-use Rattle.cml_board.proofs.LogsLemmas.{log_at-set_other, log_at-set_same, cursor_at-set_other, cursor_at-set_same, log_at-pushed, log_at-pushed_other, cursor_at-pushed, cursor_at-pushed_other}
+use Rattle.cml_board.proofs.LogsLemmas.{log_at-set_other, log_at-set_same, cursor_at-set_other, cursor_at-set_same, log_at-pushed}
+use Rattle.cml_board.proofs.LogsLemmas.{log_at-pushed_other, cursor_at-pushed, cursor_at-pushed_other}
 use Rattle.cml_board.proofs.AgreeingLemmas.{told, Agrees_pushed}
 use Rattle.cml_board.proofs.ChangingLemmas.{same_apart, no_log, no_cursor}
 use Rattle.cml_board.proofs.ShowingLemmas.{shows_same}
@@ -31,7 +33,8 @@ module _ {M : Type 0} where
     pub places : (k source key : ℕ) → cursor_at objects k ≡ Some (source, key) → place_by (g k) ≡ place_by (f k)
 
   -- it is enough, where the objects agree with those facts
-  shows_still : (chunk n m : ℕ) (f g : ℕ → Facts M) (objects after : List (Object M (Log M))) → Shows chunk n f objects → Still f g objects after → length after ≡ m
+  shows_still : (chunk n m : ℕ) (f g : ℕ → Facts M) (objects after : List (Object M (Log M))) → Shows chunk n f objects
+      → Still f g objects after → length after ≡ m
       → ((k : ℕ) (object : Object M (Log M)) → slice_get after k ≡ Some object → Agrees (g k) object) → Shows chunk m g after
   shows_still chunk n m f g objects after shows still all each = record {
     all = all;
@@ -50,8 +53,10 @@ module _ {M : Type 0} where
   }
 
   -- a variable is given another value
-  shows_set : (chunk n : ℕ) (f g : ℕ → Facts M) (objects after : List (Object M (Log M))) (name : ℕ) (was value : Option M) → Shows chunk n f objects
-      → SetsHeld objects after name was value → g name ≡ record (f name) { held = value } → ((k : ℕ) → k ≢ name → g k ≡ f k) → Shows chunk n g after
+  shows_set : (chunk n : ℕ) (f g : ℕ → Facts M) (objects after : List (Object M (Log M))) (name : ℕ) (was value : Option M)
+      → Shows chunk n f objects
+      → SetsHeld objects after name was value → g name ≡ record (f name) { held = value }
+      → ((k : ℕ) → k ≢ name → g k ≡ f k) → Shows chunk n g after
   shows_set chunk n f g objects after name was value shows sets here others =
       let old : Object M (Log M) = Variable sets.form was in
       let new : Object M (Log M) = Variable sets.form value in
@@ -77,16 +82,19 @@ module _ {M : Type 0} where
       (length-set objects name new ∙ shows.all)
       (λ k object at. elim (cases_eq k name) [
         | inl same ↦
-            let is : new ≡ object = same_Some new object (sym (slice_get-set_same objects name old new sets.found) ∙ ap (slice_get changed) (sym same) ∙ at) in
+            let is : new ≡ object =
+            same_Some new object (sym (slice_get-set_same objects name old new sets.found) ∙ ap (slice_get changed) (sym same) ∙ at) in
             let begun : (g name).origin ≡ Some (begun_as sets.form) = ap (λ x. x.origin) here ∙ (shows.each name old sets.found).0 in
             let agrees : Agrees (g name) new = (begun, ap (λ x. x.held) here) in
             subst (λ j. Agrees (g j) object) (sym same) (subst (Agrees (g name)) is agrees)
         | inr other ↦
-            subst (λ facts. Agrees facts object) (sym (others k other)) (shows.each k object (sym (slice_get-set_other objects name k new other) ∙ at))
+            subst (λ facts. Agrees facts object) (sym (others k other))
+            (shows.each k object (sym (slice_get-set_other objects name k new other) ∙ at))
       ]))
 
   -- a variable is made
-  shows_variable : (chunk n : ℕ) (f g : ℕ → Facts M) (objects : List (Object M (Log M))) (form : Form) (value : Option M) → Shows chunk n f objects
+  shows_variable : (chunk n : ℕ) (f g : ℕ → Facts M) (objects : List (Object M (Log M))) (form : Form) (value : Option M)
+      → Shows chunk n f objects
       → g n ≡ new_facts (begun_as form) value → ((k : ℕ) → k ≢ n → g k ≡ f k) → Shows chunk (n + 1) g (objects ++ Variable form value ∷ [])
   shows_variable chunk n f g objects form value shows told same =
       let made : Object M (Log M) = Variable form value in
@@ -107,7 +115,8 @@ module _ {M : Type 0} where
           | inr other ↦ cursor_at-pushed_other objects made k (past k other)
         ];
         sends = λ k log found.
-            ap (λ x. x.sent) (same k (λ here. none-some log (sym (no_log chunk n f objects shows) ∙ ap (log_at objects) (sym here) ∙ found)));
+            ap (λ x. x.sent)
+            (same k (λ here. none-some log (sym (no_log chunk n f objects shows) ∙ ap (log_at objects) (sym here) ∙ found)));
         places = λ k source key at.
             ap (λ x. place_by x)
             (same k (λ here. none-some (source, key) (sym (no_cursor chunk n f objects shows) ∙ ap (cursor_at objects) (sym here) ∙ at)));
@@ -116,8 +125,10 @@ module _ {M : Type 0} where
       (Agrees_pushed n f g objects made shows.all (ap (λ x. x.origin) told, ap (λ x. x.held) told) same shows.each)
 
   -- a variable was filled, emptied or swapped
-  pub step_set : (chunk : ℕ) (who : Who) (asked : Call M) (reply : Reply M) (name : Name) (was value : Option M) (h : List (Entry M)) (objects after : List (Object M (Log M)))
-      → Sets asked reply name value → ShowsAll chunk h objects → SetsHeld objects after name.0 was value → ShowsAll chunk (noted who asked reply ∷ h) after
+  pub step_set : (chunk : ℕ) (who : Who) (asked : Call M) (reply : Reply M) (name : Name) (was value : Option M) (h : List (Entry M))
+      (objects after : List (Object M (Log M)))
+      → Sets asked reply name value → ShowsAll chunk h objects → SetsHeld objects after name.0 was value
+      → ShowsAll chunk (noted who asked reply ∷ h) after
   step_set chunk who asked reply name was value h objects after tells shows sets =
       let later : List (Entry M) = noted who asked reply ∷ h in
       shows_count chunk (length (made h)) (length (made later)) (facts_of later) after (spared_made h who asked reply tells.spares)
@@ -126,14 +137,18 @@ module _ {M : Type 0} where
 
   -- a call changed nothing
   pub step_spared : (chunk : ℕ) (who : Who) (asked : Call M) (reply : Reply M) (h : List (Entry M)) (objects : List (Object M (Log M)))
-      → Spares asked reply → ((k : ℕ) → left_by asked reply k ≡ None) → ShowsAll chunk h objects → ShowsAll chunk (noted who asked reply ∷ h) objects
+      → Spares asked reply → ((k : ℕ) → left_by asked reply k ≡ None) → ShowsAll chunk h objects
+      → ShowsAll chunk (noted who asked reply ∷ h) objects
   step_spared chunk who asked reply h objects spares leaves shows =
       let later : List (Entry M) = noted who asked reply ∷ h in
       shows_count chunk (length (made h)) (length (made later)) (facts_of later) objects (spared_made h who asked reply spares)
-      (shows_same chunk (length (made h)) (facts_of h) (facts_of later) objects shows (λ k. spared_same h who asked reply k spares (leaves k)))
+      (shows_same chunk (length (made h)) (facts_of h) (facts_of later) objects shows
+      (λ k. spared_same h who asked reply k spares (leaves k)))
 
-  step_made : (chunk : ℕ) (who : Who) (asked : Call M) (n : Name) (form : Form) (value : Option M) (h : List (Entry M)) (objects : List (Object M (Log M)))
-      → Makes h asked n (begun_as form) value → Lawful h → ShowsAll chunk h objects → ShowsAll chunk (noted who asked (Made n) ∷ h) (objects ++ Variable form value ∷ [])
+  step_made : (chunk : ℕ) (who : Who) (asked : Call M) (n : Name) (form : Form) (value : Option M) (h : List (Entry M))
+      (objects : List (Object M (Log M)))
+      → Makes h asked n (begun_as form) value → Lawful h → ShowsAll chunk h objects
+      → ShowsAll chunk (noted who asked (Made n) ∷ h) (objects ++ Variable form value ∷ [])
   step_made chunk who asked n form value h objects makes lawful shows =
       let later : List (Entry M) = noted who asked (Made n) ∷ h in
       shows_count chunk (length (made h) + 1) (length (made later)) (facts_of later) (objects ++ Variable form value ∷ [])
@@ -143,12 +158,15 @@ module _ {M : Type 0} where
 
   -- an empty variable was made
   pub step_variable : (chunk : ℕ) (who : Who) (form : Form) (n : Name) (h : List (Entry M)) (objects : List (Object M (Log M)))
-      → Lawful h → ShowsAll chunk h objects → ShowsAll chunk (noted who (variable_call form) (Made n) ∷ h) (objects ++ Variable form None ∷ [])
+      → Lawful h → ShowsAll chunk h objects
+      → ShowsAll chunk (noted who (variable_call form) (Made n) ∷ h) (objects ++ Variable form None ∷ [])
   step_variable chunk who form n h objects lawful shows =
       step_made chunk who (variable_call form) n form None h objects (variable_makes h form n) lawful shows
 
   -- an m-variable was made that holds something
-  pub step_full : (chunk : ℕ) (who : Who) (message : M) (n : Name) (h : List (Entry M)) (objects : List (Object M (Log M))) → n.0 ≡ length objects
-      → Lawful h → ShowsAll chunk h objects → ShowsAll chunk (noted who (MVarInit message) (Made n) ∷ h) (objects ++ Variable Mutable (Some message) ∷ [])
+  pub step_full : (chunk : ℕ) (who : Who) (message : M) (n : Name) (h : List (Entry M)) (objects : List (Object M (Log M)))
+      → n.0 ≡ length objects
+      → Lawful h → ShowsAll chunk h objects
+      → ShowsAll chunk (noted who (MVarInit message) (Made n) ∷ h) (objects ++ Variable Mutable (Some message) ∷ [])
   step_full chunk who message n h objects next lawful shows =
       step_made chunk who (MVarInit message) n Mutable (Some message) h objects (full_makes h message n (next ∙ shows.all)) lawful shows

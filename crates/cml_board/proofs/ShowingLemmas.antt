@@ -1,5 +1,6 @@
 -- A board's objects go on showing what its history tells, through each change of a call.
-use Rattle.std.proofs.Common.{◌≡◌, ◌≢◌, inl, inr, ℕ, ◌+◌, false, List, [], ◌∷◌, ◌++◌, length, slice_get, slice_set, Some, None, refl, sym, ap, subst, ◌∙◌, arith}
+use Rattle.std.proofs.Common.{◌≡◌, ◌≢◌, inl, inr, ℕ, ◌+◌, false, List, [], ◌∷◌, ◌++◌, length, slice_get, slice_set, Some}
+use Rattle.std.proofs.Common.{None, refl, sym, ap, subst, ◌∙◌, arith}
 use Rattle.std.specs.Option.{option_and_then}
 use Rattle.std.proofs.lemmas.Bool.{cases_eq}
 use Rattle.std.proofs.lemmas.List.{length_push, length-set}
@@ -13,9 +14,12 @@ use Rattle.cml_board.specs.declared.object.Object.TheVariants.{Mailbox, Channel,
 use Rattle.cml_board.specs.declared.object.Reading.TheVariants.{Open, Closed}
 use Rattle.cml_board.specs.Keeps.{Shows}
 use Rattle.cml_board.proofs.ListLemmas.{slice_get-set_same, slice_get-set_other}
-use Rattle.cml_board.proofs.LogsLemmas.{same_source, length-on_log, get-on_log_other, log_at-on_log_other, log_at-on_log_same, cursor_at-on_log, log_at-pushed_other, cursor_at-pushed_other, log_at-pushed, cursor_at-pushed, log_at-set_other, log_at-set_same, cursor_at-set_other, cursor_at-set_same}
+use Rattle.cml_board.proofs.LogsLemmas.{same_source, length-on_log, get-on_log_other, log_at-on_log_other, log_at-on_log_same}
+use Rattle.cml_board.proofs.LogsLemmas.{cursor_at-on_log, log_at-pushed_other, cursor_at-pushed_other, log_at-pushed, cursor_at-pushed}
+use Rattle.cml_board.proofs.LogsLemmas.{log_at-set_other, log_at-set_same, cursor_at-set_other, cursor_at-set_same}
 use Rattle.cml_board.proofs.AgreeingLemmas.{Agrees-on_log, Agrees-sent, Agrees-got, told, Agrees_told, Agrees_pushed}
-use Rattle.cml_board.proofs.ChangingLemmas.{cursor_place, shows_changed, same_apart, advanced_place, no_log, no_cursor, no_reader, Joins, Joins-changes, Leaves, Leaves-changes}
+use Rattle.cml_board.proofs.ChangingLemmas.{cursor_place, shows_changed, same_apart, advanced_place, no_log, no_cursor, no_reader}
+use Rattle.cml_board.proofs.ChangingLemmas.{Joins, Joins-changes, Leaves, Leaves-changes}
 
 module _ {M : Type 0} where
   -- equal facts are shown alike
@@ -49,7 +53,8 @@ module _ {M : Type 0} where
         others = log_at-on_log_other change objects name;
         other_sent = λ k log other found. ap (λ x. x.sent) (others k other);
         placed = λ k key own.
-            cursor_place chunk n f objects k name key stands.log shows (sym (reads k) ∙ own) stands.found ∙ ap (λ p. Some p) (sym (places k));
+            cursor_place chunk n f objects k name key stands.log shows (sym (reads k) ∙ own) stands.found
+            ∙ ap (λ p. Some p) (sym (places k));
         other_placed = λ k from key other own. (sym (reads k) ∙ own, places k);
         owned = λ key at placed.
             let own = shows.owners name stands.log key at stands.found placed in
@@ -60,7 +65,8 @@ module _ {M : Type 0} where
       (length-on_log change objects name ∙ shows.all)
       (Agrees-on_log g change objects name
       (Agrees_told f g name objects
-      (λ object found agrees. subst (λ facts. Agrees facts object) (sym more) (Agrees-sent (f name) ((f name).sent ++ message ∷ []) object agrees))
+      (λ object found agrees. subst (λ facts. Agrees facts object) (sym more)
+      (Agrees-sent (f name) ((f name).sent ++ message ∷ []) object agrees))
       others shows.each))
 
   -- a message is received
@@ -93,7 +99,8 @@ module _ {M : Type 0} where
         owned = λ own at stands. elim (cases_eq own key) [
           | inl same ↦ (name, reads name ∙ reader ∙ ap (λ (j : ℕ). Some (source, j)) (sym same))
           | inr differs ↦
-              let before : place_at log own ≡ Some at = sym (place_at-with_place_other log key own (Some (place_of log key + 1)) differs) ∙ stands in
+              let before : place_at log own ≡ Some at =
+              sym (place_at-with_place_other log key own (Some (place_of log key + 1)) differs) ∙ stands in
               let owner = shows.owners source log own at found before in
               (owner.0, reads owner.0 ∙ owner.1)
         ];
@@ -104,7 +111,8 @@ module _ {M : Type 0} where
       (Agrees-on_log g change objects source
       (Agrees_told f g name objects
       (λ object at agrees. subst (λ facts. Agrees facts object) (sym more)
-      (Agrees-got (f name) ((f name).got ++ message ∷ []) name source key object (sym (ap (option_and_then (cursor_in name)) at) ∙ reader) agrees))
+      (Agrees-got (f name) ((f name).got ++ message ∷ []) name source key object
+      (sym (ap (option_and_then (cursor_in name)) at) ∙ reader) agrees))
       others shows.each))
 
   -- a mailbox is made
@@ -117,7 +125,8 @@ module _ {M : Type 0} where
       let past : (k : ℕ) → k ≢ n → k ≢ length objects = λ k other here. other (here ∙ shows.all) in
       let joins : Joins chunk n f g objects after n key log = record {
         stands = subst (λ j. log_at after j ≡ Some log) shows.all (log_at-pushed objects (Mailbox log key));
-        holds = subst (λ s. Holds chunk log s) (sym (ap (λ x. x.sent) told)) (Holds-open_cursor chunk empty_log log [] key (Holds-empty chunk) opens);
+        holds = subst (λ s. Holds chunk log s) (sym (ap (λ x. x.sent) told))
+            (Holds-open_cursor chunk empty_log log [] key (Holds-empty chunk) opens);
         others = λ k other. log_at-pushed_other objects (Mailbox log key) k (past k other);
         reads = subst (λ j. cursor_at after j ≡ Some (j, key)) shows.all (cursor_at-pushed objects (Mailbox log key));
         other_reads = λ k other. cursor_at-pushed_other objects (Mailbox log key) k (past k other);
@@ -138,7 +147,8 @@ module _ {M : Type 0} where
   shows_channel chunk n f g objects shows told same =
       let after : List (Object M (Log M)) = objects ++ Channel empty_log ∷ [] in
       let past : (k : ℕ) → k ≢ n → k ≢ length objects = λ k other here. other (here ∙ shows.all) in
-      let none : cursor_at after n ≡ None = subst (λ j. cursor_at after j ≡ None) shows.all (cursor_at-pushed objects (Channel empty_log)) in
+      let none : cursor_at after n ≡ None =
+      subst (λ j. cursor_at after j ≡ None) shows.all (cursor_at-pushed objects (Channel empty_log)) in
       let reads : (k : ℕ) → cursor_at after k ≡ cursor_at objects k = λ k. elim (cases_eq k n) [
         | inl here ↦ ap (cursor_at after) here ∙ none ∙ sym (ap (cursor_at objects) here ∙ no_cursor chunk n f objects shows)
         | inr other ↦ cursor_at-pushed_other objects (Channel empty_log) k (past k other)
@@ -152,7 +162,8 @@ module _ {M : Type 0} where
         placed = λ k key at. absurd (no_reader chunk n f objects k key shows (sym (reads k) ∙ at));
         other_placed = λ k from key other at.
             let before : cursor_at objects k ≡ Some (from, key) = sym (reads k) ∙ at in
-            let old : k ≢ n = λ here. none-some (from, key) (sym (no_cursor chunk n f objects shows) ∙ ap (cursor_at objects) (sym here) ∙ before) in
+            let old : k ≢ n =
+            λ here. none-some (from, key) (sym (no_cursor chunk n f objects shows) ∙ ap (cursor_at objects) (sym here) ∙ before) in
             (before, ap (λ x. place_by x) (same k old));
         owned = λ key at stands. absurd (none-some at stands);
         other_owned = λ k from key other at. reads k ∙ at;
@@ -163,7 +174,8 @@ module _ {M : Type 0} where
 
   -- a port is made, whose cursor was opened in a log
   pub shows_port : (chunk n : ℕ) (f g : ℕ → Facts M) (objects after : List (Object M (Log M))) (source key start : ℕ) (from : Log M → ℕ)
-      → Shows chunk n f objects → (opens : OpensAt objects after source key from) → start ≡ from opens.stands.log → Holds chunk opens.log (f source).sent
+      → Shows chunk n f objects → (opens : OpensAt objects after source key from) → start ≡ from opens.stands.log
+      → Holds chunk opens.log (f source).sent
       → g n ≡ new_facts (port source start) None → ((k : ℕ) → k ≢ n → g k ≡ f k)
       → Shows chunk (n + 1) g (after ++ Port (record { channel = record { 0 = source }; start = start; reading = Open key }) ∷ [])
   shows_port chunk n f g objects after source key start from shows opens starts holds told same =
@@ -174,9 +186,11 @@ module _ {M : Type 0} where
       let last : List (Object M (Log M)) = changed ++ made ∷ [] in
       let all : length changed ≡ n = length-on_log change objects source ∙ shows.all in
       let past : (k : ℕ) → k ≢ n → k ≢ length changed = λ k other here. other (here ∙ all) in
-      let earlier : source ≢ n = λ here. none-some old (sym (no_log chunk n f objects shows) ∙ ap (log_at objects) (sym here) ∙ opens.stands.found) in
+      let earlier : source ≢ n =
+      λ here. none-some old (sym (no_log chunk n f objects shows) ∙ ap (log_at objects) (sym here) ∙ opens.stands.found) in
       let joins : Joins chunk n f g objects last source key opens.log = record {
-        stands = log_at-pushed_other changed made source (past source earlier) ∙ log_at-on_log_same change objects source old opens.stands.found;
+        stands = log_at-pushed_other changed made source (past source earlier)
+            ∙ log_at-on_log_same change objects source old opens.stands.found;
         holds = subst (λ s. Holds chunk opens.log s) (sym (ap (λ x. x.sent) (same source earlier))) holds;
         others = λ k other. elim (cases_eq k n) [
           | inl here ↦
@@ -186,22 +200,28 @@ module _ {M : Type 0} where
         ];
         reads = subst (λ j. cursor_at last j ≡ Some (source, key)) all (cursor_at-pushed changed made);
         other_reads = λ k other. cursor_at-pushed_other changed made k (past k other) ∙ cursor_at-on_log change objects source k;
-        fresh = λ k reads. none-some _ (sym opens.opens.vacant ∙ cursor_place chunk n f objects k source key old shows reads opens.stands.found);
+        fresh = λ k reads. none-some _ (sym opens.opens.vacant
+            ∙ cursor_place chunk n f objects k source key old shows reads opens.stands.found);
         placed = opens.opens.opened ∙ ap (λ p. Some p) (sym starts ∙ from_start start ∙ sym (ap (λ x. place_by x) told));
-        other_placed = λ k own other reads. opens.opens.others own other ∙ cursor_place chunk n f objects k source own old shows reads opens.stands.found;
-        other_owned = λ own at other stands. shows.owners source old own at opens.stands.found (sym (opens.opens.others own other) ∙ stands);
+        other_placed = λ k own other reads. opens.opens.others own other
+            ∙ cursor_place chunk n f objects k source own old shows reads opens.stands.found;
+        other_owned =
+            λ own at other stands. shows.owners source old own at opens.stands.found (sym (opens.opens.others own other) ∙ stands);
         same = same;
       } in
       subst (λ a. Shows chunk (n + 1) g (a ++ made ∷ [])) (sym opens.changed)
-      (shows_changed chunk n (n + 1) f g objects last source opens.log shows (Joins-changes chunk n f g objects last source key opens.log shows joins)
+      (shows_changed chunk n (n + 1) f g objects last source opens.log shows
+      (Joins-changes chunk n f g objects last source key opens.log shows joins)
       (length_push changed made ∙ ap (λ k. k + 1) all)
-      (Agrees_pushed n f g changed made all (ap (λ x. x.origin) told, ap (λ x. x.opened) told) same (Agrees-on_log f change objects source shows.each)))
+      (Agrees_pushed n f g changed made all (ap (λ x. x.origin) told, ap (λ x. x.opened) told) same
+      (Agrees-on_log f change objects source shows.each)))
     where
       from_start : (start : ℕ) → start ≡ start + 0
       from_start start = omega arith
 
   -- a port is closed
-  pub shows_closed : (chunk n : ℕ) (f g : ℕ → Facts M) (objects : List (Object M (Log M))) (name source start key received : ℕ) → Shows chunk n f objects
+  pub shows_closed : (chunk n : ℕ) (f g : ℕ → Facts M) (objects : List (Object M (Log M))) (name source start key received : ℕ)
+      → Shows chunk n f objects
       → slice_get objects name ≡ Some (Port (record { channel = record { 0 = source }; start = start; reading = Open key }))
       → received ≡ length (f name).got
       → g name ≡ record (f name) { opened = false } → ((k : ℕ) → k ≢ name → g k ≡ f k)
@@ -219,10 +239,12 @@ module _ {M : Type 0} where
       let there : slice_get changed name ≡ Some was = get-on_log_other change objects source name other ∙ found in
       let leaves : Leaves chunk f g objects (slice_set changed name closed) name source key own.0 = record {
         found = own.1;
-        stands = log_at-set_other changed name source closed (λ here. other (sym here)) ∙ log_at-on_log_same change objects source own.0 own.1;
+        stands = log_at-set_other changed name source closed (λ here. other (sym here))
+            ∙ log_at-on_log_same change objects source own.0 own.1;
         others = λ k differs. elim (cases_eq k name) [
           | inl here ↦
-              ap (log_at (slice_set changed name closed)) here ∙ log_at-set_same changed name was closed there ∙ sym (ap (log_at objects) here ∙ no_log_here)
+              ap (log_at (slice_set changed name closed)) here ∙ log_at-set_same changed name was closed there
+              ∙ sym (ap (log_at objects) here ∙ no_log_here)
           | inr apart ↦ log_at-set_other changed name k closed apart ∙ log_at-on_log_other change objects source k differs
         ];
         read = read;
@@ -239,7 +261,8 @@ module _ {M : Type 0} where
             let is : closed ≡ object = same_Some closed object (sym (slice_get-set_same changed name was closed there)
             ∙ ap (slice_get (slice_set changed name closed)) (sym here) ∙ at) in
             let begun : (g name).origin ≡ Some (port source start) = ap (λ x. x.origin) told_here ∙ (shows.each name was found).0 in
-            let agrees : Agrees (g name) closed = (begun, (ap (λ x. x.opened) told_here, counts ∙ ap (λ x. length x.got) (sym told_here))) in
+            let agrees : Agrees (g name) closed =
+            (begun, (ap (λ x. x.opened) told_here, counts ∙ ap (λ x. length x.got) (sym told_here))) in
             subst (λ j. Agrees (g j) object) (sym here) (subst (Agrees (g name)) is agrees)
         | inr differs ↦
             subst (λ facts. Agrees facts object) (sym (same k differs))

@@ -19,10 +19,12 @@ use Rattle.cml_board.proofs.TrailingLemmas.{kept_told, messages_told}
 
 -- what follows the same front is the same
 rest_same : {X : Type 0} (front xs ys : List X) → front ++ xs ≡ front ++ ys → xs ≡ ys
-rest_same front xs ys same = sym (drop_at front xs (length front) refl) ∙ ap (drop (length front)) same ∙ drop_at front ys (length front) refl
+rest_same front xs ys same = sym (drop_at front xs (length front) refl) ∙ ap (drop (length front)) same
+    ∙ drop_at front ys (length front) refl
 
 -- a port receives
-port_receives : (origin : Option Origin) (channel start : ℕ) → origin ≡ Some (port channel start) → option_map_or is_receiver (option_map kind_by origin) false ≡ true
+port_receives : (origin : Option Origin) (channel start : ℕ) → origin ≡ Some (port channel start)
+    → option_map_or is_receiver (option_map kind_by origin) false ≡ true
 port_receives origin channel start begun = ap (λ o. option_map_or is_receiver (option_map kind_by o) false) begun
 
 module _ {M : Type 0} where
@@ -33,13 +35,16 @@ module _ {M : Type 0} where
     | inr later ↦ ap (λ origin. drop (start_by origin) (sent past (source_by name origin))) (slice_get_past (made past) name later)
   ]
 
-  mailboxes_since : (chunk : ℕ) (board : Shown M) (since : List (Entry M)) → Keeps chunk board → Lawful (since ++ board.past) → board.history ≡ since ++ board.past → MailboxesSince board since
+  mailboxes_since : (chunk : ℕ) (board : Shown M) (since : List (Entry M)) → Keeps chunk board → Lawful (since ++ board.past)
+      → board.history ≡ since ++ board.past → MailboxesSince board since
   mailboxes_since chunk board since keeps lawful e = λ name is.
       let past = board.past in
       let own = keeps_mailboxes chunk board keeps name is in
       let items = owed_items own.0.log own.0.key in
-      let begun : origin_of (since ++ past) name ≡ Some mailbox = is_mailbox (origin_of (since ++ past) name) (ap (λ h. kind_of h name) (sym e) ∙ is) in
-      let before : got past name ++ owed past name ≡ sent past name = got_append_owed past name (lawful_past past since lawful) ∙ due_before past since name begun in (
+      let begun : origin_of (since ++ past) name ≡ Some mailbox =
+      is_mailbox (origin_of (since ++ past) name) (ap (λ h. kind_of h name) (sym e) ∙ is) in
+      let before : got past name ++ owed past name ≡ sent past name = got_append_owed past name (lawful_past past since lawful)
+      ∙ due_before past since name begun in (
         own.0,
         rest_same (got past name) (got since name ++ items) (owed past name ++ sent since name)
             (sym (append_assoc (got past name) (got since name) items)
@@ -52,13 +57,15 @@ module _ {M : Type 0} where
             ∙ append_assoc (got past name) (owed past name) (sent since name)),
       )
 
-  ports_since : (chunk : ℕ) (board : Shown M) (since : List (Entry M)) → Keeps chunk board → Lawful (since ++ board.past) → board.history ≡ since ++ board.past → PortsSince chunk board since
+  ports_since : (chunk : ℕ) (board : Shown M) (since : List (Entry M)) → Keeps chunk board → Lawful (since ++ board.past)
+      → board.history ≡ since ++ board.past → PortsSince chunk board since
   ports_since chunk board since keeps lawful e = λ name channel start begun opened.
       let past = board.past in
       let own = keeps_ports chunk board keeps name channel start begun opened in
       let items = owed_items own.0.log own.0.key in
       let owes : items ≡ owed (since ++ past) name =
-      rest_same (got board.history name) items (owed board.history name) (own.1 ∙ sym (got_append_owed board.history name keeps.lawful)) ∙ ap (λ h. owed h name) e in (
+      rest_same (got board.history name) items (owed board.history name) (own.1 ∙ sym (got_append_owed board.history name keeps.lawful))
+      ∙ ap (λ h. owed h name) e in (
         own.0,
         ap (λ xs. got since name ++ xs) owes
             ∙ received_open chunk past since name lawful
@@ -66,18 +73,22 @@ module _ {M : Type 0} where
             (ap (λ h. is_open h name) (sym e) ∙ opened),
       )
 
-  closed_since : (chunk : ℕ) (board : Shown M) (since : List (Entry M)) → Lawful (since ++ board.past) → board.history ≡ since ++ board.past → ClosedSince chunk board since
+  closed_since : (chunk : ℕ) (board : Shown M) (since : List (Entry M)) → Lawful (since ++ board.past)
+      → board.history ≡ since ++ board.past → ClosedSince chunk board since
   closed_since chunk board since lawful e = λ name channel start begun closed.
       received_closed chunk board.past since name lawful
       (port_receives (origin_of (since ++ board.past) name) channel start (ap (λ h. origin_of h name) (sym e) ∙ begun))
 
   -- the base and the entries since give who reads
-  reads_told : (chunk : ℕ) (past since : List (Entry M)) (source reader : ℕ) → Lawful (since ++ past) → reads_since (base_of chunk past) since source reader ≡ reads (since ++ past) source reader
+  reads_told : (chunk : ℕ) (past since : List (Entry M)) (source reader : ℕ) → Lawful (since ++ past)
+      → reads_since (base_of chunk past) since source reader ≡ reads (since ++ past) source reader
   reads_told chunk past since source reader lawful =
-      ap (λ origin. reads_by reader origin (open_since (base_of chunk past) since reader) source) (origin_told chunk past since reader lawful)
+      ap (λ origin. reads_by reader origin (open_since (base_of chunk past) since reader) source)
+      (origin_told chunk past since reader lawful)
       ∙ ap (λ opened. reads_by reader (origin_of (since ++ past) reader) opened source) (open_told chunk past since reader)
 
-  log_since : (chunk : ℕ) (board : Shown M) (since : List (Entry M)) → Keeps chunk board → Lawful (since ++ board.past) → board.history ≡ since ++ board.past
+  log_since : (chunk : ℕ) (board : Shown M) (since : List (Entry M)) → Keeps chunk board → Lawful (since ++ board.past)
+      → board.history ≡ since ++ board.past
       → (name : ℕ) → is_a is_source board.history name ≡ true → LogSince chunk board since name
   log_since chunk board since keeps lawful e name is =
       let past = board.past in
@@ -86,9 +97,11 @@ module _ {M : Type 0} where
         log = own.log;
         found = own.found;
         first = own.first ∙ ap (λ h. kept_from chunk h name) e ∙ sym (kept_told chunk past since name lawful);
-        kept = own.kept ∙ ap (λ n. drop n (sent board.history name)) own.first ∙ ap (λ h. drop (kept_from chunk h name) (sent h name)) e ∙ sym (messages_told chunk past since name lawful);
+        kept = own.kept ∙ ap (λ n. drop n (sent board.history name)) own.first ∙ ap (λ h. drop (kept_from chunk h name) (sent h name)) e
+            ∙ sym (messages_told chunk past since name lawful);
         readers = λ reader told.
-            let found = own.readers reader (ap (λ h. reads h name reader) e ∙ sym (reads_told chunk past since name reader lawful) ∙ told) in
+            let found =
+            own.readers reader (ap (λ h. reads h name reader) e ∙ sym (reads_told chunk past since name reader lawful) ∙ told) in
             (found.0, found.1, found.2 ∙ ap Some (ap (λ h. place h reader) e ∙ sym (place_told chunk past since reader lawful)));
       }
 

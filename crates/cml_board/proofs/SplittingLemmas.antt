@@ -1,5 +1,6 @@
 -- What a history tells, by what it told at a cut and by the entries since.
-use Rattle.std.proofs.Common.{◌≡◌, ℕ, zero, suc, ◌+◌, ◌<◌, ◌≤◌, Bool, true, false, not, ◌&&◌, cond, eqb, List, [], ◌∷◌, ◌++◌, length, slice_get, Option, Some, unwrap_or, refl, sym, ap, ◌∙◌, arith}
+use Rattle.std.proofs.Common.{◌≡◌, ℕ, zero, suc, ◌+◌, ◌<◌, ◌≤◌, Bool, true, false, not, ◌&&◌, cond, eqb, List, [], ◌∷◌, ◌++◌}
+use Rattle.std.proofs.Common.{length, slice_get, Option, Some, unwrap_or, refl, sym, ap, ◌∙◌, arith}
 use Rattle.std.proofs.Math.Bool.{and_assoc}
 use Rattle.std.proofs.lemmas.Bool.{eqb-true, and_left}
 use Rattle.std.proofs.lemmas.List.{append-nil, append_assoc, length-append}
@@ -22,7 +23,8 @@ and_last true = refl
 and_last false = refl
 
 -- what isn't open gives only that it is closed
-closed_reply : {M : Type 0} (opened : Bool) (given : Option (Reply M)) (reply : Reply M) → opened ≡ false → cond opened given (Some Closed) ≡ Some reply → message_in reply ≡ []
+closed_reply : {M : Type 0} (opened : Bool) (given : Option (Reply M)) (reply : Reply M) → opened ≡ false
+    → cond opened given (Some Closed) ≡ Some reply → message_in reply ≡ []
 closed_reply opened given reply closed is =
     ap message_in (sym (same_Some Closed reply (ap (λ t. cond t given (Some Closed)) (sym closed) ∙ is)))
 
@@ -45,7 +47,8 @@ module _ {M : Type 0} where
       ∙ append_assoc (got past o) (got before o) (got_by entry.call entry.reply o)
 
   -- and how much it was
-  pub length-sent_split : (past since : List (Entry M)) (o : ℕ) → length (sent (since ++ past) o) ≡ length (sent past o) + length (sent since o)
+  pub length-sent_split : (past since : List (Entry M)) (o : ℕ)
+      → length (sent (since ++ past) o) ≡ length (sent past o) + length (sent since o)
   length-sent_split past since o = ap length (sent_split past since o) ∙ length-append (sent past o) (sent since o)
 
   pub length-got_split : (past since : List (Entry M)) (o : ℕ) → length (got (since ++ past) o) ≡ length (got past o) + length (got since o)
@@ -70,26 +73,34 @@ module _ {M : Type 0} where
   pub made_split : (past since : List (Entry M)) → length (made past) ≤ length (made (since ++ past))
   made_split past [] = omega arith
   made_split past (entry ∷ before) =
-      omega (arith, made_split past before, length-append (made (before ++ past)) (if_made entry.reply (begun_by (made (before ++ past)) (before ++ past) entry.call)))
+      omega (
+        arith,
+        made_split past before,
+        length-append (made (before ++ past)) (if_made entry.reply (begun_by (made (before ++ past)) (before ++ past) entry.call)),
+      )
 
   pub origin_split : (past since : List (Entry M)) (o : ℕ) → o < length (made past) → origin_of (since ++ past) o ≡ origin_of past o
   origin_split past [] o was = refl
   origin_split past (entry ∷ before) o was =
-      slice_get-append_within (made (before ++ past)) (if_made entry.reply (begun_by (made (before ++ past)) (before ++ past) entry.call)) o (omega (arith, made_split past before))
+      slice_get-append_within (made (before ++ past)) (if_made entry.reply (begun_by (made (before ++ past)) (before ++ past) entry.call)) o
+      (omega (arith, made_split past before))
       ∙ origin_split past before o was
 
   -- a port that is closed gives no message
-  got_by_closed : (h : List (Entry M)) (call : Call M) (reply : Reply M) (o : ℕ) → is_open h o ≡ false → answer h call ≡ Some reply → got_by call reply o ≡ []
+  got_by_closed : (h : List (Entry M)) (call : Call M) (reply : Reply M) (o : ℕ) → is_open h o ≡ false
+      → answer h call ≡ Some reply → got_by call reply o ≡ []
   got_by_closed h (Recv name) reply o closed answered = by_name (eqb name.0 o) refl
     where
       by_name : (t : Bool) → eqb name.0 o ≡ t → cond t (message_in reply) [] ≡ []
-      by_name true here = closed_reply (is_open h name.0) (received (owed h name.0)) reply (ap (is_open h) (eqb-true name.0 o here) ∙ closed) answered
+      by_name true here =
+          closed_reply (is_open h name.0) (received (owed h name.0)) reply (ap (is_open h) (eqb-true name.0 o here) ∙ closed) answered
       by_name false other = refl
   got_by_closed h (Poll name) reply o closed answered = by_name (eqb name.0 o) refl
     where
       by_name : (t : Bool) → eqb name.0 o ≡ t → cond t (message_in reply) [] ≡ []
       by_name true here =
-          closed_reply (is_open h name.0) (Some (unwrap_or (received (owed h name.0)) Nothing)) reply (ap (is_open h) (eqb-true name.0 o here) ∙ closed) answered
+          closed_reply (is_open h name.0) (Some (unwrap_or (received (owed h name.0)) Nothing)) reply
+          (ap (is_open h) (eqb-true name.0 o here) ∙ closed) answered
       by_name false other = refl
   got_by_closed h call reply o closed answered = refl
 

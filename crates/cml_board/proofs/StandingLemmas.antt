@@ -1,5 +1,6 @@
 -- What the objects that show the facts are, one by one.
-use Rattle.std.proofs.Common.{◌≡◌, ◌≢◌, ℕ, zero, suc, ◌<◌, ◌≤◌, true, List, [], ◌∷◌, length, drop, slice_get, Option, Some, refl, sym, ap, subst, ◌∙◌, arith}
+use Rattle.std.proofs.Common.{◌≡◌, ◌≢◌, ℕ, zero, suc, ◌<◌, ◌≤◌, true, List, [], ◌∷◌, length, drop, slice_get, Option}
+use Rattle.std.proofs.Common.{Some, refl, sym, ap, subst, ◌∙◌, arith}
 use Rattle.std.specs.Option.{option_and_then}
 use Rattle.std.proofs.lemmas.Bool.{false≢true}
 use Rattle.cml_log.specs.Prelude.{Log, next_of, IsOpen, place_of, owed_items}
@@ -69,14 +70,16 @@ module _ {M : Type 0} where
   -- a port is one, of its channel and with its start
   pub port_object : (chunk n : ℕ) (f : ℕ → Facts M) (objects : List (Object M (Log M))) (name source start : ℕ) → Shows chunk n f objects
       → (f name).origin ≡ Some (port source start) → name < n
-      → (reading : Reading) × (slice_get objects name ≡ Some (Port (record { channel = record { 0 = source }; start = start; reading = reading })))
+      → (reading : Reading)
+      × (slice_get objects name ≡ Some (Port (record { channel = record { 0 = source }; start = start; reading = reading })))
       × AgreesReading (f name) reading
   port_object chunk n f objects name source start shows begun made =
       let stands = object_stands chunk n f objects name shows made in
       by_object stands.0 stands.1 (shows.each name stands.0 stands.1)
     where
       by_object : (object : Object M (Log M)) → slice_get objects name ≡ Some object → Agrees (f name) object
-          → (reading : Reading) × (slice_get objects name ≡ Some (Port (record { channel = record { 0 = source }; start = start; reading = reading })))
+          → (reading : Reading)
+          × (slice_get objects name ≡ Some (Port (record { channel = record { 0 = source }; start = start; reading = reading })))
           × AgreesReading (f name) reading
       by_object (Mailbox log key) found agrees = absurd (cc)
       by_object (Channel log) found agrees = absurd (cc)
@@ -93,16 +96,19 @@ module _ {M : Type 0} where
           )
 
   -- an open port has a cursor
-  pub open_port_object : (chunk n : ℕ) (f : ℕ → Facts M) (objects : List (Object M (Log M))) (name source start : ℕ) → Shows chunk n f objects
+  pub open_port_object : (chunk n : ℕ) (f : ℕ → Facts M) (objects : List (Object M (Log M))) (name source start : ℕ)
+      → Shows chunk n f objects
       → (f name).origin ≡ Some (port source start) → (f name).opened ≡ true → name < n
       → (key : ℕ) × (slice_get objects name ≡ Some (Port (record { channel = record { 0 = source }; start = start; reading = Open key })))
   open_port_object chunk n f objects name source start shows begun opened made =
       let stands = port_object chunk n f objects name source start shows begun made in
       by_reading stands.0 stands.1 stands.2
     where
-      by_reading : (reading : Reading) → slice_get objects name ≡ Some (Port (record { channel = record { 0 = source }; start = start; reading = reading }))
+      by_reading : (reading : Reading)
+          → slice_get objects name ≡ Some (Port (record { channel = record { 0 = source }; start = start; reading = reading }))
           → AgreesReading (f name) reading
-          → (key : ℕ) × (slice_get objects name ≡ Some (Port (record { channel = record { 0 = source }; start = start; reading = Open key })))
+          → (key : ℕ)
+          × (slice_get objects name ≡ Some (Port (record { channel = record { 0 = source }; start = start; reading = Open key })))
       by_reading (Open key) found agrees = (key, found)
       by_reading (Closed received) found agrees = absurd (false≢true (sym agrees.0 ∙ opened))
 
@@ -129,7 +135,8 @@ module _ {M : Type 0} where
 
   -- an open port that of its channel
   pub cursor_of_port : (chunk n : ℕ) (f : ℕ → Facts M) (objects : List (Object M (Log M))) (name source start : ℕ) → Shows chunk n f objects
-      → (f name).origin ≡ Some (port source start) → (f name).opened ≡ true → name < n → (key : ℕ) × (cursor_at objects name ≡ Some (source, key))
+      → (f name).origin ≡ Some (port source start) → (f name).opened ≡ true → name < n
+      → (key : ℕ) × (cursor_at objects name ≡ Some (source, key))
   cursor_of_port chunk n f objects name source start shows begun opened made =
       let stands = open_port_object chunk n f objects name source start shows begun opened made in
       (stands.0, ap (option_and_then (cursor_in name)) stands.1)
@@ -141,7 +148,8 @@ module _ {M : Type 0} where
 
   -- an object's cursor is open, at its place
   pub cursor_is : (chunk n : ℕ) (f : ℕ → Facts M) (objects : List (Object M (Log M))) (name source key : ℕ) → Shows chunk n f objects
-      → cursor_at objects name ≡ Some (source, key) → (cursor : HasCursor objects source key) × (place_of cursor.stands.log key ≡ place_by (f name))
+      → cursor_at objects name ≡ Some (source, key)
+      → (cursor : HasCursor objects source key) × (place_of cursor.stands.log key ≡ place_by (f name))
   cursor_is chunk n f objects name source key shows reads =
       let own = shows.cursors name source key reads in (
         record { stands = record { log = own.0; found = own.1 }; opened = IsOpen-at own.0 key (place_by (f name)) own.2 },
@@ -149,21 +157,26 @@ module _ {M : Type 0} where
       )
 
   -- so in the log that is known to be there
-  pub cursor_opened : (chunk n : ℕ) (f : ℕ → Facts M) (objects : List (Object M (Log M))) (name source key : ℕ) (log : Log M) → Shows chunk n f objects
+  pub cursor_opened : (chunk n : ℕ) (f : ℕ → Facts M) (objects : List (Object M (Log M))) (name source key : ℕ) (log : Log M)
+      → Shows chunk n f objects
       → cursor_at objects name ≡ Some (source, key) → log_at objects source ≡ Some log → IsOpen log key
   cursor_opened chunk n f objects name source key log shows reads found =
       IsOpen-at log key (place_by (f name)) (cursor_place chunk n f objects name source key log shows reads found)
 
-  pub place_is : (chunk n : ℕ) (f : ℕ → Facts M) (objects : List (Object M (Log M))) (name source key : ℕ) (log : Log M) → Shows chunk n f objects
+  pub place_is : (chunk n : ℕ) (f : ℕ → Facts M) (objects : List (Object M (Log M))) (name source key : ℕ) (log : Log M)
+      → Shows chunk n f objects
       → cursor_at objects name ≡ Some (source, key) → log_at objects source ≡ Some log → place_of log key ≡ place_by (f name)
   place_is chunk n f objects name source key log shows reads found =
       place_of-at log key (place_by (f name)) (cursor_place chunk n f objects name source key log shows reads found)
 
   -- what the log really owes the object is what was sent from its place on
-  pub owed_is : (chunk n : ℕ) (f : ℕ → Facts M) (objects : List (Object M (Log M))) (name source key : ℕ) (log : Log M) → Shows chunk n f objects
-      → cursor_at objects name ≡ Some (source, key) → log_at objects source ≡ Some log → owed_items log key ≡ drop (place_by (f name)) (f source).sent
+  pub owed_is : (chunk n : ℕ) (f : ℕ → Facts M) (objects : List (Object M (Log M))) (name source key : ℕ) (log : Log M)
+      → Shows chunk n f objects
+      → cursor_at objects name ≡ Some (source, key) → log_at objects source ≡ Some log
+      → owed_items log key ≡ drop (place_by (f name)) (f source).sent
   owed_is chunk n f objects name source key log shows reads found =
-      Holds-owed chunk log (f source).sent key (shows.logs source log found) (cursor_opened chunk n f objects name source key log shows reads found)
+      Holds-owed chunk log (f source).sent key (shows.logs source log found)
+      (cursor_opened chunk n f objects name source key log shows reads found)
       ∙ ap (λ p. drop p (f source).sent) (place_is chunk n f objects name source key log shows reads found)
 
   -- where that is something, the cursor is owed a message
@@ -175,8 +188,10 @@ module _ {M : Type 0} where
       record { cursor = cursor; owed = subst (λ xs. 0 < length xs) (sym is) (some_owed (drop (place_by (f name)) (f source).sent) some) }
 
   -- nothing is given back that the object has still to read, and its place is no later than the end
-  pub kept_is : (chunk n : ℕ) (f : ℕ → Facts M) (objects : List (Object M (Log M))) (name source key : ℕ) (log : Log M) → Shows chunk n f objects
-      → cursor_at objects name ≡ Some (source, key) → log_at objects source ≡ Some log → (log.first ≤ place_by (f name)) × (place_by (f name) ≤ next_of log)
+  pub kept_is : (chunk n : ℕ) (f : ℕ → Facts M) (objects : List (Object M (Log M))) (name source key : ℕ) (log : Log M)
+      → Shows chunk n f objects
+      → cursor_at objects name ≡ Some (source, key) → log_at objects source ≡ Some log
+      → (log.first ≤ place_by (f name)) × (place_by (f name) ≤ next_of log)
   kept_is chunk n f objects name source key log shows reads found =
       let holds = shows.logs source log found in
       let at = cursor_place chunk n f objects name source key log shows reads found in

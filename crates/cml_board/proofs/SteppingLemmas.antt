@@ -13,7 +13,9 @@ use Rattle.cml_board.specs.declared.object.Object.TheVariants.{Channel}
 use Rattle.cml_board.specs.Keeps.{Shows}
 use Rattle.cml_board.proofs.StandingLemmas.{next_is, cursor_is, cursor_opened, place_is}
 use Rattle.cml_board.proofs.ShowingLemmas.{shows_same, shows_pushed, shows_advanced, shows_mailbox, shows_channel, shows_port, shows_closed}
-use Rattle.cml_board.proofs.TellingLemmas.{noted, put_here, put_other, put_made, taken_here, taken_other, taken_made, asking_same, asking_made, nothing_same, nothing_made, shut_here, shut_other, shut_made, makes_here, makes_other, makes_more}
+use Rattle.cml_board.proofs.TellingLemmas.{noted, put_here, put_other, put_made, taken_here, taken_other, taken_made}
+use Rattle.cml_board.proofs.TellingLemmas.{asking_same, asking_made, nothing_same, nothing_made, shut_here, shut_other}
+use Rattle.cml_board.proofs.TellingLemmas.{shut_made, makes_here, makes_other, makes_more}
 use Rattle.cml_board.proofs.BeginningLemmas.{mailbox_makes, channel_makes, port_makes, copy_makes}
 
 module _ {M : Type 0} where
@@ -22,7 +24,8 @@ module _ {M : Type 0} where
   ShowsAll chunk h objects = Shows chunk (length (made h)) (facts_of h) objects
 
   -- with as many objects as were made
-  pub shows_count : (chunk n m : ℕ) (facts : ℕ → Facts M) (objects : List (Object M (Log M))) → m ≡ n → Shows chunk n facts objects → Shows chunk m facts objects
+  pub shows_count : (chunk n m : ℕ) (facts : ℕ → Facts M) (objects : List (Object M (Log M))) → m ≡ n
+      → Shows chunk n facts objects → Shows chunk m facts objects
   shows_count chunk n m facts objects same shows = subst (λ k. Shows chunk k facts objects) (sym same) shows
 
   -- a message was put
@@ -37,7 +40,8 @@ module _ {M : Type 0} where
       (put_here h who gives name message is) (λ k. put_other h who gives name message k is))
 
   -- a message was taken
-  pub step_taken : (chunk : ℕ) (who : Who) (asks : Ask) (name : Name) (message : M) (h : List (Entry M)) (objects : List (Object M (Log M))) (source key : ℕ)
+  pub step_taken : (chunk : ℕ) (who : Who) (asks : Ask) (name : Name) (message : M) (h : List (Entry M))
+      (objects : List (Object M (Log M))) (source key : ℕ)
       → takes_next asks ≡ true → ShowsAll chunk h objects → cursor_at objects name.0 ≡ Some (source, key) → HasOwed objects source key
       → ShowsAll chunk (noted who (asked_call asks name) (Got message) ∷ h) (on_log (advanced chunk key) objects source)
   step_taken chunk who asks name message h objects source key is shows reads owes =
@@ -69,7 +73,8 @@ module _ {M : Type 0} where
   step_mailbox chunk who n h objects after lawful shows adds =
       let later : List (Entry M) = noted who NewMailbox (Made n) ∷ h in
       let makes = mailbox_makes h n in
-      shows_count chunk (length (made h) + 1) (length (made later)) (facts_of later) after (makes_more h who NewMailbox n mailbox None makes)
+      shows_count chunk (length (made h) + 1) (length (made later)) (facts_of later) after
+      (makes_more h who NewMailbox n mailbox None makes)
       (subst (λ a. Shows chunk (length (made h) + 1) (facts_of later) a) (sym adds.changed)
       (shows_mailbox chunk (length (made h)) (facts_of h) (facts_of later) objects adds.log adds.key shows adds.opens
       (makes_here h who NewMailbox n mailbox None lawful makes) (λ k. makes_other h who NewMailbox n mailbox None k makes)))
@@ -87,7 +92,8 @@ module _ {M : Type 0} where
 
   -- a port was made at the end of its channel
   pub step_port : (chunk : ℕ) (who : Who) (name n : Name) (h : List (Entry M)) (objects after : List (Object M (Log M)))
-      → Lawful h → ShowsAll chunk h objects → AddsPort objects after name.0 next_of → ShowsAll chunk (noted who (NewPort name) (Made n) ∷ h) after
+      → Lawful h → ShowsAll chunk h objects → AddsPort objects after name.0 next_of
+      → ShowsAll chunk (noted who (NewPort name) (Made n) ∷ h) after
   step_port chunk who name n h objects after lawful shows adds =
       let later : List (Entry M) = noted who (NewPort name) (Made n) ∷ h in
       let old : Log M = adds.opens.stands.log in
@@ -97,14 +103,17 @@ module _ {M : Type 0} where
       Holds-open_cursor chunk old adds.opens.log (sent h name.0) adds.key (shows.logs name.0 old found) adds.opens.opens in
       let begun = port name.0 (length (sent h name.0)) in
       let makes = port_makes h name n in
-      shows_count chunk (length (made h) + 1) (length (made later)) (facts_of later) after (makes_more h who (NewPort name) n begun None makes)
+      shows_count chunk (length (made h) + 1) (length (made later)) (facts_of later) after
+      (makes_more h who (NewPort name) n begun None makes)
       (subst (λ a. Shows chunk (length (made h) + 1) (facts_of later) a) (sym adds.changed)
-      (shows_port chunk (length (made h)) (facts_of h) (facts_of later) objects adds.after name.0 adds.key (next_of old) next_of shows adds.opens refl holds
+      (shows_port chunk (length (made h)) (facts_of h) (facts_of later) objects adds.after name.0 adds.key
+      (next_of old) next_of shows adds.opens refl holds
       (makes_here h who (NewPort name) n begun None lawful makes ∙ ap (λ start. new_facts (port name.0 start) None) (sym end))
       (λ k. makes_other h who (NewPort name) n begun None k makes)))
 
   -- the place of a port's cursor
-  port_place : (chunk : ℕ) (h : List (Entry M)) (objects : List (Object M (Log M))) (name source start key : ℕ) (log : Log M) → ShowsAll chunk h objects
+  port_place : (chunk : ℕ) (h : List (Entry M)) (objects : List (Object M (Log M))) (name source start key : ℕ) (log : Log M)
+      → ShowsAll chunk h objects
       → cursor_at objects name ≡ Some (source, key) → origin_of h name ≡ Some (port source start) → log_at objects source ≡ Some log
       → place_of log key ≡ start + length (got h name)
   port_place chunk h objects name source start key log shows reads begun found =
@@ -119,15 +128,18 @@ module _ {M : Type 0} where
       let later : List (Entry M) = noted who (CopyPort p) (Made n) ∷ h in
       let old : Log M = adds.opens.stands.log in
       let found : log_at objects source ≡ Some old = adds.opens.stands.found in
-      let place : place_of old key ≡ start + length (got h p.0) = port_place chunk h objects p.0 source start key old shows reads begun found in
+      let place : place_of old key ≡ start + length (got h p.0) =
+      port_place chunk h objects p.0 source start key old shows reads begun found in
       let holds : Holds chunk adds.opens.log (sent h source) =
       Holds-copy_cursor chunk old adds.opens.log (sent h source) key adds.key (shows.logs source old found)
       (cursor_opened chunk (length (made h)) (facts_of h) objects p.0 source key old shows reads found) adds.opens.opens in
       let began = port source (start + length (got h p.0)) in
       let makes = copy_makes h p n source start begun in
-      shows_count chunk (length (made h) + 1) (length (made later)) (facts_of later) after (makes_more h who (CopyPort p) n began None makes)
+      shows_count chunk (length (made h) + 1) (length (made later)) (facts_of later) after
+      (makes_more h who (CopyPort p) n began None makes)
       (subst (λ a. Shows chunk (length (made h) + 1) (facts_of later) a) (sym adds.changed)
-      (shows_port chunk (length (made h)) (facts_of h) (facts_of later) objects adds.after source adds.key (place_of old key) (λ log. place_of log key)
+      (shows_port chunk (length (made h)) (facts_of h) (facts_of later) objects adds.after source adds.key
+      (place_of old key) (λ log. place_of log key)
       shows adds.opens refl holds
       (makes_here h who (CopyPort p) n began None lawful makes ∙ ap (λ at. new_facts (port source at) None) (sym place))
       (λ k. makes_other h who (CopyPort p) n began None k makes)))
@@ -143,8 +155,10 @@ module _ {M : Type 0} where
   port_reads objects name source start key found = ap (option_and_then (cursor_in name)) found
 
   -- a port was closed
-  pub step_closed : (chunk : ℕ) (who : Who) (name : Name) (h : List (Entry M)) (objects after : List (Object M (Log M))) (source start key : ℕ)
-      → ShowsAll chunk h objects → slice_get objects name.0 ≡ Some (open_port source start key) → ClosesPort chunk objects after name.0 source start key
+  pub step_closed : (chunk : ℕ) (who : Who) (name : Name) (h : List (Entry M))
+      (objects after : List (Object M (Log M))) (source start key : ℕ)
+      → ShowsAll chunk h objects → slice_get objects name.0 ≡ Some (open_port source start key)
+      → ClosesPort chunk objects after name.0 source start key
       → ShowsAll chunk (noted who (ClosePort name) Done ∷ h) after
   step_closed chunk who name h objects after source start key shows found closes =
       let later : List (Entry M) = noted who (ClosePort name) Done ∷ h in

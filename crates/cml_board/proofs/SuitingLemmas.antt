@@ -1,5 +1,6 @@
 -- What a call is answered is a reply that it may have.
-use Rattle.std.proofs.Common.{◌≡◌, ℕ, List, [], ◌∷◌, Bool, true, false, cond, slice_get, Option, Some, None, refl, sym, ap, ◌∙◌, zero, suc, subst}
+use Rattle.std.proofs.Common.{◌≡◌, ℕ, List, [], ◌∷◌, Bool, true, false, cond, slice_get, Option, Some, None, refl}
+use Rattle.std.proofs.Common.{sym, ap, ◌∙◌, zero, suc, subst}
 use Rattle.std.specs.Prelude.{unwrap_or, is_some}
 use Rattle.std.specs.Option.{option_map}
 use Rattle.std.proofs.lemmas.Option.{same_Some, none-some}
@@ -33,10 +34,14 @@ module _ {M : Type 0} (c : Call M) (r : Reply M) where
 
 module _ {M : Type 0} where
   pub answer_suits : (history : List (Entry M)) (c : Call M) (r : Reply M) → answer history c ≡ Some r → may_have (row_of c) r ≡ true
-  answer_suits history (call.CopyPort name) r e = where_it_is_open (call.CopyPort name) r (is_open history name.0) _ (λ is. just (call.CopyPort name) r _ refl is) refl e
-  answer_suits history (call.ClosePort name) r e = where_it_is_open (call.ClosePort name) r (is_open history name.0) _ (λ is. just (call.ClosePort name) r _ refl is) refl e
-  answer_suits history (call.Recv name) r e = where_it_is_open (call.Recv name) r (is_open history name.0) _ (λ is. got_some (call.Recv name) r (λ m. refl) (slice_get (owed history name.0) 0) is) refl e
-  answer_suits history (call.Poll name) r e = where_it_is_open (call.Poll name) r (is_open history name.0) _ (λ is. got_or_nothing (call.Poll name) r (λ m. refl) refl (slice_get (owed history name.0) 0) is) refl e
+  answer_suits history (call.CopyPort name) r e =
+      where_it_is_open (call.CopyPort name) r (is_open history name.0) _ (λ is. just (call.CopyPort name) r _ refl is) refl e
+  answer_suits history (call.ClosePort name) r e =
+      where_it_is_open (call.ClosePort name) r (is_open history name.0) _ (λ is. just (call.ClosePort name) r _ refl is) refl e
+  answer_suits history (call.Recv name) r e = where_it_is_open (call.Recv name) r (is_open history name.0) _
+      (λ is. got_some (call.Recv name) r (λ m. refl) (slice_get (owed history name.0) 0) is) refl e
+  answer_suits history (call.Poll name) r e = where_it_is_open (call.Poll name) r (is_open history name.0) _
+      (λ is. got_or_nothing (call.Poll name) r (λ m. refl) refl (slice_get (owed history name.0) 0) is) refl e
   answer_suits history (call.Put name message) r e = put_or_done (call.Put name message) r refl refl (is_some (held history name.0)) e
   answer_suits history (call.Get name) r e = got_some (call.Get name) r (λ m. refl) (held history name.0) e
   answer_suits history (call.GetPoll name) r e = got_or_nothing (call.GetPoll name) r (λ m. refl) refl (held history name.0) e

@@ -1,5 +1,6 @@
 -- What one more entry tells of each object.
-use Rattle.std.proofs.Common.{◌≡◌, ◌≢◌, ℕ, ◌+◌, Bool, true, false, not, ◌&&◌, cond, eqb, List, [], ◌∷◌, ◌++◌, length, slice_get, Option, None, unwrap_or, refl, sym, ap, ◌∙◌, arith}
+use Rattle.std.proofs.Common.{◌≡◌, ◌≢◌, ℕ, ◌+◌, Bool, true, false, not, ◌&&◌, cond, eqb, List, [], ◌∷◌, ◌++◌, length, slice_get}
+use Rattle.std.proofs.Common.{Option, None, unwrap_or, refl, sym, ap, ◌∙◌, arith}
 use Rattle.std.proofs.lemmas.Bool.{false≢true, eq-eqb, ne_eqb}
 use Rattle.std.proofs.lemmas.List.{append-nil, length_push}
 use Rattle.cml_board.specs.Prelude.{Name, Call, Who, Reply, Entry, Origin, given_call, asked_call, adds, takes_next, asks_port, left_by}
@@ -42,7 +43,8 @@ module _ {M : Type 0} where
   noted who call reply = record { who = who; call = call; reply = reply }
 
   -- an entry that doesn't close, send or receive leaves what was open, sent and received
-  pub stays_open : (h : List (Entry M)) (entry : Entry M) (k : ℕ) → closes entry.call entry.reply k ≡ false → is_open (entry ∷ h) k ≡ is_open h k
+  pub stays_open : (h : List (Entry M)) (entry : Entry M) (k : ℕ) → closes entry.call entry.reply k ≡ false
+      → is_open (entry ∷ h) k ≡ is_open h k
   stays_open h entry k none = ap (λ b. is_open h k && not b) none ∙ and_true (is_open h k)
 
   pub none_sent : (h : List (Entry M)) (entry : Entry M) (k : ℕ) → sent_by entry.call k ≡ [] → sent (entry ∷ h) k ≡ sent h k
@@ -60,7 +62,8 @@ module _ {M : Type 0} where
       → sent_by entry.call k ≡ [] → got_by entry.call entry.reply k ≡ [] → closes entry.call entry.reply k ≡ false
       → left_by entry.call entry.reply k ≡ None → facts_of (entry ∷ h) k ≡ facts_of h k
   same_facts h entry k begun sends gets shuts leaves =
-      facts_equal (facts_of (entry ∷ h) k) (facts_of h k) begun (stays_open h entry k shuts) (none_sent h entry k sends) (none_got h entry k gets)
+      facts_equal (facts_of (entry ∷ h) k) (facts_of h k) begun (stays_open h entry k shuts)
+      (none_sent h entry k sends) (none_got h entry k gets)
       (still_holds h entry k leaves)
 
   -- where nothing is made
@@ -87,7 +90,8 @@ module _ {M : Type 0} where
   put_shuts give.Cast name message k is = refl
   put_shuts other name message k is = absurd (false≢true is)
 
-  put_leaves : (gives : Give) (name : Name) (message : M) (k : ℕ) → adds gives ≡ true → left_by (given_call gives name message) Done k ≡ None
+  put_leaves : (gives : Give) (name : Name) (message : M) (k : ℕ) → adds gives ≡ true
+      → left_by (given_call gives name message) Done k ≡ None
   put_leaves give.Send name message k is = refl
   put_leaves give.Cast name message k is = refl
   put_leaves other name message k is = absurd (false≢true is)
@@ -101,13 +105,15 @@ module _ {M : Type 0} where
       facts_equal (facts_of (entry ∷ h) name.0) (record (facts_of h name.0) { sent = sent h name.0 ++ message ∷ [] })
       (same_origin h name.0) (stays_open h entry name.0 (put_shuts gives name message name.0 is))
       (ap (λ xs. sent h name.0 ++ xs) (put_sends gives name message name.0 is ∙ at_name name (message ∷ []) []))
-      (none_got h entry name.0 (put_gets gives name message name.0 is)) (still_holds h entry name.0 (put_leaves gives name message name.0 is))
+      (none_got h entry name.0 (put_gets gives name message name.0 is))
+      (still_holds h entry name.0 (put_leaves gives name message name.0 is))
 
   pub put_other : (h : List (Entry M)) (who : Who) (gives : Give) (name : Name) (message : M) (k : ℕ) → adds gives ≡ true → k ≢ name.0
       → facts_of (noted who (given_call gives name message) Done ∷ h) k ≡ facts_of h k
   put_other h who gives name message k is other =
       same_facts h (noted who (given_call gives name message) Done) k (same_origin h k)
-      (put_sends gives name message k is ∙ at_other name k (message ∷ []) [] other) (put_gets gives name message k is) (put_shuts gives name message k is)
+      (put_sends gives name message k is ∙ at_other name k (message ∷ []) [] other) (put_gets gives name message k is)
+      (put_shuts gives name message k is)
       (put_leaves gives name message k is)
 
   pub put_made : (h : List (Entry M)) (who : Who) (gives : Give) (name : Name) (message : M)
@@ -126,19 +132,22 @@ module _ {M : Type 0} where
   taken_gets ask.Poll name message k is = refl
   taken_gets other name message k is = absurd (false≢true is)
 
-  taken_shuts : (asks : Ask) (name : Name) (message : M) (k : ℕ) → takes_next asks ≡ true → closes (asked_call asks name) (Got message) k ≡ false
+  taken_shuts : (asks : Ask) (name : Name) (message : M) (k : ℕ) → takes_next asks ≡ true
+      → closes (asked_call asks name) (Got message) k ≡ false
   taken_shuts ask.Recv name message k is = refl
   taken_shuts ask.Poll name message k is = refl
   taken_shuts other name message k is = absurd (false≢true is)
 
-  taken_leaves : (asks : Ask) (name : Name) (message : M) (k : ℕ) → takes_next asks ≡ true → left_by (asked_call asks name) (Got message) k ≡ None
+  taken_leaves : (asks : Ask) (name : Name) (message : M) (k : ℕ) → takes_next asks ≡ true
+      → left_by (asked_call asks name) (Got message) k ≡ None
   taken_leaves ask.Recv name message k is = refl
   taken_leaves ask.Poll name message k is = refl
   taken_leaves other name message k is = absurd (false≢true is)
 
   -- the name received a message more, and nothing else changes
   pub taken_here : (h : List (Entry M)) (who : Who) (asks : Ask) (name : Name) (message : M) → takes_next asks ≡ true
-      → facts_of (noted who (asked_call asks name) (Got message) ∷ h) name.0 ≡ record (facts_of h name.0) { got = got h name.0 ++ message ∷ [] }
+      → facts_of (noted who (asked_call asks name) (Got message) ∷ h) name.0
+      ≡ record (facts_of h name.0) { got = got h name.0 ++ message ∷ [] }
   taken_here h who asks name message is =
       let entry : Entry M = noted who (asked_call asks name) (Got message) in
       facts_equal (facts_of (entry ∷ h) name.0) (record (facts_of h name.0) { got = got h name.0 ++ message ∷ [] })
@@ -151,7 +160,8 @@ module _ {M : Type 0} where
       → facts_of (noted who (asked_call asks name) (Got message) ∷ h) k ≡ facts_of h k
   taken_other h who asks name message k is other =
       same_facts h (noted who (asked_call asks name) (Got message)) k (same_origin h k)
-      (taken_sends asks name k is) (taken_gets asks name message k is ∙ at_other name k (message ∷ []) [] other) (taken_shuts asks name message k is)
+      (taken_sends asks name k is) (taken_gets asks name message k is ∙ at_other name k (message ∷ []) [] other)
+      (taken_shuts asks name message k is)
       (taken_leaves asks name message k is)
 
   pub taken_made : (h : List (Entry M)) (who : Who) (asks : Ask) (name : Name) (message : M)
@@ -206,7 +216,8 @@ module _ {M : Type 0} where
     pub others : (k : ℕ) → k ≢ length (made h) → left_by call (Made n) k ≡ None
 
   -- the name is the next, with these facts
-  pub makes_here : (h : List (Entry M)) (who : Who) (call : Call M) (n : Name) (origin : Origin) (value : Option M) → Lawful h → Makes h call n origin value
+  pub makes_here : (h : List (Entry M)) (who : Who) (call : Call M) (n : Name) (origin : Origin) (value : Option M)
+      → Lawful h → Makes h call n origin value
       → facts_of (noted who call (Made n) ∷ h) (length (made h)) ≡ new_facts origin value
   makes_here h who call n origin value lawful makes =
       let entry : Entry M = noted who call (Made n) in
@@ -220,13 +231,15 @@ module _ {M : Type 0} where
       (ap (λ f. unwrap_or (left_by call (Made n) next) f.held) none ∙ makes.leaves)
 
   -- and each other name's stay
-  pub makes_other : (h : List (Entry M)) (who : Who) (call : Call M) (n : Name) (origin : Origin) (value : Option M) (k : ℕ) → Makes h call n origin value
+  pub makes_other : (h : List (Entry M)) (who : Who) (call : Call M) (n : Name) (origin : Origin) (value : Option M) (k : ℕ)
+      → Makes h call n origin value
       → k ≢ length (made h) → facts_of (noted who call (Made n) ∷ h) k ≡ facts_of h k
   makes_other h who call n origin value k makes other =
       same_facts h (noted who call (Made n)) k
       (ap (λ origins. slice_get (made h ++ origins) k) makes.begins ∙ slice_get_pushed_other (made h) origin k other)
       (makes.sends k) (makes.gets k (Made n)) (makes.shuts k (Made n)) (makes.others k other)
 
-  pub makes_more : (h : List (Entry M)) (who : Who) (call : Call M) (n : Name) (origin : Origin) (value : Option M) → Makes h call n origin value
+  pub makes_more : (h : List (Entry M)) (who : Who) (call : Call M) (n : Name) (origin : Origin) (value : Option M)
+      → Makes h call n origin value
       → length (made (noted who call (Made n) ∷ h)) ≡ length (made h) + 1
   makes_more h who call n origin value makes = ap (λ origins. length (made h ++ origins)) makes.begins ∙ length_push (made h) origin

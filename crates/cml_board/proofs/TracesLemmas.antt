@@ -38,4 +38,5 @@ module _ (R : RattleType) where
   Marked = Struct (shape (traces.the_type R))
 
   pub mark_made : {M : Type 1} {𝓤 : Ura M} (𝓛 : Logic 𝓤) → ent 𝓤 (emp 𝓤) (sem 𝓛 (Marked.own_val (tt, tt) (mark ∷ [])))
-  mark_made 𝓛 = makes_shadow 𝓛 (Marked.own_val (tt, tt) (mark ∷ [])) (λ vss. (tt, ((λ uss. (tt, tt)), tt))) ((vstruct vnil ∷ [], tt), (refl, ((tt, (refl, tt)), tt)))
+  mark_made 𝓛 = makes_shadow 𝓛 (Marked.own_val (tt, tt) (mark ∷ [])) (λ vss. (tt, ((λ uss. (tt, tt)), tt)))
+      ((vstruct vnil ∷ [], tt), (refl, ((tt, (refl, tt)), tt)))

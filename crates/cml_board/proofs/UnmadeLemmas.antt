@@ -1,5 +1,6 @@
 -- Nothing was done with a name that was not made.
-use Rattle.std.proofs.Common.{◌≡◌, ℕ, ◌≤◌, true, false, not, ◌&&◌, cond, eqb, List, [], ◌∷◌, ◌++◌, length, Some, None, unwrap_or, IsSome, refl, ap, subst, ◌∙◌, arith}
+use Rattle.std.proofs.Common.{◌≡◌, ℕ, ◌≤◌, true, false, not, ◌&&◌, cond, eqb, List, [], ◌∷◌, ◌++◌, length, Some, None}
+use Rattle.std.proofs.Common.{unwrap_or, IsSome, refl, ap, subst, ◌∙◌, arith}
 use Rattle.std.proofs.lemmas.Bool.{false≢true, ne_eqb}
 use Rattle.std.proofs.lemmas.List.{length-append, length_push}
 use Rattle.std.proofs.lemmas.Option.{slice_get_past, same_Some}
@@ -51,14 +52,18 @@ module _ {M : Type 0} where
 
   -- and leaves nothing in it; nor does one that makes an object before it
   pub unleft : (history : List (Entry M)) (call : Call M) (reply : Reply M) (k : ℕ) → IsMade history call → answer history call ≡ Some reply
-      → length (made history) ≤ k → length (made history ++ if_made reply (begun_by (made history) history call)) ≤ k → left_by call reply k ≡ None
+      → length (made history) ≤ k → length (made history ++ if_made reply (begun_by (made history) history call)) ≤ k
+      → left_by call reply k ≡ None
   unleft history (MVarInit message) (Made name) k is_made answered past later =
       none_at name k (Some message) (ne_eqb name.0 k (λ same.
       absurd (omega (arith, same, ap name_in (same_Some _ _ answered), length_push (made history) mvar, later))))
-  unleft history (Put name message) Done k is_made answered past later = none_at name k (Some message) (unmade_name history name.0 k is_made past)
-  unleft history (Swap name message) (Got old) k is_made answered past later = none_at name k (Some message) (unmade_name history name.0 k is_made past)
+  unleft history (Put name message) Done k is_made answered past later =
+      none_at name k (Some message) (unmade_name history name.0 k is_made past)
+  unleft history (Swap name message) (Got old) k is_made answered past later =
+      none_at name k (Some message) (unmade_name history name.0 k is_made past)
   unleft history (Take name) (Got message) k is_made answered past later = none_at name k None (unmade_name history name.0 k is_made past)
-  unleft history (TakePoll name) (Got message) k is_made answered past later = none_at name k None (unmade_name history name.0 k is_made past)
+  unleft history (TakePoll name) (Got message) k is_made answered past later =
+      none_at name k None (unmade_name history name.0 k is_made past)
   unleft history call reply k is_made answered past later = refl
 
   -- the names that were not made yet are among those that were not made before
@@ -99,5 +104,7 @@ module _ {M : Type 0} where
   pub unmade : (history : List (Entry M)) (k : ℕ) → Lawful history → length (made history) ≤ k
       → facts_of history k ≡ record { origin = None; opened = true; sent = []; got = []; held = None }
   unmade history k lawful past =
-      facts_equal (facts_of history k) (record { origin = None; opened = true; sent = []; got = []; held = None }) (slice_get_past (made history) k past)
-      (unmade_opened history k lawful past) (unmade_sent history k lawful past) (unmade_got history k lawful past) (unmade_held history k lawful past)
+      facts_equal (facts_of history k) (record { origin = None; opened = true; sent = []; got = []; held = None })
+      (slice_get_past (made history) k past)
+      (unmade_opened history k lawful past) (unmade_sent history k lawful past) (unmade_got history k lawful past)
+      (unmade_held history k lawful past)

@@ -2,7 +2,8 @@
 use Rattle.std.proofs.Common.{ℕ, ◌+◌, ◌≤◌, List, [], ◌∷◌, length, slice_get, Option, Some, arith}
 use Rattle.std.proofs.lemmas.List.{length-append}
 use Rattle.cml_board.specs.Prelude.{Call, Reply, Entry, Origin, port, copy_of, made, if_made, begun_by, sent, sent_by, got, entries_in}
-use Rattle.cml_board.specs.declared.call.Call.TheVariants.{NewMailbox, NewChannel, NewPort, CopyPort, NewIVar, NewMVar, MVarInit, Send, Cast}
+use Rattle.cml_board.specs.declared.call.Call.TheVariants.{NewMailbox, NewChannel, NewPort, CopyPort, NewIVar, NewMVar}
+use Rattle.cml_board.specs.declared.call.Call.TheVariants.{MVarInit, Send, Cast}
 use Rattle.cml_board.specs.declared.entry.Reply.TheVariants.{Made}
 use Rattle.cml_board.proofs.ReceivedLemmas.{length-sent_by}
 
@@ -16,7 +17,8 @@ module _ {M : Type 0} where
   length-if_made reply origins = omega arith
 
   -- a call makes an object or sends a message
-  one_by : (call : Call M) (origins : List Origin) (before : List (Entry M)) (o : ℕ) → length (sent_by call o) + length (begun_by origins before call) ≤ 1
+  one_by : (call : Call M) (origins : List Origin) (before : List (Entry M)) (o : ℕ)
+      → length (sent_by call o) + length (begun_by origins before call) ≤ 1
   one_by NewMailbox origins before o = omega arith
   one_by NewChannel origins before o = omega arith
   one_by (NewPort name) origins before o = omega arith

@@ -3,9 +3,11 @@
 -- what it holds and which of its messages are kept. They give what is due to a receiver since the cut, what of that is still
 -- owed, the answer of each call that fits, and the next base. Entries since the cut are listed newest first, as in a
 -- history, and `since ++ past` is the whole history.
-use Rattle.std.specs.Prelude.{ℕ, zero, suc, ◌+◌, ◌-◌, ◌*◌, ◌/◌, Bool, ◌&&◌, min, List, [], ◌∷◌, ◌++◌, length, drop, slice_get, Option, Some, is_some, unwrap_or, if◌then◌else◌}
+use Rattle.std.specs.Prelude.{ℕ, zero, suc, ◌+◌, ◌-◌, ◌*◌, ◌/◌, Bool, ◌&&◌, min, List, [], ◌∷◌, ◌++◌, length, drop, slice_get}
+use Rattle.std.specs.Prelude.{Option, Some, is_some, unwrap_or, if◌then◌else◌}
 use Rattle.cml_board.specs.declared.call.Call.{Call}
-use Rattle.cml_board.specs.declared.call.Call.TheVariants.{NewMailbox, NewChannel, NewPort, CopyPort, ClosePort, NewIVar, NewMVar, MVarInit, Send, Cast, Recv, Poll, Put, Get, GetPoll, Take, TakePoll, Swap}
+use Rattle.cml_board.specs.declared.call.Call.TheVariants.{NewMailbox, NewChannel, NewPort, CopyPort, ClosePort, NewIVar, NewMVar, MVarInit}
+use Rattle.cml_board.specs.declared.call.Call.TheVariants.{Send, Cast, Recv, Poll, Put, Get, GetPoll, Take, TakePoll, Swap}
 use Rattle.cml_board.specs.declared.entry.Reply.{Reply}
 use Rattle.cml_board.specs.declared.entry.Reply.TheVariants.{Done, Made, Nothing, Closed}
 use Rattle.cml_board.specs.declared.entry.Reply.TheVariants as reply
@@ -71,7 +73,8 @@ module _ {M : Type 0} where
   -- how each object began, those of the base and then those made since
   abbrev pub made_since : Base M → List (Entry M) → List Origin
   made_since base [] = base.origins
-  made_since base (entry ∷ before) = made_since base before ++ if_made entry.reply (begun_since base (made_since base before) before entry.call)
+  made_since base (entry ∷ before) =
+      made_since base before ++ if_made entry.reply (begun_since base (made_since base before) before entry.call)
 
   -- how an object began, if it was made
   abbrev pub origin_since : Base M → List (Entry M) → ℕ → Option Origin
@@ -118,7 +121,8 @@ module _ {M : Type 0} where
   abbrev pub least_since : Base M → List (Entry M) → ℕ → ℕ → ℕ
   least_since base since source zero = count_since base since source
   least_since base since source (suc n) =
-      if reads_since base since source n then min (place_since base since n) (least_since base since source n) else least_since base since source n
+      if reads_since base since source n then min (place_since base since n) (least_since base since source n)
+      else least_since base since source n
 
   -- kept is what lies from the start of the least place's chunk on
   abbrev pub kept_since : ℕ → Base M → List (Entry M) → ℕ → ℕ
@@ -126,7 +130,8 @@ module _ {M : Type 0} where
 
   -- those of its messages that are kept
   abbrev pub messages_since : ℕ → Base M → List (Entry M) → ℕ → List M
-  messages_since chunk base since source = drop (kept_since chunk base since source - stream_start base source) (stream_since base since source)
+  messages_since chunk base since source =
+      drop (kept_since chunk base since source - stream_start base source) (stream_since base since source)
 
   -- the next object's name
   abbrev pub name_since : Base M → List (Entry M) → Reply M
@@ -149,7 +154,8 @@ module _ {M : Type 0} where
   answer_since base since (Send name message) = Some Done
   answer_since base since (Cast name message) = Some Done
   answer_since base since (Recv name) = where_open_since base since name.0 (received (owed_since base since name.0))
-  answer_since base since (Poll name) = where_open_since base since name.0 (Some (unwrap_or (received (owed_since base since name.0)) Nothing))
+  answer_since base since (Poll name) =
+      where_open_since base since name.0 (Some (unwrap_or (received (owed_since base since name.0)) Nothing))
   answer_since base since (Put name message) = Some (if is_some (held_since base since name.0) then reply.Put else Done)
   answer_since base since (Get name) = given (held_since base since name.0)
   answer_since base since (GetPoll name) = Some (unwrap_or (given (held_since base since name.0)) Nothing)

@@ -41,7 +41,8 @@ module _ {M : Type 0} where
         → (log : Log M) × (log_at objects source ≡ Some log) × (place_at log key ≡ Some (place_by (facts name)))
     pub owners : (source : ℕ) (log : Log M) (key at : ℕ) → log_at objects source ≡ Some log → place_at log key ≡ Some at
         → (name : ℕ) × (cursor_at objects name ≡ Some (source, key))
-    pub distinct : (name other source key : ℕ) → cursor_at objects name ≡ Some (source, key) → cursor_at objects other ≡ Some (source, key) → name ≡ other
+    pub distinct : (name other source key : ℕ) → cursor_at objects name ≡ Some (source, key)
+        → cursor_at objects other ≡ Some (source, key) → name ≡ other
 
   pub record Keeps (chunk : ℕ) (board : Shown M) : Type 0 where
     pub lawful : Lawful board.history
@@ -52,4 +53,5 @@ module _ {M : Type 0} where
     pub small : chunk ≤ 1024
 
   abbrev pub shown : {A : Type 0} → (A → Log M) → List (Entry M) → List (Entry M) → ℕ → List (Object M A) → ℕ → Shown M
-  shown log past journal limit objects reserved = record { history = reverse journal ++ past; past = past; limit = limit; objects = seen_all log objects; reserved = reserved }
+  shown log past journal limit objects reserved =
+      record { history = reverse journal ++ past; past = past; limit = limit; objects = seen_all log objects; reserved = reserved }

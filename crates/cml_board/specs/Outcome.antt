@@ -57,7 +57,8 @@ module _ {M : Type 0} where
   abbrev pub Performs : ℕ → Bool → Shown M → Shown M → Who → Call M → Result (Option (Reply M)) AllocError → Type 0
   Performs chunk sure old new who call (Ok (Some reply)) = (answer old.history call ≡ Some reply) × AddsEntry old new who call reply
   Performs chunk sure old new who call (Ok None) = (answer old.history call ≡ None) × IsAsBefore old new
-  Performs chunk sure old new who call (Err denied) = (answer old.history call ≢ None) × ¬ (IsSpared chunk sure old call) × IsAsBefore old new
+  Performs chunk sure old new who call (Err denied) = (answer old.history call ≢ None)
+      × ¬ (IsSpared chunk sure old call) × IsAsBefore old new
 
   -- what a call does: an answered one adds just its entry, and every other changes nothing and returns the call
   abbrev pub Applies : ℕ → Bool → Shown M → Shown M → Who → Call M → Outcome M → Type 0

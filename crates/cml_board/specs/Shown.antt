@@ -50,7 +50,8 @@ module _ {M : Type 0} where
 
   -- for every closed port, what was received is how that began
   abbrev pub KeepsClosed : Shown M → Type 0
-  KeepsClosed board = (name channel start : ℕ) → origin_of board.history name ≡ Some (port channel start) → is_open board.history name ≡ false
+  KeepsClosed board = (name channel start : ℕ) → origin_of board.history name ≡ Some (port channel start)
+      → is_open board.history name ≡ false
       → (rest : List M) × (got board.history name ++ rest ≡ due board.history name)
 
   -- the log of a mailbox or a channel: it holds just what was sent from its first kept place on, and that is the one that
@@ -64,7 +65,8 @@ module _ {M : Type 0} where
         → (key : ℕ) × (cursor_at board.objects reader ≡ Some (source, key)) × (place_at log key ≡ Some (place board.history reader))
     pub cursors : (key at : ℕ) → place_at log key ≡ Some at
         → (reader : ℕ) × (reads board.history source reader ≡ true) × (cursor_at board.objects reader ≡ Some (source, key))
-    pub apart : (one two key : ℕ) → cursor_at board.objects one ≡ Some (source, key) → cursor_at board.objects two ≡ Some (source, key) → one ≡ two
+    pub apart : (one two key : ℕ) → cursor_at board.objects one ≡ Some (source, key)
+        → cursor_at board.objects two ≡ Some (source, key) → one ≡ two
 
   -- every mailbox and every channel has such a log
   abbrev pub KeepsLogs : ℕ → Shown M → Type 0
@@ -72,4 +74,5 @@ module _ {M : Type 0} where
 
   -- every variable really holds what the history tells
   abbrev pub KeepsVariables : Shown M → Type 0
-  KeepsVariables board = (name : ℕ) → is_a is_variable board.history name ≡ true → held_at board.objects name ≡ Some (held board.history name)
+  KeepsVariables board = (name : ℕ) → is_a is_variable board.history name ≡ true
+      → held_at board.objects name ≡ Some (held board.history name)

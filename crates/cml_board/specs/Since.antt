@@ -21,12 +21,14 @@ module _ {M : Type 0} where
   -- for every open port, what was received since, followed by what its channel really keeps from its place on, is what is due
   -- to it since: of its channel's messages those from where it stood at the cut, or from its start, on
   abbrev pub PortsSince : ℕ → Shown M → List (Entry M) → Type 0
-  PortsSince chunk board since = (name channel start : ℕ) → origin_of board.history name ≡ Some (port channel start) → is_open board.history name ≡ true
+  PortsSince chunk board since = (name channel start : ℕ) → origin_of board.history name ≡ Some (port channel start)
+      → is_open board.history name ≡ true
       → (own : Reads board name channel) × (got since name ++ owed_items own.log own.key ≡ due_since (base_of chunk board.past) since name)
 
   -- for every closed port, what was received since is how that began
   abbrev pub ClosedSince : ℕ → Shown M → List (Entry M) → Type 0
-  ClosedSince chunk board since = (name channel start : ℕ) → origin_of board.history name ≡ Some (port channel start) → is_open board.history name ≡ false
+  ClosedSince chunk board since = (name channel start : ℕ) → origin_of board.history name ≡ Some (port channel start)
+      → is_open board.history name ≡ false
       → (rest : List M) × (got since name ++ rest ≡ due_since (base_of chunk board.past) since name)
 
   -- the log of a mailbox or a channel holds what was kept at the cut and what was sent since, except what was freed; and it has
@@ -37,7 +39,8 @@ module _ {M : Type 0} where
     pub first : log.first ≡ kept_since chunk (base_of chunk board.past) since source
     pub kept : log.kept ≡ messages_since chunk (base_of chunk board.past) since source
     pub readers : (reader : ℕ) → reads_since (base_of chunk board.past) since source reader ≡ true
-        → (key : ℕ) × (cursor_at board.objects reader ≡ Some (source, key)) × (place_at log key ≡ Some (place_since (base_of chunk board.past) since reader))
+        → (key : ℕ) × (cursor_at board.objects reader ≡ Some (source, key))
+        × (place_at log key ≡ Some (place_since (base_of chunk board.past) since reader))
 
   -- all of this holds of the entries since the last cut
   pub record Since (chunk : ℕ) (board : Shown M) (since : List (Entry M)) : Type 0 where

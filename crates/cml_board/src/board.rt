@@ -1,4 +1,5 @@
-ghost use Rattle.std.specs.Prelude.{◌≡◌, List, ◌^◌, ◌<◌, ◌≤◌, ◌↔◌, ◌&&◌, false, [], ◌++◌, length, reverse, Some, None, option_map, option_copied, IfOk, OnOk, OnErr, IsTrue, MatchOption, MatchBool};
+ghost use Rattle.std.specs.Prelude.{◌≡◌, List, ◌^◌, ◌<◌, ◌≤◌, ◌↔◌, ◌&&◌, false, [], ◌++◌, length, reverse, Some, None, option_map};
+ghost use Rattle.std.specs.Prelude.{option_copied, IfOk, OnOk, OnErr, IsTrue, MatchOption, MatchBool};
 ghost use Rattle.cml_board.specs.Prelude.{Entry, no_entries, entries_in, Lawful, origin_of, kind_of, is_open, is_a, sent_count, got_count};
 ghost use Rattle.cml_board.specs.Prelude.{owed_count, channel_of, start_of, first_of, kept_count, port_is_open, held_by, map_log, log_at};
 ghost use Rattle.cml_board.specs.Prelude.{HasLog, ReadsAt, Stands, IsNoted, IsAsBefore, HasRoom, Cuts, IsSound, base_of, next_base};
@@ -50,7 +51,8 @@ impl<M, L: MessageLog<M>> Model for Board<M, L> {
 
     ghost view = { λ b. shown L.log b.past b.journal.items b.limit b.objects.items (vec_capacity b.journal - vec_len b.journal) };
 
-    ghost invariant = { λ b. Keeps L.CHUNK (shown L.log b.past b.journal.items b.limit b.objects.items (vec_capacity b.journal - vec_len b.journal)) };
+    ghost invariant = { λ b.
+        Keeps L.CHUNK (shown L.log b.past b.journal.items b.limit b.objects.items (vec_capacity b.journal - vec_len b.journal)) };
 }
 
 impl<M: Message, L: MessageLog<M>> Board<M, L> {

@@ -11,7 +11,8 @@ use Rattle.cml_c.specs.Prelude.{told_stopped}
 use Rattle.cml_c.specs.declared.kept.Resource.TheVariants.{Room, Reading, Spent}
 
 -- a handle to a room on this board is written
-pub opens_on : {M : Type 0} (wrap : Resource M → Kept) (restored : RestoredShown M) (from to : Slot) (told : ℕ) (kept : Kept) (room : Box (Stocked M) Global)
+pub opens_on : {M : Type 0} (wrap : Resource M → Kept) (restored : RestoredShown M) (from to : Slot) (told : ℕ)
+    (kept : Kept) (room : Box (Stocked M) Global)
     → IsRoomOn restored room.value.room → kept ≡ wrap (Room room) → Writes kept told from to → OpensOn wrap restored from to told
 opens_on wrap restored from to told kept room on is (inl written) = inl (record {
   done = written.0;
@@ -21,7 +22,8 @@ opens_on wrap restored from to told kept room on is (inl written) = inl (record 
 })
 opens_on wrap restored from to told kept room on is (inr none) = inr none
 
-module _ {M : Type 0} (version : ℕ) (meaning : List ℕ → Option M) (wrap : Resource M → Kept) (limit : ℕ) (from : Slot) (reading : Box (Progress M) Global) where
+module _ {M : Type 0} (version : ℕ) (meaning : List ℕ → Option M) (wrap : Resource M → Kept) (limit : ℕ) (from : Slot)
+    (reading : Box (Progress M) Global) where
   -- a reading gave a board, and so it goes
   pub goes_on : (now : Progress M) (restored : RestoredShown M) (to : Slot) (told : ℕ) → IsLimit limit → now ≡ reading.value
       → ((bytes : List ℕ) → IsSoFar version meaning bytes now → IsRestored version meaning bytes limit restored)
@@ -35,7 +37,8 @@ module _ {M : Type 0} (version : ℕ) (meaning : List ℕ → Option M) (wrap : 
             opened = opened.opened;
             such = record {
               restored = restored;
-              read = subst (λ (p : Progress M). (bytes : List ℕ) → IsSoFar version meaning bytes p → IsRestored version meaning bytes limit restored) same read;
+              read = subst (λ (p : Progress M). (bytes : List ℕ) → IsSoFar version meaning bytes p
+                  → IsRestored version meaning bytes limit restored) same read;
               on = opened.such;
             };
             written = opened.written;
@@ -43,7 +46,8 @@ module _ {M : Type 0} (version : ℕ) (meaning : List ℕ → Option M) (wrap : 
           spent = refl;
         }),
       )
-  goes_on now restored to told limited same read (inr none) = inr (limited, inr (inr (record { code = none.0; kept = refl; slot = none.1 })))
+  goes_on now restored to told limited same read (inr none) =
+      inr (limited, inr (inr (record { code = none.0; kept = refl; slot = none.1 })))
 
   -- it gave none, and is as it was
   pub gives_none : (now new : Progress M) (told : ℕ) → IsLimit limit → now ≡ reading.value → reading.value.halt ≡ None
@@ -56,7 +60,8 @@ module _ {M : Type 0} (version : ℕ) (meaning : List ℕ → Option M) (wrap : 
           never = subst (λ (p : Progress M). (bytes : List ℕ) → IsSoFar version meaning bytes p → ⊥) same stopped.1;
           none = record {
             code = code ∙ ap (λ (h : Option Halt). number (told_stopped h)) (sym running);
-            kept = ap (λ (p : Progress M). Reading (with_value reading p)) (stopped.0 ∙ same) ∙ ap (λ (h : Option Halt). left_stopped reading h) (sym running);
+            kept = ap (λ (p : Progress M). Reading (with_value reading p)) (stopped.0 ∙ same)
+                ∙ ap (λ (h : Option Halt). left_stopped reading h) (sym running);
             slot = refl;
           };
         })),

@@ -35,7 +35,8 @@ number_round reply.Nothing = refl
 number_round reply.Put = refl
 number_round reply.Closed = refl
 
-bytes_round : (reply : Reply (List ℕ)) → slice_get (replies (record { 0 = reply_name reply }) (or_empty (reply_message reply))) (reply_kind reply) ≡ Some reply
+bytes_round : (reply : Reply (List ℕ))
+    → slice_get (replies (record { 0 = reply_name reply }) (or_empty (reply_message reply))) (reply_kind reply) ≡ Some reply
 bytes_round reply.Done = refl
 bytes_round (reply.Made name) = refl
 bytes_round (reply.Got message) = refl

@@ -1,5 +1,6 @@
 -- A call gives a message that needs a block just if the board's readers say that one is there.
-use Rattle.std.proofs.Common.{◌≡◌, ℕ, ◌<◌, ◌≤◌, ◌⊎◌, Bool, true, false, cond, List, [], ◌∷◌, length, Option, Some, None, inl, inr, refl, sym, ap, subst, ◌∙◌, arith}
+use Rattle.std.proofs.Common.{◌≡◌, ℕ, ◌<◌, ◌≤◌, ◌⊎◌, Bool, true, false, cond, List, [], ◌∷◌, length, Option, Some, None}
+use Rattle.std.proofs.Common.{inl, inr, refl, sym, ap, subst, ◌∙◌, arith}
 use Rattle.std.specs.Prelude.{◌&&◌, unwrap_or, IsSome, IfSome, IsTrue, ⊤}
 use Rattle.std.specs.Option.{option_map, option_map_or}
 use Rattle.std.proofs.lemmas.Bool.{false≢true, cases_lt}
@@ -52,7 +53,8 @@ received_owed true false owes message is gives = absurd (not_got Closed message 
 received_owed false opens owes message is gives = absurd (false≢true is)
 
 polled_owed : (receives opens : Bool) (owes : List Message) (message : Message) → receives ≡ true
-    → cond opens (Some (unwrap_or (received owes) Nothing)) (Some Closed) ≡ Some (Got message) → IsOwed (only_if (receives && opens) (length owes))
+    → cond opens (Some (unwrap_or (received owes) Nothing)) (Some Closed) ≡ Some (Got message)
+    → IsOwed (only_if (receives && opens) (length owes))
 polled_owed true true [] message is gives = absurd (not_got Nothing message refl gives)
 polled_owed true true (first ∷ rest) message is gives = omega arith
 polled_owed true false owes message is gives = absurd (not_got Closed message refl gives)
@@ -100,13 +102,20 @@ held_polled false holds is = absurd is
 
 -- a message that is given is there
 pub given_there : (history : List (Entry Message)) (call : Call Message) → Fits history call → IsGiven history call → IsThere history call
-given_there history (Recv name) fits given = received_owed _ (is_open history name.0) (owed history name.0) given.message (is_one is_receiver (kind_of history name.0) fits.0 fits.1) given.answer
-given_there history (Poll name) fits given = polled_owed _ (is_open history name.0) (owed history name.0) given.message (is_one is_receiver (kind_of history name.0) fits.0 fits.1) given.answer
-given_there history (Get name) fits given = looked_held _ (held history name.0) given.message (is_one is_variable (kind_of history name.0) fits.0 fits.1) given.long given.answer
-given_there history (GetPoll name) fits given = polled_held _ (held history name.0) given.message (is_one is_variable (kind_of history name.0) fits.0 fits.1) given.long given.answer
-given_there history (Take name) fits given = looked_held _ (held history name.0) given.message (mvar_is_one (kind_of history name.0) fits.0 fits.1) given.long given.answer
-given_there history (TakePoll name) fits given = polled_held _ (held history name.0) given.message (mvar_is_one (kind_of history name.0) fits.0 fits.1) given.long given.answer
-given_there history (Swap name message) fits given = looked_held _ (held history name.0) given.message (mvar_is_one (kind_of history name.0) fits.0 fits.1) given.long given.answer
+given_there history (Recv name) fits given = received_owed _ (is_open history name.0) (owed history name.0) given.message
+    (is_one is_receiver (kind_of history name.0) fits.0 fits.1) given.answer
+given_there history (Poll name) fits given = polled_owed _ (is_open history name.0) (owed history name.0) given.message
+    (is_one is_receiver (kind_of history name.0) fits.0 fits.1) given.answer
+given_there history (Get name) fits given =
+    looked_held _ (held history name.0) given.message (is_one is_variable (kind_of history name.0) fits.0 fits.1) given.long given.answer
+given_there history (GetPoll name) fits given =
+    polled_held _ (held history name.0) given.message (is_one is_variable (kind_of history name.0) fits.0 fits.1) given.long given.answer
+given_there history (Take name) fits given =
+    looked_held _ (held history name.0) given.message (mvar_is_one (kind_of history name.0) fits.0 fits.1) given.long given.answer
+given_there history (TakePoll name) fits given =
+    polled_held _ (held history name.0) given.message (mvar_is_one (kind_of history name.0) fits.0 fits.1) given.long given.answer
+given_there history (Swap name message) fits given =
+    looked_held _ (held history name.0) given.message (mvar_is_one (kind_of history name.0) fits.0 fits.1) given.long given.answer
 given_there history call fits given = absurd (false≢true (answer_suits history call (Got given.message) given.answer))
 
 -- and one that is there is given
@@ -115,13 +124,19 @@ of_owed : (history : List (Entry Message)) (call : Call Message) → ((message :
 of_owed history call long gives = record { message = gives.0; answer = gives.1; long = long gives.0 }
 
 pub there_given : (history : List (Entry Message)) (call : Call Message) → IsThere history call → IsGiven history call
-there_given history (Recv name) is = of_owed history (Recv name) (λ m. tt) (owed_received _ (is_open history name.0) (owed history name.0) is)
+there_given history (Recv name) is =
+    of_owed history (Recv name) (λ m. tt) (owed_received _ (is_open history name.0) (owed history name.0) is)
 there_given history (Poll name) is = of_owed history (Poll name) (λ m. tt) (owed_polled _ (is_open history name.0) (owed history name.0) is)
-there_given history (Get name) is = let gives = held_looked _ (held history name.0) is in record { message = gives.0; answer = gives.1; long = gives.2 }
-there_given history (GetPoll name) is = let gives = held_polled _ (held history name.0) is in record { message = gives.0; answer = gives.1; long = gives.2 }
-there_given history (Take name) is = let gives = held_looked _ (held history name.0) is in record { message = gives.0; answer = gives.1; long = gives.2 }
-there_given history (TakePoll name) is = let gives = held_polled _ (held history name.0) is in record { message = gives.0; answer = gives.1; long = gives.2 }
-there_given history (Swap name message) is = let gives = held_looked _ (held history name.0) is in record { message = gives.0; answer = gives.1; long = gives.2 }
+there_given history (Get name) is = let gives = held_looked _ (held history name.0) is in
+    record { message = gives.0; answer = gives.1; long = gives.2 }
+there_given history (GetPoll name) is = let gives = held_polled _ (held history name.0) is in
+    record { message = gives.0; answer = gives.1; long = gives.2 }
+there_given history (Take name) is = let gives = held_looked _ (held history name.0) is in
+    record { message = gives.0; answer = gives.1; long = gives.2 }
+there_given history (TakePoll name) is = let gives = held_polled _ (held history name.0) is in
+    record { message = gives.0; answer = gives.1; long = gives.2 }
+there_given history (Swap name message) is = let gives = held_looked _ (held history name.0) is in
+    record { message = gives.0; answer = gives.1; long = gives.2 }
 there_given history call is = absurd is
 
 -- each message of more than 14 bytes may be long

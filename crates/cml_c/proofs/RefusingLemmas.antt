@@ -10,7 +10,8 @@ use Rattle.cml_c.specs.Prelude.{number, Makes, MayMake}
 
 -- it fails with `Gone`, and nothing is changed
 pub is_gone : {M : Type 0} (sure again : Bool) (seat : ℕ) (call : Call M) (code : ℕ) (Gives : Outcome M → Type 0) (room : RoomShown M)
-    → (MayMake again room seat call → ⊥) → code ≡ number Gone → Gives (Refused refusal.Gone call) → Makes sure again seat call code Gives room room
+    → (MayMake again room seat call → ⊥) → code ≡ number Gone → Gives (Refused refusal.Gone call)
+    → Makes sure again seat call code Gives room room
 is_gone sure again seat call code Gives room may_not told gives = record {
   becomes = Refused refusal.Gone call;
   asks = (may_not, refl, refl);

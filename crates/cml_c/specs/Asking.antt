@@ -65,7 +65,8 @@ abbrev pub MayMake : {M : Type 0} → Bool → RoomShown M → ℕ → Call M �
 MayMake again room seat call = MayWant again room seat (want_in call)
 
 -- what becomes of the call in the room, with the code that tells it, and what is given
-pub record Makes {M : Type 0} (sure again : Bool) (seat : ℕ) (call : Call M) (code : ℕ) (Gives : Outcome M → Type 0) (old new : RoomShown M) : Type 0 where
+pub record Makes {M : Type 0} (sure again : Bool) (seat : ℕ) (call : Call M) (code : ℕ) (Gives : Outcome M → Type 0)
+    (old new : RoomShown M) : Type 0 where
   pub becomes : Outcome M
   pub asks : Asks chunk sure (MayMake again old seat call) old new seat call becomes
   pub turns : Turns seat (asked_by seat becomes) (news_by becomes) old new

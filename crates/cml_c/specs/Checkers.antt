@@ -1,5 +1,6 @@
 -- What the check of a journal returns to C.
-use Rattle.std.specs.Prelude.{ℕ, ◌==◌, if◌then◌else◌, ◌≡◌, ◌+◌, ◌<◌, ◌≤◌, ◌^◌, ◌⊎◌, List, [], ◌∷◌, length, drop, slice_get, Option, Some, None, Result, Ok, Err, ⊤}
+use Rattle.std.specs.Prelude.{ℕ, ◌==◌, if◌then◌else◌, ◌≡◌, ◌+◌, ◌<◌, ◌≤◌, ◌^◌, ◌⊎◌, List, [], ◌∷◌, length, drop, slice_get}
+use Rattle.std.specs.Prelude.{Option, Some, None, Result, Ok, Err, ⊤}
 use Rattle.std.specs.Option.{option_map, option_or}
 use Rattle.cml_calls.specs.Prelude.{filled, make_at, give_at, ask_at}
 use Rattle.cml_board.specs.Prelude.{message_of, made_call, given_call, asked_call, Call, Name, Entry, Reply, Who, Feeds, Pauses, count_of}
@@ -40,7 +41,8 @@ FeedsIn entries code old new =
 
 -- the journal has this place, and the entries from there on are fed; or it is shorter
 pub record FeedsFrom {M : Type 0} (journal : List (Entry M)) (place code : ℕ) (old new : Seen M) : Type 0 where
-  pub feeds : ((place ≤ length journal) × FeedsIn (drop place journal) code old new) ⊎ ((length journal < place) × (code ≡ number NoSuch) × (new ≡ old))
+  pub feeds : ((place ≤ length journal) × FeedsIn (drop place journal) code old new)
+      ⊎ ((length journal < place) × (code ≡ number NoSuch) × (new ≡ old))
 
 -- the handle leads to a journal that was taken, which stays, and its entries are fed to a checker; else nothing is changed
 abbrev pub FeedsTaken : {M : Type 0} → ℕ → ℕ → Resource M → Resource M → Seen M → Seen M → Type 0
@@ -113,7 +115,8 @@ pub record CopiesNeither (sent got : List ℕ) (code : ℕ) (old new : Kept) : T
   pub kept : new ≡ old
 
 abbrev pub FeedsParts : Parts → Kept → Kept → ℕ → Type 0
-FeedsParts given old new code = OnBytes (OnChecker (FeedsEntry (entry_with given) code)) ⊤ code old new ⊎ CopiesNeither given.sent given.got code old new
+FeedsParts given old new code = OnBytes (OnChecker (FeedsEntry (entry_with given) code)) ⊤ code old new
+    ⊎ CopiesNeither given.sent given.got code old new
 
 -- the verdict is told, and how many entries were found lawful, and the checker is as it was
 pub record TellsVerdict {M : Type 0} (code after : ℕ) (old new : Seen M) : Type 0 where

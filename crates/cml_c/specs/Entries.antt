@@ -109,7 +109,8 @@ IsJournal room journal = reverse journal ++ room.board.past ≡ room.board.histo
 abbrev pub IsAt : {M : Type 0} → ℕ → RoomShown M → Option (Entry M) → Type 0
 IsAt {M} at room found =
     ((at < entries_in room.board.past) × (found ≡ None))
-    ⊎ ((entries_in room.board.past ≤ at) × (journal : List (Entry M)) × IsJournal room journal × (found ≡ slice_get journal (at - entries_in room.board.past)))
+    ⊎ ((entries_in room.board.past ≤ at) × (journal : List (Entry M)) × IsJournal room journal
+    × (found ≡ slice_get journal (at - entries_in room.board.past)))
 
 -- it is looked for, and written or handed over if it is found, and the room is as it was
 pub record FindsIn (at code : ℕ) (before after : SeryugoEntry) (old new : RoomShown ℕ) : Type 0 where

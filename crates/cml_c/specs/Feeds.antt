@@ -21,7 +21,8 @@ pub record KeepsFeedRings {M : Type 0} (old new : RoomShown M) : Type 0 where
   pub stirs : Stirs MakesNoneDue old new
 
 abbrev pub OpensFeed : {M : Type 0} → (Resource M → Kept) → Bool → Name → ℕ → Slot → Slot → ℕ → ℕ → ℕ → RoomShown M → RoomShown M → Type 0
-OpensFeed wrap sure channel capacity = OpensIn (λ feed. wrap (Feed feed)) (λ old new outcome. OpensAFeed chunk sure old new channel capacity outcome) KeepsFeedRings capacity
+OpensFeed wrap sure channel capacity =
+    OpensIn (λ feed. wrap (Feed feed)) (λ old new outcome. OpensAFeed chunk sure old new channel capacity outcome) KeepsFeedRings capacity
 
 -- this is the next message, which is taken
 pub record IsTaken {M : Type 0} (message : M) (told : ℕ) (old new : FeedShown M) : Type 0 where

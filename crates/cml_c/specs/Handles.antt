@@ -25,9 +25,11 @@ pub record IsWrong {X : Type 0} (same : Type 0) (code : ℕ) (old new : X) : Typ
 
 -- this becomes of what the handle leads to, whatever its messages are: by whether a share of one is never refused, which is so of
 -- numbers and not of bytes, and by what leads to a resource of them
-abbrev pub OnEitherKept : ((M : Type 0) → Bool → (Resource M → Kept) → Type 0 → ℕ → Resource M → Resource M → Type 0) → Type 0 → ℕ → Kept → Kept → Type 0
+abbrev pub OnEitherKept : ((M : Type 0) → Bool → (Resource M → Kept) → Type 0 → ℕ → Resource M → Resource M → Type 0)
+    → Type 0 → ℕ → Kept → Kept → Type 0
 OnEitherKept becomes same code (Numbers old) new = (left : Resource ℕ) × (new ≡ Numbers left) × becomes ℕ true Numbers same code old left
-OnEitherKept becomes same code (Bytes old) new = (left : Resource (List ℕ)) × (new ≡ Bytes left) × becomes (List ℕ) false Bytes same code old left
+OnEitherKept becomes same code (Bytes old) new = (left : Resource (List ℕ)) × (new ≡ Bytes left)
+    × becomes (List ℕ) false Bytes same code old left
 
 abbrev pub OnEither : ((M : Type 0) → Bool → Type 0 → ℕ → Resource M → Resource M → Type 0) → Type 0 → ℕ → Kept → Kept → Type 0
 OnEither becomes same code old new = OnEitherKept (λ M sure wrap. becomes M sure) same code old new
@@ -42,11 +44,13 @@ OnBytes becomes same code (Numbers old) new = IsWrong same code (Numbers old) ne
 OnBytes becomes same code (Bytes old) new = (left : Resource (List ℕ)) × (new ≡ Bytes left) × becomes same code old left
 
 -- the same of two handles whose messages are of one type; if they are not, the call is wrong
-abbrev pub OnBoth : ((M : Type 0) → Bool → ℕ → Resource M → Resource M → Resource M → Resource M → Type 0) → ℕ → Kept → Kept → Kept → Kept → Type 0
+abbrev pub OnBoth : ((M : Type 0) → Bool → ℕ → Resource M → Resource M → Resource M → Resource M → Type 0) → ℕ
+    → Kept → Kept → Kept → Kept → Type 0
 OnBoth becomes code (Numbers old) new (Numbers from) to =
     (left : Resource ℕ) × (new ≡ Numbers left) × (other : Resource ℕ) × (to ≡ Numbers other) × becomes ℕ true code old left from other
 OnBoth becomes code (Bytes old) new (Bytes from) to =
-    (left : Resource (List ℕ)) × (new ≡ Bytes left) × (other : Resource (List ℕ)) × (to ≡ Bytes other) × becomes (List ℕ) false code old left from other
+    (left : Resource (List ℕ)) × (new ≡ Bytes left) × (other : Resource (List ℕ)) × (to ≡ Bytes other)
+    × becomes (List ℕ) false code old left from other
 OnBoth becomes code old new from to = IsWrong (to ≡ from) code old new
 
 -- it is a room, a lane, a feed, a checker or a reading, and this becomes of that; else the call is wrong
@@ -63,11 +67,13 @@ OnFeed {M} becomes same code (Feed old) new = (feed : FeedShown M) × (new ≡ F
 OnFeed becomes same code other new = IsWrong same code other new
 
 abbrev pub OnChecker : {M : Type 0} → (Seen M → Seen M → Type 0) → Type 0 → ℕ → Resource M → Resource M → Type 0
-OnChecker {M} becomes same code (Checker old) new = (checker : Box (Seen M) Global) × (new ≡ Checker checker) × becomes old.value checker.value
+OnChecker {M} becomes same code (Checker old) new = (checker : Box (Seen M) Global)
+    × (new ≡ Checker checker) × becomes old.value checker.value
 OnChecker becomes same code other new = IsWrong same code other new
 
 abbrev pub OnReading : {M : Type 0} → (Progress M → Progress M → Type 0) → Type 0 → ℕ → Resource M → Resource M → Type 0
-OnReading {M} becomes same code (Reading old) new = (reading : Box (Progress M) Global) × (new ≡ Reading reading) × becomes old.value reading.value
+OnReading {M} becomes same code (Reading old) new = (reading : Box (Progress M) Global)
+    × (new ≡ Reading reading) × becomes old.value reading.value
 OnReading becomes same code other new = IsWrong same code other new
 
 -- it is a journal that was taken, which stays, and this is so of its entries; else the call is wrong

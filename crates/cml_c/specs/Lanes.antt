@@ -29,7 +29,8 @@ LeavesOpened wrap from to (Ok opened) = to.kept ≡ Some (wrap opened.0)
 LeavesOpened wrap from to (Err refusal) = to ≡ from
 
 -- this became of the opening, and of the rings and the seats
-pub record Opens {M X : Type 0} (wrap : X → Kept) (becomes : FloorShown M → FloorShown M → Result (X × ℕ) Refusal → Type 0) (Leaves : RoomShown M → RoomShown M → Type 0) (from to : Slot) (code before after : ℕ) (old new : RoomShown M) : Type 0 where
+pub record Opens {M X : Type 0} (wrap : X → Kept) (becomes : FloorShown M → FloorShown M → Result (X × ℕ) Refusal → Type 0)
+    (Leaves : RoomShown M → RoomShown M → Type 0) (from to : Slot) (code before after : ℕ) (old new : RoomShown M) : Type 0 where
   pub outcome : Result (X × ℕ) Refusal
   pub floor : becomes (floor_of old) (floor_of new) outcome
   pub seats : Leaves old new
@@ -45,9 +46,11 @@ pub record NotOpened {M : Type 0} (reason : Code) (from to : Slot) (code before 
   pub slot : to ≡ from
 
 -- the capacity is in its bounds, and this became of the opening, or there is no memory for the handle; or it is out of them
-abbrev pub OpensIn : {M X : Type 0} → (X → Kept) → (FloorShown M → FloorShown M → Result (X × ℕ) Refusal → Type 0) → (RoomShown M → RoomShown M → Type 0) → ℕ → Slot → Slot → ℕ → ℕ → ℕ → RoomShown M → RoomShown M → Type 0
+abbrev pub OpensIn : {M X : Type 0} → (X → Kept) → (FloorShown M → FloorShown M → Result (X × ℕ) Refusal → Type 0)
+    → (RoomShown M → RoomShown M → Type 0) → ℕ → Slot → Slot → ℕ → ℕ → ℕ → RoomShown M → RoomShown M → Type 0
 OpensIn wrap becomes Leaves capacity from to code before after old new =
-    (IsCapacity capacity × (Opens wrap becomes Leaves from to code before after old new ⊎ NotOpened NoMemory from to code before after old new))
+    (IsCapacity capacity
+    × (Opens wrap becomes Leaves from to code before after old new ⊎ NotOpened NoMemory from to code before after old new))
     ⊎ (¬ (IsCapacity capacity) × NotOpened OutOfBounds from to code before after old new)
 
 -- the rings of the open lanes stay, and the seats too
@@ -56,7 +59,8 @@ pub record KeepsLaneRings {M : Type 0} (old new : RoomShown M) : Type 0 where
   pub kept : KeepsSeats old new
 
 abbrev pub OpensLane : {M : Type 0} → (Resource M → Kept) → Name → ℕ → Slot → Slot → ℕ → ℕ → ℕ → RoomShown M → RoomShown M → Type 0
-OpensLane wrap target capacity = OpensIn (λ lane. wrap (Lane lane)) (λ old new outcome. OpensALane old new target capacity outcome) KeepsLaneRings capacity
+OpensLane wrap target capacity =
+    OpensIn (λ lane. wrap (Lane lane)) (λ old new outcome. OpensALane old new target capacity outcome) KeepsLaneRings capacity
 
 -- the code of a message that is sent
 abbrev pub told_sent : {X : Type 0} → Result ⊤ X → Code

@@ -47,14 +47,16 @@ HandsHeld (Some None) code from to = (code ≡ number Nothing) × (to ≡ from)
 HandsHeld None code from to = (code ≡ number NoSuch) × (to ≡ from)
 
 -- the call needs a block, and there is no memory for it: nothing is changed
-pub record HasNoMemory (again : Bool) (seat : ℕ) (call : Call (List ℕ)) (from to : SeryugoBytes) (code : ℕ) (old new : RoomShown (List ℕ)) : Type 0 where
+pub record HasNoMemory (again : Bool) (seat : ℕ) (call : Call (List ℕ)) (from to : SeryugoBytes) (code : ℕ)
+    (old new : RoomShown (List ℕ)) : Type 0 where
   pub told : code ≡ number NoMemory
   pub needs : NeedsBlock again seat call old
   pub written : to ≡ from
   pub room : new ≡ old
 
 -- the call is made, or has no memory
-pub record MakesBytes (again : Bool) (seat : ℕ) (call : Call (List ℕ)) (code : ℕ) (from to : SeryugoBytes) (old new : RoomShown (List ℕ)) : Type 0 where
+pub record MakesBytes (again : Bool) (seat : ℕ) (call : Call (List ℕ)) (code : ℕ) (from to : SeryugoBytes)
+    (old new : RoomShown (List ℕ)) : Type 0 where
   pub becomes : Makes false again seat call code (HandsOutcome from to) old new ⊎ HasNoMemory again seat call from to code old new
 
 -- a call in a room of bytes, with the content before and after of the place where a message is handed over
@@ -66,7 +68,8 @@ abbrev pub NotCopied : List ℕ → ℕ → Type 0
 NotCopied bytes code = ((code ≡ number NoMemory) × IsLong bytes) ⊎ ((code ≡ number OutOfBounds) × IsTooLong bytes)
 
 -- they were not copied for a call that the seat may make: nothing is changed
-pub record CopiesNone {M : Type 0} (again : Bool) (seat : ℕ) (bytes : List ℕ) (call : Call M) (same : Type 0) (code : ℕ) (old new : RoomShown M) : Type 0 where
+pub record CopiesNone {M : Type 0} (again : Bool) (seat : ℕ) (bytes : List ℕ) (call : Call M) (same : Type 0) (code : ℕ)
+    (old new : RoomShown M) : Type 0 where
   pub may : MayMake again old seat call
   pub refused : NotCopied bytes code
   pub unwritten : same
@@ -75,7 +78,8 @@ pub record CopiesNone {M : Type 0} (again : Bool) (seat : ℕ) (bytes : List ℕ
 -- the bytes are copied, and the call is made with them, and a name that it gives is written; or they are not copied
 abbrev pub MakesCopied : ℕ → List ℕ → Call (List ℕ) → ℕ → ℕ → ℕ → RoomShown (List ℕ) → RoomShown (List ℕ) → Type 0
 MakesCopied seat bytes call code before after old new =
-    Makes false false seat call code (λ becomes. after ≡ named_outcome before becomes) old new ⊎ CopiesNone false seat bytes call (after ≡ before) code old new
+    Makes false false seat call code (λ becomes. after ≡ named_outcome before becomes) old new
+    ⊎ CopiesNone false seat bytes call (after ≡ before) code old new
 
 -- the same in the room that a handle leads to
 abbrev pub FillsBytes : ℕ → List ℕ → Call (List ℕ) → Kept → Kept → ℕ → ℕ → ℕ → Type 0
@@ -86,7 +90,8 @@ FillsBytes seat bytes call old new code before after =
 abbrev pub SendsBytes : ℕ → List ℕ → Call (List ℕ) → Kept → Kept → ℕ → Type 0
 SendsBytes seat bytes call old new code = (after : ℕ) × FillsBytes seat bytes call old new code 0 after
 
-abbrev pub SwapsCopied : Bool → ℕ → List ℕ → Call (List ℕ) → ℕ → SeryugoBytes → SeryugoBytes → RoomShown (List ℕ) → RoomShown (List ℕ) → Type 0
+abbrev pub SwapsCopied : Bool → ℕ → List ℕ → Call (List ℕ) → ℕ → SeryugoBytes → SeryugoBytes
+    → RoomShown (List ℕ) → RoomShown (List ℕ) → Type 0
 SwapsCopied again seat bytes call code from to old new =
     MakesBytes again seat call code from to old new ⊎ CopiesNone again seat bytes call (to ≡ from) code old new
 

@@ -49,8 +49,10 @@ pub record Takes {M : Type 0} (version : ℕ) (meaning : List ℕ → Option M) 
 
 -- the same of whichever reading a handle leads to
 abbrev pub TakesPart : List ℕ → ℕ → Kept → Kept → Type 0
-TakesPart bytes code (Numbers old) new = (left : Resource ℕ) × (new ≡ Numbers left) × OnReading (Takes 1 number_of bytes code) ⊤ code old left
-TakesPart bytes code (Bytes old) new = (left : Resource (List ℕ)) × (new ≡ Bytes left) × OnReading (Takes 2 message_of_word bytes code) ⊤ code old left
+TakesPart bytes code (Numbers old) new = (left : Resource ℕ) × (new ≡ Numbers left)
+    × OnReading (Takes 1 number_of bytes code) ⊤ code old left
+TakesPart bytes code (Bytes old) new = (left : Resource (List ℕ)) × (new ≡ Bytes left)
+    × OnReading (Takes 2 message_of_word bytes code) ⊤ code old left
 
 -- how many entries are lawful, and how many lines have ended
 abbrev pub entries_read : {M : Type 0} → Progress M → ℕ
@@ -75,7 +77,8 @@ told_end None false = Torn
 pub record EndsSo {M : Type 0} (version : ℕ) (meaning : List ℕ → Option M) (code : ℕ) (old new : Progress M) : Type 0 where
   pub reading : new ≡ old
   pub told : code ≡ number (told_end old.halt (is_whole old))
-  pub whole : (bytes : List ℕ) → IsSoFar version meaning bytes old → (code ≡ number Done) ↔ IsLawfulJournal version meaning bytes (count_of old.checker)
+  pub whole : (bytes : List ℕ) → IsSoFar version meaning bytes old
+      → (code ≡ number Done) ↔ IsLawfulJournal version meaning bytes (count_of old.checker)
 
 -- the same of whichever reading a handle leads to
 abbrev pub TellsEnd : ℕ → Kept → Kept → Type 0

@@ -30,7 +30,8 @@ pub record IsRoomOn {M : Type 0} (restored : RestoredShown M) (room : RoomShown 
 -- a handle to such a room is written; or there is no memory, and the slot is as it was
 abbrev pub OpensOn : {M : Type 0} → (Resource M → Kept) → RestoredShown M → Slot → Slot → ℕ → Type 0
 OpensOn {M} wrap restored from to told =
-    WritesNew (λ (stocked : Stocked M). IsRoomOn restored stocked.room) (λ room. wrap (Room room)) told to ⊎ ((told ≡ number NoMemory) × (to ≡ from))
+    WritesNew (λ (stocked : Stocked M). IsRoomOn restored stocked.room) (λ room. wrap (Room room)) told to
+    ⊎ ((told ≡ number NoMemory) × (to ≡ from))
 
 -- what C gets of a reading that has stopped, and what is left of it
 abbrev pub told_stopped : Option Halt → Code
@@ -59,7 +60,8 @@ module _ {M : Type 0} (version : ℕ) (meaning : List ℕ → Option M) where
     pub on : IsRoomOn restored room
 
   -- a handle to such a room is written, and the reading is spent
-  pub record OpensRoom (wrap : Resource M → Kept) (limit : ℕ) (to : Slot) (reading : Progress M) (left : Resource M) (told : ℕ) : Type 0 where
+  pub record OpensRoom (wrap : Resource M → Kept) (limit : ℕ) (to : Slot) (reading : Progress M)
+      (left : Resource M) (told : ℕ) : Type 0 where
     pub opened : WritesNew (λ (stocked : Stocked M). GoesOn reading limit stocked.room) (λ room. wrap (Room room)) told to
     pub spent : left ≡ Spent
 
@@ -72,7 +74,8 @@ module _ {M : Type 0} (version : ℕ) (meaning : List ℕ → Option M) where
   abbrev pub RestoresBy : (Resource M → Kept) → ℕ → Slot → Slot → Box (Progress M) Global → Resource M → ℕ → Type 0
   RestoresBy wrap limit from to reading left told =
       (¬ (IsLimit limit) × OpensNone OutOfBounds (Reading reading) from to left told)
-      ⊎ (IsLimit limit × (OpensRoom wrap limit to reading.value left told ⊎ HasStopped reading from to left told ⊎ OpensNone NoMemory Spent from to left told))
+      ⊎ (IsLimit limit × (OpensRoom wrap limit to reading.value left told ⊎ HasStopped reading from to left told
+      ⊎ OpensNone NoMemory Spent from to left told))
 
   -- the handle leads to a reading, and this becomes of that; else the call is wrong
   abbrev pub Restores : (Resource M → Kept) → ℕ → Slot → Slot → ℕ → Resource M → Resource M → Type 0
@@ -81,5 +84,7 @@ module _ {M : Type 0} (version : ℕ) (meaning : List ℕ → Option M) where
 
 -- the same of whatever a handle leads to
 abbrev pub RestoresKept : ℕ → Slot → Slot → ℕ → Kept → Kept → Type 0
-RestoresKept limit from to told (Numbers old) new = (left : Resource ℕ) × (new ≡ Numbers left) × Restores 1 number_of Numbers limit from to told old left
-RestoresKept limit from to told (Bytes old) new = (left : Resource (List ℕ)) × (new ≡ Bytes left) × Restores 2 message_of_word Bytes limit from to told old left
+RestoresKept limit from to told (Numbers old) new = (left : Resource ℕ) × (new ≡ Numbers left)
+    × Restores 1 number_of Numbers limit from to told old left
+RestoresKept limit from to told (Bytes old) new = (left : Resource (List ℕ)) × (new ≡ Bytes left)
+    × Restores 2 message_of_word Bytes limit from to told old left

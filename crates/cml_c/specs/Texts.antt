@@ -30,4 +30,5 @@ HandsTaken version text at from to code old new = OnJournal (HandsText version t
 -- the same of whichever journal a handle leads to: numbers are written in version 1, as their digits, and bytes in version 2
 abbrev pub HandsJournal : ℕ → SeryugoBytes → SeryugoBytes → ℕ → Kept → Kept → Type 0
 HandsJournal at from to code (Numbers old) new = (left : Resource ℕ) × (new ≡ Numbers left) × HandsTaken 1 decimal at from to code old left
-HandsJournal at from to code (Bytes old) new = (left : Resource (List ℕ)) × (new ≡ Bytes left) × HandsTaken 2 bytes_text at from to code old left
+HandsJournal at from to code (Bytes old) new = (left : Resource (List ℕ)) × (new ≡ Bytes left)
+    × HandsTaken 2 bytes_text at from to code old left

@@ -172,7 +172,8 @@ pub extern "C" fn seryugo_bytes_swap_from(
     is_again: bool,
     held: &mut SeryugoBytes,
 ) -> u32
-    ensures { SwapsBytes is_again seat message.now (Swap (record { 0 = variable }) message.now) room.old.kept room.new.kept result held.old held.new }
+    ensures { SwapsBytes is_again seat message.now
+        (Swap (record { 0 = variable }) message.now) room.old.kept room.new.kept result held.old held.new }
 {
     on_one!(room, Bytes(Room(room)) => swap(alloc, room, seat, is_again, Name(variable), message, held))
 }

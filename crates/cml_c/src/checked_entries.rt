@@ -34,7 +34,9 @@ pub extern "C" fn seryugo_bytes_checker_feed_from(
     name: u64,
     got: &[u8],
 ) -> u32
-    ensures { FeedsParts (record { maker = maker.now; call = call; object = object; sent = sent.now; reply = reply; name = name; got = got.now }) checker.old.kept checker.new.kept result }
+    ensures { FeedsParts
+        (record { maker = maker.now; call = call; object = object; sent = sent.now; reply = reply; name = name; got = got.now })
+        checker.old.kept checker.new.kept result }
 {
     let sent = match copied(alloc, sent) {
         Ok(sent) => sent,

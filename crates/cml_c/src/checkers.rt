@@ -116,7 +116,8 @@ fn code_of_verdict(verdict: Result<(), u64>) -> Code
 /// Writes how many entries were found lawful. Returns `Unlawful` if the entry behind them is not.
 #[unsafe(no_mangle)]
 pub extern "C" fn seryugo_checker_verdict(checker: &mut Handle, count: &mut u64) -> u32
-    ensures { OnEither (λ M sure. OnChecker (TellsVerdict result count.new)) (count.new ≡ count.old) result checker.old.kept checker.new.kept }
+    ensures { OnEither (λ M sure. OnChecker (TellsVerdict result count.new))
+        (count.new ≡ count.old) result checker.old.kept checker.new.kept }
 {
     on_either!(checker, Checker(checker) => tell_verdict(checker, count))
 }

@@ -27,7 +27,9 @@ pub extern "C" fn seryugo_feed_open(
     feed: &mut Slot,
     feed_number: &mut u64,
 ) -> u32
-    ensures { OnEitherKept (λ M sure wrap. OnRoom (OpensFeed wrap sure (record { 0 = channel }) capacity feed.old feed.new result feed_number.old feed_number.new)) ((feed_number.new ≡ feed_number.old) × (feed.new ≡ feed.old)) result room.old.kept room.new.kept }
+    ensures { OnEitherKept (λ M sure wrap.
+        OnRoom (OpensFeed wrap sure (record { 0 = channel }) capacity feed.old feed.new result feed_number.old feed_number.new))
+        ((feed_number.new ≡ feed_number.old) × (feed.new ≡ feed.old)) result room.old.kept room.new.kept }
 {
     for_both!(room.as_mut(), resource => open(alloc, resource, Name(channel), capacity, feed, feed_number))
 }
@@ -40,7 +42,8 @@ fn open<M: Sort>(
     feed: &mut Slot,
     feed_number: &mut u64,
 ) -> u32
-    ensures { OnRoom (OpensFeed M.KEPT M.SURE channel capacity feed.old feed.new result feed_number.old feed_number.new) ((feed_number.new ≡ feed_number.old) × (feed.new ≡ feed.old)) result resource.old resource.new }
+    ensures { OnRoom (OpensFeed M.KEPT M.SURE channel capacity feed.old feed.new result feed_number.old feed_number.new)
+        ((feed_number.new ≡ feed_number.old) × (feed.new ≡ feed.old)) result resource.old resource.new }
 {
     match resource {
         Resource::Room(room) => open_in(
@@ -86,7 +89,8 @@ fn open_in<M: Sort>(
 /// Receives what an open feed is owed into its ring, while that has a free slot, and writes how many messages.
 #[unsafe(no_mangle)]
 pub extern "C" fn seryugo_feed_pump(room: &mut Handle, feed_number: u64, count: &mut u64) -> u32
-    ensures { OnEither (λ M sure. OnRoom (Counts (Pumps chunk sure feed_number) (Stirs MakesNoneDue) result count.old count.new)) (count.new ≡ count.old) result room.old.kept room.new.kept }
+    ensures { OnEither (λ M sure. OnRoom (Counts (Pumps chunk sure feed_number) (Stirs MakesNoneDue) result count.old count.new))
+        (count.new ≡ count.old) result room.old.kept room.new.kept }
 {
     on_either!(room, Room(room) => pump(&mut room.room, feed_number, count))
 }
@@ -100,7 +104,8 @@ fn pump<M: Message>(room: &mut RoomOf<M>, feed_number: u64, count: &mut u64) -> 
 /// Takes the next number that was pumped, without a lock. Returns `Nothing` if none is seen.
 #[unsafe(no_mangle)]
 pub extern "C" fn seryugo_feed_recv(feed: &mut Handle, message: &mut u64) -> u32
-    ensures { OnNumbers (OnFeed (TakesNumber result message.old message.new)) (message.new ≡ message.old) result feed.old.kept feed.new.kept }
+    ensures { OnNumbers (OnFeed (TakesNumber result message.old message.new))
+        (message.new ≡ message.old) result feed.old.kept feed.new.kept }
 {
     on_one!(feed, Numbers(Feed(feed)) => match feed.recv() {
         Some(taken) => write_number(taken, message),

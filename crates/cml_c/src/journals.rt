@@ -49,7 +49,8 @@ pub extern "C" fn seryugo_take_journal(
     journal: &mut Slot,
     count: &mut u64,
 ) -> u32
-    ensures { OnEitherKept (λ M sure wrap. OnRoom (TakesJournal wrap journal.old journal.new result count.old count.new)) ((count.new ≡ count.old) × (journal.new ≡ journal.old)) result room.old.kept room.new.kept }
+    ensures { OnEitherKept (λ M sure wrap. OnRoom (TakesJournal wrap journal.old journal.new result count.old count.new))
+        ((count.new ≡ count.old) × (journal.new ≡ journal.old)) result room.old.kept room.new.kept }
 {
     for_both!(room.as_mut(), resource => take(alloc, resource, journal, count))
 }
@@ -60,7 +61,8 @@ fn take<M: Sort>(
     journal: &mut Slot,
     count: &mut u64,
 ) -> u32
-    ensures { OnRoom (TakesJournal M.KEPT journal.old journal.new result count.old count.new) ((count.new ≡ count.old) × (journal.new ≡ journal.old)) result resource.old resource.new }
+    ensures { OnRoom (TakesJournal M.KEPT journal.old journal.new result count.old count.new)
+        ((count.new ≡ count.old) × (journal.new ≡ journal.old)) result resource.old resource.new }
 {
     match resource {
         Resource::Room(room) => take_in(alloc, &mut room.room, journal, count),
@@ -93,7 +95,8 @@ pub extern "C" fn seryugo_taken_entry(
     place: u64,
     entry: &mut SeryugoEntry,
 ) -> u32
-    ensures { OnNumbers (OnJournal (λ entries. Finds (slice_get entries place) result entry.old entry.new)) (entry.new ≡ entry.old) result journal.old.kept journal.new.kept }
+    ensures { OnNumbers (OnJournal (λ entries. Finds (slice_get entries place) result entry.old entry.new))
+        (entry.new ≡ entry.old) result journal.old.kept journal.new.kept }
 {
     on_one!(journal, Numbers(Journal(journal)) => write_found(entry_of_place(journal, place), entry))
 }
@@ -106,7 +109,8 @@ pub extern "C" fn seryugo_bytes_taken_entry(
     place: u64,
     entry: &mut SeryugoBytesEntry,
 ) -> u32
-    ensures { OnBytes (OnJournal (λ entries. FindsBytes (slice_get entries place) result entry.old entry.new)) (entry.new ≡ entry.old) result journal.old.kept journal.new.kept }
+    ensures { OnBytes (OnJournal (λ entries. FindsBytes (slice_get entries place) result entry.old entry.new))
+        (entry.new ≡ entry.old) result journal.old.kept journal.new.kept }
 {
     on_one!(journal, Bytes(Journal(journal)) => hand_over_found(alloc, entry_of_place(journal, place), entry))
 }

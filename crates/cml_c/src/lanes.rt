@@ -29,7 +29,9 @@ pub extern "C" fn seryugo_lane_open(
     lane: &mut Slot,
     lane_number: &mut u64,
 ) -> u32
-    ensures { OnEitherKept (λ M sure wrap. OnRoom (OpensLane wrap (record { 0 = target }) capacity lane.old lane.new result lane_number.old lane_number.new)) ((lane_number.new ≡ lane_number.old) × (lane.new ≡ lane.old)) result room.old.kept room.new.kept }
+    ensures { OnEitherKept
+        (λ M sure wrap. OnRoom (OpensLane wrap (record { 0 = target }) capacity lane.old lane.new result lane_number.old lane_number.new))
+        ((lane_number.new ≡ lane_number.old) × (lane.new ≡ lane.old)) result room.old.kept room.new.kept }
 {
     for_both!(room.as_mut(), resource => open(alloc, resource, Name(target), capacity, lane, lane_number))
 }
@@ -42,7 +44,8 @@ fn open<M: Sort>(
     lane: &mut Slot,
     lane_number: &mut u64,
 ) -> u32
-    ensures { OnRoom (OpensLane M.KEPT target capacity lane.old lane.new result lane_number.old lane_number.new) ((lane_number.new ≡ lane_number.old) × (lane.new ≡ lane.old)) result resource.old resource.new }
+    ensures { OnRoom (OpensLane M.KEPT target capacity lane.old lane.new result lane_number.old lane_number.new)
+        ((lane_number.new ≡ lane_number.old) × (lane.new ≡ lane.old)) result resource.old resource.new }
 {
     match resource {
         Resource::Room(room) => open_in(alloc, &mut room.room, target, capacity, lane, lane_number),
@@ -181,7 +184,8 @@ fn close_end<M: Message>(room: &mut RoomOf<M>, end: LaneEnd<M>) -> (Resource<M>,
 /// Moves the messages that it sees on an open lane into the journal, and writes how many.
 #[unsafe(no_mangle)]
 pub extern "C" fn seryugo_lane_drain(room: &mut Handle, lane_number: u64, count: &mut u64) -> u32
-    ensures { OnEither (λ M sure. OnRoom (Counts (Drains chunk sure lane_number) (Stirs MakesFewByOne) result count.old count.new)) (count.new ≡ count.old) result room.old.kept room.new.kept }
+    ensures { OnEither (λ M sure. OnRoom (Counts (Drains chunk sure lane_number) (Stirs MakesFewByOne) result count.old count.new))
+        (count.new ≡ count.old) result room.old.kept room.new.kept }
 {
     on_either!(room, Room(room) => drain(&mut room.room, lane_number, count))
 }
@@ -196,7 +200,8 @@ fn drain<M: Message>(room: &mut RoomOf<M>, lane_number: u64, count: &mut u64) ->
 /// if one was, but not the first.
 #[unsafe(no_mangle)]
 pub extern "C" fn seryugo_lane_drop(room: &mut Handle, lane_number: u64, count: &mut u64) -> u32
-    ensures { OnEither (λ M sure. OnRoom (DropsLane sure lane_number result count.old count.new)) (count.new ≡ count.old) result room.old.kept room.new.kept }
+    ensures { OnEither (λ M sure. OnRoom (DropsLane sure lane_number result count.old count.new))
+        (count.new ≡ count.old) result room.old.kept room.new.kept }
 {
     on_either!(room, Room(room) => drop_lane(&mut room.room, lane_number, count))
 }

@@ -1,5 +1,5 @@
-//! Rooms, lanes and feeds for C and whatever calls C. Messages are 64-bit numbers, or bytes. `include/seryugo.h` says in plain words what the
-//! clauses say here.
+//! Rooms, lanes and feeds for C and whatever calls C. Messages are 64-bit numbers, or bytes. `include/seryugo.h` says
+//! in plain words what the clauses say here.
 #![tactic(auto)]
 
 mod asking;

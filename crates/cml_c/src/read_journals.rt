@@ -74,7 +74,8 @@ pub(crate) fn code_of_halt(halt: Halt) -> Code
 /// Writes how many entries were read and are lawful.
 #[unsafe(no_mangle)]
 pub extern "C" fn seryugo_reading_entries(reading: &mut Handle, count: &mut u64) -> u32
-    ensures { OnEither (λ M sure. OnReading (Tells entries_read result count.new)) (count.new ≡ count.old) result reading.old.kept reading.new.kept }
+    ensures { OnEither (λ M sure. OnReading (Tells entries_read result count.new))
+        (count.new ≡ count.old) result reading.old.kept reading.new.kept }
 {
     on_either!(reading, Reading(reading) => write_number(reading.entries(), count))
 }
@@ -82,7 +83,8 @@ pub extern "C" fn seryugo_reading_entries(reading: &mut Handle, count: &mut u64)
 /// Writes how many lines were read to their ends, modulo 2^64.
 #[unsafe(no_mangle)]
 pub extern "C" fn seryugo_reading_lines(reading: &mut Handle, lines: &mut u64) -> u32
-    ensures { OnEither (λ M sure. OnReading (Tells lines_read result lines.new)) (lines.new ≡ lines.old) result reading.old.kept reading.new.kept }
+    ensures { OnEither (λ M sure. OnReading (Tells lines_read result lines.new))
+        (lines.new ≡ lines.old) result reading.old.kept reading.new.kept }
 {
     on_either!(reading, Reading(reading) => write_number(reading.lines(), lines))
 }

@@ -163,7 +163,8 @@ fn bare(name: Option<Name>) -> Option<u64>
 /// What a variable of a room of numbers holds. Returns `Nothing` if it is empty. Fails with `NoSuch` if no variable has the name.
 #[unsafe(no_mangle)]
 pub extern "C" fn seryugo_held(room: &mut Handle, variable: u64, message: &mut u64) -> u32
-    ensures { OnNumbers (OnRoom (Holds variable result message.old message.new)) (message.new ≡ message.old) result room.old.kept room.new.kept }
+    ensures { OnNumbers (OnRoom (Holds variable result message.old message.new))
+        (message.new ≡ message.old) result room.old.kept room.new.kept }
 {
     on_one!(room, Numbers(Room(room)) => tell_held(room.room.board().held(Name(variable)), message))
 }
@@ -176,7 +177,8 @@ pub extern "C" fn seryugo_bytes_held(
     variable: u64,
     message: &mut SeryugoBytes,
 ) -> u32
-    ensures { OnBytes (OnRoom (HoldsBytes variable result message.old message.new)) (message.new ≡ message.old) result room.old.kept room.new.kept }
+    ensures { OnBytes (OnRoom (HoldsBytes variable result message.old message.new))
+        (message.new ≡ message.old) result room.old.kept room.new.kept }
 {
     on_one!(room, Bytes(Room(room)) => hand_over_held(alloc, room.room.board().held(Name(variable)), message))
 }

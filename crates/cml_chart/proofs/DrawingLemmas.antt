@@ -9,10 +9,12 @@ use Rattle.cml_chart.specs.Prelude.{Report, told, wrong_at, told_from, nothing_y
 too_long : (text : List ℕ) (r : Report) → told text ≡ shown_report r → 33554433 ≤ length text → ⊥
 too_long text r is long =
     let test = lt-ltb 33554432 (length text) (omega (arith, long)) in
-    let bad : wrong_at 0 what.TooLong ≡ shown_report r = sym (ap (λ t. if t then wrong_at 0 what.TooLong else told_from nothing_yet 1 (parts_of text)) test) ∙ is in
+    let bad : wrong_at 0 what.TooLong ≡ shown_report r =
+    sym (ap (λ t. if t then wrong_at 0 what.TooLong else told_from nothing_yet 1 (parts_of text)) test) ∙ is in
     cc
 
-pub drawn_of : (script : Option Lines) (old new : Option (List ℕ)) (text : List ℕ) (r : Report) (course : Course) → IsRead old new text → told text ≡ shown_report r → course.report ≡ r → IsCourse script course → IsDrawnOf script old new
+pub drawn_of : (script : Option Lines) (old new : Option (List ℕ)) (text : List ℕ) (r : Report) (course : Course) → IsRead old new text
+    → told text ≡ shown_report r → course.report ≡ r → IsCourse script course → IsDrawnOf script old new
 drawn_of script old new text r course read says same is = record {
   text = text;
   read = read.0;

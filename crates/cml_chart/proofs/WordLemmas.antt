@@ -15,9 +15,12 @@ with_colon (b ∷ c ∷ bs) = ap (option_map (λ front. b ∷ front)) (with_colo
 without_colon : (word : List ℕ) → ((front : List ℕ) → word ≢ front ++ 58 ∷ []) → before_colon word ≡ None
 without_colon [] never = refl
 without_colon (b ∷ []) never = ap (λ t. if t then Some [] else None) (ne_eqb b 58 (λ e. never [] (ap (λ x. x ∷ []) e)))
-without_colon (b ∷ c ∷ bs) never = ap (option_map (λ front. b ∷ front)) (without_colon (c ∷ bs) (λ front e. never (b ∷ front) (ap (λ l. b ∷ l) e)))
+without_colon (b ∷ c ∷ bs) never =
+    ap (option_map (λ front. b ∷ front)) (without_colon (c ∷ bs) (λ front e. never (b ∷ front) (ap (λ l. b ∷ l) e)))
 
 -- what `strip_suffix` says of a word at a colon
-pub stripped : (word : List ℕ) (r : Option (Bor (List ℕ))) → MatchOption r (FindsCharSuffix 58 word None) (λ x. StripsSuffix (FindsCharSuffix 58) word x.now) → option_map (λ (x : Bor (List ℕ)). x.now) r ≡ before_colon word
+pub stripped : (word : List ℕ) (r : Option (Bor (List ℕ)))
+    → MatchOption r (FindsCharSuffix 58 word None) (λ x. StripsSuffix (FindsCharSuffix 58) word x.now)
+    → option_map (λ (x : Bor (List ℕ)). x.now) r ≡ before_colon word
 stripped word None h = sym (without_colon word (strip_suffix_char 58 word None h (lit< tt)))
 stripped word (Some x) h = sym (ap before_colon (strip_suffix_char 58 word (Some x) h (lit< tt)) ∙ with_colon x.now)

@@ -59,4 +59,5 @@ unknown_fault threads deeds things =
 -- that the second doesn't tell of
 abbrev pub chart_fault : List Standing → List Deed → List Thing → Option Fault
 chart_fault threads deeds things =
-    option_map_or (λ k. Some (record { line = k; what = NameTaken })) (taken_from (doers_of threads deeds) (length deeds + 1) things) (unknown_fault threads deeds things)
+    option_map_or (λ k. Some (record { line = k; what = NameTaken })) (taken_from (doers_of threads deeds) (length deeds + 1) things)
+    (unknown_fault threads deeds things)

@@ -28,7 +28,8 @@ script_rule = record (new_rule (codes "script")) {
 
 -- the program with its three options of how a report is to be drawn, and with all four
 abbrev pub drawing_usage : App
-drawing_usage = with_rule (with_rule (with_rule (new_app (codes "cml_chart")) text_rule) (numbered_rule (codes "from"))) (numbered_rule (codes "to"))
+drawing_usage =
+    with_rule (with_rule (with_rule (new_app (codes "cml_chart")) text_rule) (numbered_rule (codes "from"))) (numbered_rule (codes "to"))
 
 abbrev pub usage : App
 usage = with_rule drawing_usage script_rule

@@ -39,7 +39,8 @@ pub record IsDrawnOf (script : Option Lines) (old new : Option (List ℕ)) : Typ
 -- the lines are no report, or there is a fault in what they report
 abbrev pub IsFaulty : Option Lines → List ℕ → Fault → Type 0
 IsFaulty script text fault = (told text ≡ wrong fault)
-    ⊎ ((deeds : List Deed) × (things : List Thing) × (end : Ended) × (told text ≡ report deeds things end) × (lines_fault script deeds things ≡ Some fault))
+    ⊎ ((deeds : List Deed) × (things : List Thing) × (end : Ended) × (told text ≡ report deeds things end)
+    × (lines_fault script deeds things ≡ Some fault))
 
 -- how it ends where nothing was drawn
 abbrev pub EndsUndrawn : Option Lines → Option (List ℕ) → Option (List ℕ) → Ending → Type 0
@@ -73,7 +74,8 @@ EndsUnread old new ending.NoMemory = ⊤
 EndsUnread old new _ = ⊥
 
 -- .. or the report was drawn, or not, by the script that was read
-abbrev pub DrawsGiven : Option (List ℕ) → Option (List ℕ) → Option (List ℕ) → Option (List ℕ) → Option (List ℕ) → Option (List ℕ) → Ending → Type 0
+abbrev pub DrawsGiven : Option (List ℕ) → Option (List ℕ) → Option (List ℕ) → Option (List ℕ) → Option (List ℕ)
+    → Option (List ℕ) → Ending → Type 0
 DrawsGiven given left old new held holds ended =
     (EndsUnread given left ended × Keeps held holds)
     ⊎ ((script : Lines) × IsGiven given left script × Draws (Some script) old new held holds ended)

@@ -1,5 +1,6 @@
 -- Which report is one of a script, and what is drawn of it.
-use Rattle.std.specs.Prelude.{ℕ, suc, ◌≡◌, ◌+◌, Bool, false, ◌&&◌, List, [], ◌∷◌, length, map, slice_get, Option, Some, None, Result, Ok, Err, if◌then◌else◌}
+use Rattle.std.specs.Prelude.{ℕ, suc, ◌≡◌, ◌+◌, Bool, false, ◌&&◌, List, [], ◌∷◌, length, map, slice_get, Option, Some}
+use Rattle.std.specs.Prelude.{None, Result, Ok, Err, if◌then◌else◌}
 use Rattle.std.specs.Option.{option_map_or}
 use Rattle.std.specs.Str.{bytes_eq}
 use Rattle.std.specs.Str.Parse.{digits_value}
@@ -29,7 +30,8 @@ pass feeds targets threads d (feed number) = if is_feed feeds number d.object th
 -- .. behind all these rows, from number k on; or the number of the first that is not the script's
 abbrev pub follow : Words → Words → List Standing → ℕ → List Deed → Result (List Standing) ℕ
 follow feeds targets threads k [] = Ok threads
-follow feeds targets threads k (d ∷ ds) = option_map_or (λ later. follow feeds targets later (suc k) ds) (pass feeds targets threads d d.doer) (Err k)
+follow feeds targets threads k (d ∷ ds) =
+    option_map_or (λ later. follow feeds targets later (suc k) ds) (pass feeds targets threads d d.doer) (Err k)
 
 abbrev pub is_made : Thing → Made → Bool
 is_made t m = bytes_eq t.kind m.0 && bytes_eq t.name m.1
@@ -51,7 +53,8 @@ followed_by (Ok threads) None = Ok threads
 
 abbrev pub followed : Lines → List Deed → List Thing → Result (List Standing) Fault
 followed script deeds things =
-    followed_by (follow (feeds_in script) (targets_in script) (threads_in script) 1 deeds) (strange_thing (length deeds + 1) things (objects_in script))
+    followed_by (follow (feeds_in script) (targets_in script) (threads_in script) 1 deeds)
+    (strange_thing (length deeds + 1) things (objects_in script))
 
 -- .. where there is a script
 abbrev pub threads_behind : Option Lines → List Deed → List Thing → Result (List Standing) Fault

@@ -78,7 +78,8 @@ ring_of word number =
 abbrev pub doer_of : Words → Option (Doer × Words)
 doer_of [] = None
 doer_of (word ∷ []) = if is_name word then Some (thread word, []) else None
-doer_of (word ∷ number ∷ rest) = if is_name word then Some (thread word, number ∷ rest) else option_map (λ doer. (doer, rest)) (ring_of word number)
+doer_of (word ∷ number ∷ rest) = if is_name word then Some (thread word, number ∷ rest)
+    else option_map (λ doer. (doer, rest)) (ring_of word number)
 
 -- the row of a step's call
 abbrev pub row_of : Verb → Row
@@ -131,13 +132,15 @@ object_of doer (verb.Ask call) None last = if makes_port (verb.Ask call) then No
 abbrev pub deed_with : Doer → Verb → List ℕ → List ℕ → Option (List ℕ) × List ℕ × List ℕ → Option Deed
 deed_with doer step word line b =
     if not (may_do doer step b.2) then None
-    else option_map (λ (o : List ℕ × Option (List ℕ)). record { doer = doer; verb = step; word = word; object = o.0; with = o.1; reply = b.2; line = line })
+    else option_map (λ (o : List ℕ × Option (List ℕ)).
+    record { doer = doer; verb = step; word = word; object = o.0; with = o.1; reply = b.2; line = line })
     (option_and_then (object_of doer step b.0) (before_colon b.1))
 
 -- a step, and its reply
 abbrev pub deed_by : Doer → List ℕ → Words → Option Deed
 deed_by doer line [] = None
-deed_by doer line (word ∷ rest) = option_and_then (λ (step : Verb). option_and_then (deed_with doer step word line) (behind_step rest)) (verb_of word)
+deed_by doer line (word ∷ rest) =
+    option_and_then (λ (step : Verb). option_and_then (deed_with doer step word line) (behind_step rest)) (verb_of word)
 
 -- a line of the first part
 unfoldable pub deed_of : List ℕ → Words → Option Deed
@@ -150,7 +153,8 @@ abbrev pub is_closing_made : List ℕ → Words → Bool
 is_closing_made kind closing =
     if bytes_eq kind (codes "mailbox") then fits (words_of (codes "sent # got # waits #")) closing
     else if bytes_eq kind (codes "channel") then fits (words_of (codes "sent # kept # first #")) closing
-    else if bytes_eq kind (codes "port") then fits (words_of (codes "start # got # owed #")) closing || fits (words_of (codes "start # got # closed")) closing
+    else if bytes_eq kind (codes "port")
+    then fits (words_of (codes "start # got # owed #")) closing || fits (words_of (codes "start # got # closed")) closing
     else if bytes_eq kind (codes "feed") then fits (words_of (codes "start # got # owed # taken #")) closing
     else fits (words_of (codes "empty")) closing || fits (words_of (codes "full =")) closing
 
@@ -162,7 +166,8 @@ is_closing kind closing =
 -- a line of the second part
 unfoldable pub thing_of : List ℕ → Words → Option Thing
 thing_of line (kind ∷ name ∷ closing) =
-    option_and_then (λ front. if is_name front && is_closing kind closing then Some (record { kind = kind; name = front; line = line }) else None) (before_colon name)
+    option_and_then (λ front. if is_name front && is_closing kind closing
+    then Some (record { kind = kind; name = front; line = line }) else None) (before_colon name)
 thing_of line _ = None
 
 -- The last line.

@@ -1,5 +1,6 @@
 -- What a script says of its reports.
-use Rattle.std.specs.Prelude.{ℕ, ◌≡◌, Bool, true, false, not, ◌&&◌, ◌||◌, List, [], ◌∷◌, ◌++◌, map, filter_map, slice_get, Option, Some, None, is_some, codes, if◌then◌else◌}
+use Rattle.std.specs.Prelude.{ℕ, ◌≡◌, Bool, true, false, not, ◌&&◌, ◌||◌, List, [], ◌∷◌, ◌++◌, map, filter_map, slice_get}
+use Rattle.std.specs.Prelude.{Option, Some, None, is_some, codes, if◌then◌else◌}
 use Rattle.std.specs.List.{join_with_byte}
 use Rattle.std.specs.Option.{option_map, option_map_or, option_and_then}
 use Rattle.std.specs.Str.{bytes_eq}
@@ -87,7 +88,8 @@ own_steps script name = filter_map (own_in script name) script.steps
 -- the threads, before any step
 abbrev pub thread_in : Lines → SourceLine → Option Standing
 thread_in script line =
-    option_and_then (λ made. option_map (λ name. record { name = name; steps = own_steps script name; performed = 0 }) (name_if (is_kind (codes "thread") made) made))
+    option_and_then (λ made. option_map (λ name. record { name = name; steps = own_steps script name; performed = 0 })
+    (name_if (is_kind (codes "thread") made) made))
     (declared_in line.words)
 
 abbrev pub threads_in : Lines → List Standing

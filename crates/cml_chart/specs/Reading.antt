@@ -1,10 +1,12 @@
 -- Which text is which report, and what is wrong with one that is none.
-use Rattle.std.specs.Prelude.{ℕ, ◌+◌, ◌≡◌, ◌⊎◌, ◌||◌, not, ◌==◌, nat_lt, List, [], ◌∷◌, ◌++◌, length, Option, Some, None, is_some, Result, Ok, Err, if◌then◌else◌}
+use Rattle.std.specs.Prelude.{ℕ, ◌+◌, ◌≡◌, ◌⊎◌, ◌||◌, not, ◌==◌, nat_lt, List, [], ◌∷◌, ◌++◌, length, Option, Some, None}
+use Rattle.std.specs.Prelude.{is_some, Result, Ok, Err, if◌then◌else◌}
 use Rattle.std.specs.Option.{option_map_or}
 use Rattle.std.specs.List.{list_any}
 use Rattle.cml_grammar.specs.Prelude.{parts_of, is_bad_byte}
 use Rattle.cml_chart.specs.declared.report.faults.What.{What}
-use Rattle.cml_chart.specs.declared.report.faults.What.TheVariants.{NoLineEnd, BadBytes, NoReportLine, OutOfPlace, NoEndLine, TooLong, Memory}
+use Rattle.cml_chart.specs.declared.report.faults.What.TheVariants.{NoLineEnd, BadBytes, NoReportLine, OutOfPlace, NoEndLine}
+use Rattle.cml_chart.specs.declared.report.faults.What.TheVariants.{TooLong, Memory}
 use Rattle.cml_chart.specs.declared.report.faults.Fault.{Fault}
 use Rattle.cml_chart.specs.Lines.{Deed, Thing, Ended, Line, deed, thing, ended, line_of}
 
@@ -19,7 +21,8 @@ nothing_yet = record { deeds = []; things = []; end = None }
 
 -- one line more: it may follow lines of the same part and of the parts before
 unfoldable pub with_line : SoFar → Line → Result SoFar What
-with_line read (deed d) = if is_some read.end || not (length read.things == 0) then Err OutOfPlace else Ok (record read { deeds = read.deeds ++ d ∷ [] })
+with_line read (deed d) = if is_some read.end || not (length read.things == 0) then Err OutOfPlace
+    else Ok (record read { deeds = read.deeds ++ d ∷ [] })
 with_line read (thing t) = if is_some read.end then Err OutOfPlace else Ok (record read { things = read.things ++ t ∷ [] })
 with_line read (ended e) = if is_some read.end then Err OutOfPlace else Ok (record read { end = Some e })
 

@@ -1,5 +1,6 @@
 //! A chart: the columns of a run, and a row for each line of the report's first part.
-ghost use Rattle.std.specs.Prelude.{◌≡◌, ◌⊎◌, ◌+◌, ◌++◌, ◌≤◌, ◌<◌, length, map, string_bytes, IfSome, IfOk, IfErr, OnOk, MatchOption, Some, None};
+ghost use Rattle.std.specs.Prelude.{◌≡◌, ◌⊎◌, ◌+◌, ◌++◌, ◌≤◌, ◌<◌, length, map, string_bytes, IfSome, IfOk, IfErr};
+ghost use Rattle.std.specs.Prelude.{OnOk, MatchOption, Some, None};
 ghost use Rattle.std.specs.Option.{option_map};
 ghost use Rattle.cml_chart.specs.declared.report.faults.What.TheVariants.{Memory, NameTaken, UnknownName};
 ghost use Rattle.cml_chart.specs.Prelude.{shown_actor, shown_act, shown_object, shown_threads, doer_text, names_of, with_name, each_once};
@@ -50,7 +51,8 @@ pub(crate) fn course_of<'a>(
     requires few { length report.acts.items + length report.objects.items ≤ 33554432 }
     ensures course { IfOk result (IsCourse (option_map (λ s. s.now) script.entry)) }
     ensures kept { IfOk result (λ course. course.report ≡ report.entry) }
-    ensures fault { IfErr result (λ fault. (fault.what ≡ Memory) ⊎ (lines_fault (option_map (λ s. s.now) script.entry) (deeds_of report.entry) (things_of report.entry) ≡ Some fault)) }
+    ensures fault { IfErr result (λ fault. (fault.what ≡ Memory)
+        ⊎ (lines_fault (option_map (λ s. s.now) script.entry) (deeds_of report.entry) (things_of report.entry) ≡ Some fault)) }
 {
     let threads = threads_behind(alloc, script, &report)?;
     let chart = chart_of(alloc, &threads, &report.acts, &report.objects)?;
@@ -70,8 +72,10 @@ fn chart_of<'a>(
     objects: &[Object<'_>],
 ) -> Result<Chart<'a>, Fault>
     requires few { length acts.now + length objects.now ≤ 33554432 }
-    ensures chart { IfOk result (λ chart. IsChart (shown_threads threads.now) (map shown_act acts.now) (map shown_object objects.now) chart) }
-    ensures fault { IfErr result (λ fault. (fault.what ≡ Memory) ⊎ (chart_fault (shown_threads threads.now) (map shown_act acts.now) (map shown_object objects.now) ≡ Some fault)) }
+    ensures chart { IfOk result
+        (λ chart. IsChart (shown_threads threads.now) (map shown_act acts.now) (map shown_object objects.now) chart) }
+    ensures fault { IfErr result (λ fault. (fault.what ≡ Memory)
+        ⊎ (chart_fault (shown_threads threads.now) (map shown_act acts.now) (map shown_object objects.now) ≡ Some fault)) }
 {
     let mut names = IndexSet::new(alloc);
     add_threads(alloc, &mut names, threads)?;
@@ -128,7 +132,8 @@ fn add_objects(
     requires { first + length objects.now ≤ 33554433 }
     ensures names { OnOk result (names_of names.new.keys ≡ names_of names.old.keys ++ titles_of (map shown_object objects.now)) }
     ensures free { OnOk result (taken_from (names_of names.old.keys) first (map shown_object objects.now) ≡ None) }
-    ensures fault { IfErr result (λ fault. (fault.what ≡ Memory) ⊎ ((taken_from (names_of names.old.keys) first (map shown_object objects.now) ≡ Some fault.line) × (fault.what ≡ NameTaken))) }
+    ensures fault { IfErr result (λ fault. (fault.what ≡ Memory)
+        ⊎ ((taken_from (names_of names.old.keys) first (map shown_object objects.now) ≡ Some fault.line) × (fault.what ≡ NameTaken))) }
 {
     for (at, object) in objects.iter().enumerate() {
         if is_among(names, object.name) {

@@ -33,7 +33,8 @@ pub(crate) fn draw_by_script<S: Read, R: Read, W: Write>(
     writer: &mut W,
     order: &Order<'_>,
 ) -> Ending
-    ensures { DrawsGiven (S.remaining script.old) (S.remaining script.new) (R.remaining reader.old) (R.remaining reader.new) (W.contents writer.old) (W.contents writer.new) result }
+    ensures { DrawsGiven (S.remaining script.old) (S.remaining script.new) (R.remaining reader.old) (R.remaining reader.new)
+        (W.contents writer.old) (W.contents writer.new) result }
 {
     match script_in(alloc, script) {
         Ok(script) => draw(alloc, Some(&script), reader, writer, order),
@@ -59,7 +60,8 @@ pub(crate) fn draw<R: Read, W: Write>(
     writer: &mut W,
     order: &Order<'_>,
 ) -> Ending
-    ensures { Draws (option_map (λ s. s.now) script.entry) (R.remaining reader.old) (R.remaining reader.new) (W.contents writer.old) (W.contents writer.new) result }
+    ensures { Draws (option_map (λ s. s.now) script.entry) (R.remaining reader.old) (R.remaining reader.new)
+        (W.contents writer.old) (W.contents writer.new) result }
 {
     match picture(alloc, script, reader, order) {
         Ok(picture) => match write_whole(writer, picture.as_bytes()) {
@@ -78,7 +80,8 @@ fn picture<R: Read>(
     order: &Order<'_>,
 ) -> Result<String, Ending>
     ensures drawn { OnOk result (IsDrawnOf (option_map (λ s. s.now) script.entry) (R.remaining reader.old) (R.remaining reader.new)) }
-    ensures undrawn { IfErr result (λ ending. EndsUndrawn (option_map (λ s. s.now) script.entry) (R.remaining reader.old) (R.remaining reader.new) ending) }
+    ensures undrawn { IfErr result
+        (λ ending. EndsUndrawn (option_map (λ s. s.now) script.entry) (R.remaining reader.old) (R.remaining reader.new) ending) }
 {
     let text = read_all(alloc, reader, Ending::ReadFault)?;
     let report = read_report(alloc, &text)?;

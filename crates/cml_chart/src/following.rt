@@ -57,8 +57,10 @@ pub(crate) fn threads_behind<'a>(
     report: &Report<'_>,
 ) -> Result<Vec<Thread<'a>>, Fault>
     requires few { length report.now.acts.items + length report.now.objects.items ≤ 33554432 }
-    ensures threads { IfOk result (λ threads. threads_behind (option_map (λ s. s.now) script.entry) (deeds_of report.now) (things_of report.now) ≡ Ok (shown_threads threads.items)) }
-    ensures fault { IfErr result (λ fault. (fault.what ≡ Memory) ⊎ (threads_behind (option_map (λ s. s.now) script.entry) (deeds_of report.now) (things_of report.now) ≡ Err fault)) }
+    ensures threads { IfOk result (λ threads. threads_behind (option_map (λ s. s.now) script.entry) (deeds_of report.now)
+        (things_of report.now) ≡ Ok (shown_threads threads.items)) }
+    ensures fault { IfErr result (λ fault. (fault.what ≡ Memory)
+        ⊎ (threads_behind (option_map (λ s. s.now) script.entry) (deeds_of report.now) (things_of report.now) ≡ Err fault)) }
 {
     let Some(script) = script else {
         return Ok(Vec::new(alloc));
@@ -91,9 +93,11 @@ fn follow(
     acts: &[Act<'_>],
 ) -> Result<(), Fault>
     requires few { length acts.now ≤ 33554432 }
-    ensures threads { OnOk result (follow (texts feeds.now) (names_of targets.now.keys) (shown_threads threads.old.items) 1 (map shown_act acts.now) ≡ Ok (shown_threads threads.new.items)) }
+    ensures threads { OnOk result (follow (texts feeds.now) (names_of targets.now.keys) (shown_threads threads.old.items) 1
+        (map shown_act acts.now) ≡ Ok (shown_threads threads.new.items)) }
     ensures fault { IfErr result (λ fault. (fault.what ≡ Memory) ⊎ ((fault.what ≡ OtherScript)
-        × (follow (texts feeds.now) (names_of targets.now.keys) (shown_threads threads.old.items) 1 (map shown_act acts.now) ≡ Err fault.line))) }
+        × (follow (texts feeds.now) (names_of targets.now.keys) (shown_threads threads.old.items) 1 (map shown_act acts.now)
+        ≡ Err fault.line))) }
 {
     for (at, act) in acts.iter().enumerate() {
         if !passes(alloc, threads, feeds, targets, act)? {
@@ -111,7 +115,8 @@ fn passes(
     targets: &IndexSet<String>,
     act: &Act<'_>,
 ) -> Result<bool, AllocError>
-    ensures { IfOk result (λ passed. MatchOption (pass (texts feeds.now) (names_of targets.now.keys) (shown_threads threads.old) (shown_act act.now) (shown_actor act.now.actor))
+    ensures { IfOk result (λ passed. MatchOption
+        (pass (texts feeds.now) (names_of targets.now.keys) (shown_threads threads.old) (shown_act act.now) (shown_actor act.now.actor))
         (passed ≡ false) (λ later. (passed ≡ true) × (shown_threads threads.new ≡ later))) }
 {
     match act.actor {
@@ -155,7 +160,8 @@ fn is_feed(feeds: &[&str], number: &str, name: &str) -> bool
 fn compare(made: &[Made<'_>], objects: &[Object<'_>], first: usize) -> Result<(), Fault>
     requires { first + length objects.now ≤ 33554433 }
     ensures same { OnOk result (strange_thing first (map shown_object objects.now) (map shown_made made.now) ≡ None) }
-    ensures fault { IfErr result (λ fault. (fault.what ≡ OtherScript) × (strange_thing first (map shown_object objects.now) (map shown_made made.now) ≡ Some fault.line)) }
+    ensures fault { IfErr result (λ fault. (fault.what ≡ OtherScript)
+        × (strange_thing first (map shown_object objects.now) (map shown_made made.now) ≡ Some fault.line)) }
 {
     for (at, object) in objects.iter().enumerate() {
         let Some(made) = made.get(at) else {

@@ -52,9 +52,12 @@ fn add_declared<'a>(
     script: &'a Script,
     declaration: &'a Declaration,
 ) -> Added
-    ensures threads { OnOk result (shown_threads plan.new.threads.items ≡ shown_threads plan.old.threads.items ++ option_to_list (thread_in script.now (source_of declaration.now.line))) }
-    ensures feeds { OnOk result (texts plan.new.feeds.items ≡ texts plan.old.feeds.items ++ option_to_list (feed_in (source_of declaration.now.line))) }
-    ensures objects { OnOk result (map shown_made plan.new.objects.items ≡ map shown_made plan.old.objects.items ++ option_to_list (object_in (source_of declaration.now.line))) }
+    ensures threads { OnOk result (shown_threads plan.new.threads.items
+        ≡ shown_threads plan.old.threads.items ++ option_to_list (thread_in script.now (source_of declaration.now.line))) }
+    ensures feeds { OnOk result
+        (texts plan.new.feeds.items ≡ texts plan.old.feeds.items ++ option_to_list (feed_in (source_of declaration.now.line))) }
+    ensures objects { OnOk result (map shown_made plan.new.objects.items
+        ≡ map shown_made plan.old.objects.items ++ option_to_list (object_in (source_of declaration.now.line))) }
     ensures targets { OnOk result (plan.new.targets ≡ plan.old.targets) }
 {
     let words = split_words(alloc, declaration.line.text.as_str())?;
@@ -97,7 +100,8 @@ fn made_at<'a>(kind: &'a str, words: &[&'a str], at: usize) -> Option<Made<'a>>
 
 /// Adds the ports that steps make.
 fn add_ports<'a>(alloc: Global, objects: &mut Vec<Made<'a>>, script: &'a Script) -> Added
-    ensures { OnOk result (map shown_made objects.new.items ≡ map shown_made objects.old.items ++ filter_map (λ line. port_in line.words) script.now.steps) }
+    ensures { OnOk result (map shown_made objects.new.items
+        ≡ map shown_made objects.old.items ++ filter_map (λ line. port_in line.words) script.now.steps) }
 {
     let steps = script.steps();
     for step in steps {

@@ -16,7 +16,8 @@ use Rattle.cml_grammar.proofs.TableLemmas.{fresh_suits}
 use Rattle.cml_grammar.proofs.ReadingLemmas.{ReadFrom, kept_suits}
 use Rattle.cml_grammar.proofs.KeepingLemmas.{declared_scope, declared_so_far, asked_scope, asked_so_far}
 
-module _ (v : ℕ) (now : Lines) (m : Names) (ds ds' : List Declaration) (ls : List Lane) (cs : List (Ends × ℕ)) (ss : List Step) (threads : ℕ)
+module _ (v : ℕ) (now : Lines) (m : Names) (ds ds' : List Declaration) (ls : List Lane)
+    (cs : List (Ends × ℕ)) (ss : List Step) (threads : ℕ)
     (d : Declaration) (what : Declares) (rest : List (List ℕ)) (name : List ℕ)
     (seen : view_of v ds ls ss ≡ now)
     (so_far : IsReadSoFar (view_of v ds ls ss) m.entries ds ls cs ss threads)
@@ -29,7 +30,8 @@ module _ (v : ℕ) (now : Lines) (m : Names) (ds ds' : List Declaration) (ls : L
   before = subst (λ (s : Lines). ReadFrom s d.line (declaration what rest)) (sym seen) read
 
   fresh : is_given (texts_of m.entries) name ≡ false
-  fresh = (fresh_suits (texts_of m.entries) (declared_places what rest) rest name (kept_suits now (view_of v ds ls ss) (texts_of m.entries) d.line (declaration what rest) seen so_far.names read) there).1
+  fresh = (fresh_suits (texts_of m.entries) (declared_places what rest) rest name
+      (kept_suits now (view_of v ds ls ss) (texts_of m.entries) d.line (declaration what rest) seen so_far.names read) there).1
 
   made : makes_by (names_of (view_of v ds ls ss)) what rest ≡ Some d.makes
   made = ap (λ gs. makes_by gs what rest) (sym so_far.names) ∙ makes
@@ -38,10 +40,12 @@ module _ (v : ℕ) (now : Lines) (m : Names) (ds ds' : List Declaration) (ls : L
   made_well = subst (λ gs. IsMadeWell gs (length gs) d.makes) so_far.names well
 
   pub declared_closes : (es' : List (String Global × Named)) (threads' : ℕ) (key : String Global) (n : Named)
-      → string_bytes key ≡ name → n ≡ named_by what threads (owner_of (texts_of m.entries) rest) → es' ≡ insert_entry string_eq m.entries key n → threads' ≡ threads + threads_by what
+      → string_bytes key ≡ name → n ≡ named_by what threads (owner_of (texts_of m.entries) rest)
+      → es' ≡ insert_entry string_eq m.entries key n → threads' ≡ threads + threads_by what
       → IsReadSoFar (view_of v ds' ls ss) es' ds' ls cs ss threads'
   declared_closes es' threads' key n same named inserted counted =
-      let entries = ap texts_of inserted ∙ inserted_texts m key n name same fresh ∙ ap (λ k. texts_of m.entries ++ (name, k) ∷ []) (named ∙ ap (λ gs. named_by what threads (owner_of gs rest)) so_far.names) in
+      let entries = ap texts_of inserted ∙ inserted_texts m key n name same fresh
+      ∙ ap (λ k. texts_of m.entries ++ (name, k) ∷ []) (named ∙ ap (λ gs. named_by what threads (owner_of gs rest)) so_far.names) in
       let whole = declared_so_far v m.entries ds ls cs ss threads d what rest name so_far before there made made_well es' entries in
       subst (λ (t : ℕ). IsReadSoFar (view_of v ds' ls ss) es' ds' ls cs ss t) (sym counted)
       (subst (λ (xs : List Declaration). IsReadSoFar (view_of v xs ls ss) es' xs ls cs ss (threads + threads_by what)) (sym pushed) whole)
@@ -52,7 +56,8 @@ module _ (v : ℕ) (now : Lines) (m : Names) (ds ds' : List Declaration) (ls : L
       ∙ declared_scope v m.entries ds ls cs ss threads d what rest name so_far before there made made_well
       ∙ ap (λ (s : Lines). after_words (scope_of s) (words_of (string_bytes d.line.text))) seen
 
-module _ (v : ℕ) (now : Lines) (m : Names) (ds : List Declaration) (ls : List Lane) (cs : List (Ends × ℕ)) (ss ss' : List Step) (threads : ℕ)
+module _ (v : ℕ) (now : Lines) (m : Names) (ds : List Declaration) (ls : List Lane) (cs : List (Ends × ℕ))
+    (ss ss' : List Step) (threads : ℕ)
     (s : Step) (verb : Verb) (rest : List (List ℕ))
     (seen : view_of v ds ls ss ≡ now)
     (so_far : IsReadSoFar (view_of v ds ls ss) m.entries ds ls cs ss threads)
@@ -69,17 +74,23 @@ module _ (v : ℕ) (now : Lines) (m : Names) (ds : List Declaration) (ls : List 
   uses_well : UsesWell (names_of (view_of v ds ls ss)) s.action
   uses_well = subst (λ gs. UsesWell gs s.action) so_far.names uses
 
-  closes : (es' : List (String Global × Named)) → texts_of es' ≡ texts_of m.entries ++ given_as (called.Port (users.One s.seat)) (fresh_word (step_places verb) rest) → IsReadSoFar (view_of v ds ls ss') es' ds ls cs ss' threads
+  closes : (es' : List (String Global × Named))
+      → texts_of es' ≡ texts_of m.entries ++ given_as (called.Port (users.One s.seat)) (fresh_word (step_places verb) rest)
+      → IsReadSoFar (view_of v ds ls ss') es' ds ls cs ss' threads
   closes es' entries =
       subst (λ (xs : List Step). IsReadSoFar (view_of v ds ls xs) es' ds ls cs xs threads) (sym pushed)
       (asked_so_far v m.entries ds ls cs ss threads s verb rest so_far before_step means uses_well es' entries)
 
   -- a step that gives no name, and one that does
   pub asked_closes : fresh_word (step_places verb) rest ≡ None → IsReadSoFar (view_of v ds ls ss') m.entries ds ls cs ss' threads
-  asked_closes none = closes m.entries (sym (ap (λ (o : Option (List ℕ)). texts_of m.entries ++ given_as (called.Port (users.One s.seat)) o) none ∙ append-nil (texts_of m.entries)))
+  asked_closes none =
+      closes m.entries (sym (ap (λ (o : Option (List ℕ)). texts_of m.entries ++ given_as (called.Port (users.One s.seat)) o) none
+      ∙ append-nil (texts_of m.entries)))
 
-  pub giving_closes : (name : List ℕ) → fresh_word (step_places verb) rest ≡ Some name → (es' : List (String Global × Named)) (key : String Global)
-      → string_bytes key ≡ name → es' ≡ insert_entry string_eq m.entries key (called.Port (users.One s.seat)) → IsReadSoFar (view_of v ds ls ss') es' ds ls cs ss' threads
+  pub giving_closes : (name : List ℕ) → fresh_word (step_places verb) rest ≡ Some name
+      → (es' : List (String Global × Named)) (key : String Global)
+      → string_bytes key ≡ name → es' ≡ insert_entry string_eq m.entries key (called.Port (users.One s.seat))
+      → IsReadSoFar (view_of v ds ls ss') es' ds ls cs ss' threads
   giving_closes name there es' key same inserted =
       let suits = kept_suits now (view_of v ds ls ss) (texts_of m.entries) s.line (step s.seat verb rest) seen so_far.names read in
       let free = (fresh_suits (texts_of m.entries) (step_places verb) rest name suits there).1 in

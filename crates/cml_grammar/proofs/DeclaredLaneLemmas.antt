@@ -20,23 +20,29 @@ use Rattle.cml_grammar.proofs.ReadingLemmas.{view-lane, ReadFrom, read_passes, k
 use Rattle.cml_grammar.proofs.KeepingLemmas.{next_scope}
 use Rattle.cml_grammar.proofs.NameLemmas.{Names, absent}
 
-module _ (v : ℕ) (es : List (String Global × Named)) (ds : List Declaration) (ls : List Lane) (cs : List (Ends × ℕ)) (ss : List Step) (threads : ℕ)
+module _ (v : ℕ) (es : List (String Global × Named)) (ds : List Declaration) (ls : List Lane)
+    (cs : List (Ends × ℕ)) (ss : List Step) (threads : ℕ)
     (l : Lane) (rest : List (List ℕ))
     (so_far : IsReadSoFar (view_of v ds ls ss) es ds ls cs ss threads)
     (read : ReadFrom (view_of v ds ls ss) l.line (lane rest))
     (says : lane_by (names_of (view_of v ds ls ss)) rest ≡ Some ((l.seat, l.target), l.capacity)) where
-  pub laid_scope : scope_of (view_of v ds (ls ++ l ∷ []) ss) ≡ after_words (scope_of (view_of v ds ls ss)) (words_of (string_bytes l.line.text))
+  pub laid_scope : scope_of (view_of v ds (ls ++ l ∷ []) ss) ≡ after_words (scope_of (view_of v ds ls ss))
+      (words_of (string_bytes l.line.text))
   laid_scope =
-      ap scope_of (view-lane v ds ls ss l rest read.is) ∙ next_scope v es ds ls cs ss threads so_far l.line.number (string_bytes l.line.text) read.fits
+      ap scope_of (view-lane v ds ls ss l rest read.is)
+      ∙ next_scope v es ds ls cs ss threads so_far l.line.number (string_bytes l.line.text) read.fits
 
   laid_lanes : All (ReadsLane (names_of (view_of v ds ls ss))) (ls ++ l ∷ [])
   laid_lanes =
       let names = names_of (view_of v ds ls ss) in
       let line = line_by names (words_of (string_bytes l.line.text)) (lane rest) read.is in
-      let well = said_well names rest ((l.seat, l.target), l.capacity) so_far.seats (kept_suits (view_of v ds ls ss) (view_of v ds ls ss) names l.line (lane rest) refl refl read) says in
-      All-push (ReadsLane names) ls l so_far.lanes (record { says = ap (lane_of names) line.1 ∙ says; seated = well.0; target = well.1; capacity = well.2 })
+      let well = said_well names rest ((l.seat, l.target), l.capacity) so_far.seats
+      (kept_suits (view_of v ds ls ss) (view_of v ds ls ss) names l.line (lane rest) refl refl read) says in
+      All-push (ReadsLane names) ls l so_far.lanes
+      (record { says = ap (lane_of names) line.1 ∙ says; seated = well.0; target = well.1; capacity = well.2 })
 
-  pub laid_so_far : (cs' : List (Ends × ℕ)) → cs' ≡ cs ++ ((l.seat, l.target), l.capacity) ∷ [] → IsReadSoFar (view_of v ds (ls ++ l ∷ []) ss) es ds (ls ++ l ∷ []) cs' ss threads
+  pub laid_so_far : (cs' : List (Ends × ℕ)) → cs' ≡ cs ++ ((l.seat, l.target), l.capacity) ∷ []
+      → IsReadSoFar (view_of v ds (ls ++ l ∷ []) ss) es ds (ls ++ l ∷ []) cs' ss threads
   laid_so_far cs' grown = record {
     names = so_far.names;
     gives = so_far.gives;
@@ -65,14 +71,16 @@ module _ (v : ℕ) (es : List (String Global × Named)) (ds : List Declaration) 
       absent _ (
       is_some-lookup (are_same (l.seat, l.target)) cs
       ∙ ap (list_any (are_same (l.seat, l.target))) (sym so_far.ends)
-      ∙ ap (λ o. option_map_or (λ ends. list_any (are_same ends) (scope_of (view_of v ds ls ss)).lanes) o false) (sym (ends_said (names_of (view_of v ds ls ss)) rest ((l.seat, l.target), l.capacity) says))
+      ∙ ap (λ o. option_map_or (λ ends. list_any (are_same ends) (scope_of (view_of v ds ls ss)).lanes) o false)
+      (sym (ends_said (names_of (view_of v ds ls ss)) rest ((l.seat, l.target), l.capacity) says))
       ∙ (read_passes (view_of v ds ls ss) l.line (lane rest) read).unlaid)
 
 -- ---- the same, in the words of the code
 abbrev Capacities : Type 0
 Capacities = IndexMap Ends ℕ (BuildHasherDefault FoldHasher)
 
-module _ (v : ℕ) (now : Lines) (m : Names) (capacities : Capacities) (ds : List Declaration) (ls ls' : List Lane) (ss : List Step) (threads : ℕ)
+module _ (v : ℕ) (now : Lines) (m : Names) (capacities : Capacities) (ds : List Declaration)
+    (ls ls' : List Lane) (ss : List Step) (threads : ℕ)
     (l : Lane) (rest : List (List ℕ))
     (seen : view_of v ds ls ss ≡ now)
     (so_far : IsReadSoFar (view_of v ds ls ss) m.entries ds ls capacities.entries ss threads)
@@ -85,11 +93,13 @@ module _ (v : ℕ) (now : Lines) (m : Names) (capacities : Capacities) (ds : Lis
   says_there : lane_by (names_of (view_of v ds ls ss)) rest ≡ Some ((l.seat, l.target), l.capacity)
   says_there = ap (λ gs. lane_by gs rest) (sym so_far.names) ∙ says
 
-  pub laid_closes : (cs' : List (Ends × ℕ)) → cs' ≡ insert_entry are_same capacities.entries (l.seat, l.target) l.capacity → IsReadSoFar (view_of v ds ls' ss) m.entries ds ls' cs' ss threads
+  pub laid_closes : (cs' : List (Ends × ℕ)) → cs' ≡ insert_entry are_same capacities.entries (l.seat, l.target) l.capacity
+      → IsReadSoFar (view_of v ds ls' ss) m.entries ds ls' cs' ss threads
   laid_closes cs' inserted =
       subst (λ (xs : List Lane). IsReadSoFar (view_of v ds xs ss) m.entries ds xs cs' ss threads) (sym pushed)
       (laid_so_far v m.entries ds ls capacities.entries ss threads l rest so_far before says_there cs'
-      (inserted ∙ insert_entry-new are_same capacities (l.seat, l.target) l.capacity (laid_is_new v m.entries ds ls capacities.entries ss threads l rest so_far before says_there)))
+      (inserted ∙ insert_entry-new are_same capacities (l.seat, l.target) l.capacity
+      (laid_is_new v m.entries ds ls capacities.entries ss threads l rest so_far before says_there)))
 
   pub laid_scopes : scope_of (view_of v ds ls' ss) ≡ after_words (scope_of now) (words_of (string_bytes l.line.text))
   laid_scopes =

@@ -18,7 +18,8 @@ form_line : (names : List Given) (words : List (List ℕ)) → IsLine names word
 form_line names [] = tt
 form_line names (word ∷ rest) = by_declares (declares_of word) refl
   where
-    by_verb : (seat : ℕ) (second : List ℕ) (words : List (List ℕ)) (verb : Option Verb) → seat_of names word ≡ Some seat → verb_of second ≡ verb → IsLine names (word ∷ second ∷ words) (option_map_or (λ v. step seat v words) verb (no_step seat))
+    by_verb : (seat : ℕ) (second : List ℕ) (words : List (List ℕ)) (verb : Option Verb) → seat_of names word ≡ Some seat
+        → verb_of second ≡ verb → IsLine names (word ∷ second ∷ words) (option_map_or (λ v. step seat v words) verb (no_step seat))
     by_verb seat second words None seated does = tt
     by_verb seat second words (Some verb) seated does = (word, second, refl, seated, does)
 
@@ -26,15 +27,18 @@ form_line names (word ∷ rest) = by_declares (declares_of word) refl
     by_step seat [] seated = tt
     by_step seat (second ∷ words) seated = by_verb seat second words (verb_of second) seated refl
 
-    by_seat : (seat : Option ℕ) → seat_of names word ≡ seat → IsLine names (word ∷ rest) (option_map_or (λ s. step_form s rest) seat unknown)
+    by_seat : (seat : Option ℕ) → seat_of names word ≡ seat
+        → IsLine names (word ∷ rest) (option_map_or (λ s. step_form s rest) seat unknown)
     by_seat None seated = tt
     by_seat (Some seat) seated = by_step seat rest seated
 
-    by_lane : (t : Bool) → IsLine names (word ∷ rest) (if t then lane rest else option_map_or (λ s. step_form s rest) (seat_of names word) unknown)
+    by_lane : (t : Bool)
+        → IsLine names (word ∷ rest) (if t then lane rest else option_map_or (λ s. step_form s rest) (seat_of names word) unknown)
     by_lane true = (word, refl)
     by_lane false = by_seat (seat_of names word) refl
 
-    by_declares : (what : Option Declares) → declares_of word ≡ what → IsLine names (word ∷ rest) (option_map_or (λ d. declaration d rest) what (if is_lane_word word then lane rest else option_map_or (λ s. step_form s rest) (seat_of names word) unknown))
+    by_declares : (what : Option Declares) → declares_of word ≡ what → IsLine names (word ∷ rest) (option_map_or (λ d. declaration d rest)
+        what (if is_lane_word word then lane rest else option_map_or (λ s. step_form s rest) (seat_of names word) unknown))
     by_declares None declares = by_lane (is_lane_word word)
     by_declares (Some what) declares = (word, refl, declares)
 

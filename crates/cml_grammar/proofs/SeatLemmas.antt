@@ -21,13 +21,15 @@ used_seat names word h = by h.2.1 h.2.2 h.2.3
     by _ e t = absurd (true≢false (sym t))
 
 -- and it is one of the seats of the threads
-pub seated_from : (names : List Given) (n : ℕ) (thread : List ℕ) (seat : ℕ) → All (λ g. IsSeatedWithin n g.1) names → seat_of names thread ≡ Some seat → (1 ≤ seat) × (seat ≤ n)
+pub seated_from : (names : List Given) (n : ℕ) (thread : List ℕ) (seat : ℕ) → All (λ g. IsSeatedWithin n g.1) names
+    → seat_of names thread ≡ Some seat → (1 ≤ seat) × (seat ≤ n)
 seated_from names n thread seat seats h =
     option_and_then_some seat_in (named names thread) seat h (λ k found is.
     option_and_then_some (λ i. option_map (λ g. g.1) (slice_get names i)) (position_of names thread) k found (λ i at meant.
     let g = mapped_some (λ (x : Given). x.1) (slice_get names i) k meant in
     let here = All-get_or (λ (x : Given). IsSeatedWithin n x.1) names i g.0 (slice_get_within names i g.0 g.1) seats in
-    seat_within k is (subst (IsSeatedWithin n) g.2 (subst (λ (x : Given). IsSeatedWithin n x.1) (get_or_from_slice_get names i g.0 g.0 g.1) here))))
+    seat_within k is (subst (IsSeatedWithin n) g.2
+    (subst (λ (x : Given). IsSeatedWithin n x.1) (get_or_from_slice_get names i g.0 g.0 g.1) here))))
   where
     seat_within : (k : Named) → seat_in k ≡ Some seat → IsSeatedWithin n k → (1 ≤ seat) × (seat ≤ n)
     seat_within (called.Thread s) e w = subst (λ (m : ℕ). (1 ≤ m) × (m ≤ n)) (same_Some _ _ e) w

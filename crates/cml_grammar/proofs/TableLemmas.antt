@@ -1,5 +1,6 @@
 -- What it means that a line fails each test of the table.
-use Rattle.std.proofs.Common.{◌≡◌, ℕ, zero, suc, ◌==◌, Bool, true, false, ◌&&◌, List, [], ◌∷◌, length, slice_get, Option, Some, None, if◌then◌else◌, nat_le, refl, sym, ap, ◌∙◌, subst, arith}
+use Rattle.std.proofs.Common.{◌≡◌, ℕ, zero, suc, ◌==◌, Bool, true, false, ◌&&◌, List, [], ◌∷◌, length, slice_get, Option, Some}
+use Rattle.std.proofs.Common.{None, if◌then◌else◌, nat_le, refl, sym, ap, ◌∙◌, subst, arith}
 use Rattle.std.specs.List.{list_any, zip}
 use Rattle.std.specs.Option.{option_map, option_map_or}
 use Rattle.std.proofs.lemmas.Bool.{or_parts, not-false, true≢false, eqb-true}
@@ -29,11 +30,13 @@ pub record Passes (scope : Scope) (form : Form) : Type 0 where
   pub unlaid : is_lane_taken scope.names scope.lanes form ≡ false
   pub room : (declares_thread form && nat_le 64 (thread_count scope.names)) ≡ false
 
-pub not_first : (test : Bool) (what : What) (later : Option What) → (if test then Some what else later) ≡ None → (test ≡ false) × (later ≡ None)
+pub not_first : (test : Bool) (what : What) (later : Option What)
+    → (if test then Some what else later) ≡ None → (test ≡ false) × (later ≡ None)
 not_first true what later h = absurd (none-some what (sym h))
 not_first false what later h = (refl, h)
 
-each_fails : (tests : List (Bool × What)) → first_of tests ≡ None → (i : ℕ) (test : Bool × What) → slice_get tests i ≡ Some test → test.0 ≡ false
+each_fails : (tests : List (Bool × What)) → first_of tests ≡ None → (i : ℕ) (test : Bool × What)
+    → slice_get tests i ≡ Some test → test.0 ≡ false
 each_fails [] h i test at = absurd (none-some test at)
 each_fails (first ∷ tests) h zero test at = ap (λ (t : Bool × What). t.0) (sym (same_Some first test at)) ∙ (not_first _ _ _ h).0
 each_fails (first ∷ tests) h (suc i) test at = each_fails tests (not_first _ _ _ h).1 i test at
@@ -58,12 +61,14 @@ passes scope form h =
     }
 
 -- a line of words without fault passes each test, and no word is empty
-pub words_pass : (scope : Scope) (words : List (List ℕ)) → fault_in_words scope words ≡ None → (has_empty_word words ≡ false) × Passes scope (form_of scope.names words)
+pub words_pass : (scope : Scope) (words : List (List ℕ)) → fault_in_words scope words ≡ None
+    → (has_empty_word words ≡ false) × Passes scope (form_of scope.names words)
 words_pass scope words h =
     let whole = not_first _ _ _ h in
     (whole.0, passes scope (form_of scope.names words) whole.1)
 
-used_suits : (names : List Given) (place : Place) (word : List ℕ) → option_map_or (suits place) (named names word) false ≡ true → IsUsed names place word
+used_suits : (names : List Given) (place : Place) (word : List ℕ)
+    → option_map_or (suits place) (named names word) false ≡ true → IsUsed names place word
 used_suits names place word h = by (named names word) refl h
   where
     by : (o : Option Named) → named names word ≡ o → option_map_or (suits place) o false ≡ true → IsUsed names place word
@@ -90,7 +95,8 @@ all_suit version names (place ∷ places) (word ∷ words) count named fresh sui
     let f = or_parts _ _ texts in
     (one place a.0 b.0 d.0 e.0 f.0, all_suit version names places words (omega arith) a.1 b.1 d.1 e.1 f.1)
   where
-    one : (p : Place) → is_bad_name p word ≡ false → is_taken names p word ≡ false → is_wrong_kind names p word ≡ false → is_bad_number version p word ≡ false → is_bad_text version p word ≡ false → Suits names p word
+    one : (p : Place) → is_bad_name p word ≡ false → is_taken names p word ≡ false → is_wrong_kind names p word ≡ false
+        → is_bad_number version p word ≡ false → is_bad_text version p word ≡ false → Suits names p word
     one Fresh n f s k t = (not-false _ n, f)
     one Message n f s k t = message_word_is_text (version == 2) word k t
     one Capacity n f s k t = not-false _ k
@@ -98,10 +104,12 @@ all_suit version names (place ∷ places) (word ∷ words) count named fresh sui
 
 -- and each word suits its place
 pub all_suit-passes : (scope : Scope) (form : Form) → Passes scope form → AllSuit scope.names (places_of form) (rest_of form)
-all_suit-passes scope form p = all_suit scope.version scope.names (places_of form) (rest_of form) p.count p.names p.fresh p.suited p.numbers p.texts
+all_suit-passes scope form p =
+    all_suit scope.version scope.names (places_of form) (rest_of form) p.count p.names p.fresh p.suited p.numbers p.texts
 
 -- a name that is given is a name, and was not given before
-pub fresh_suits : (names : List Given) (places : List Place) (words : List (List ℕ)) (word : List ℕ) → AllSuit names places words → fresh_word places words ≡ Some word → Suits names Fresh word
+pub fresh_suits : (names : List Given) (places : List Place) (words : List (List ℕ)) (word : List ℕ) → AllSuit names places words
+    → fresh_word places words ≡ Some word → Suits names Fresh word
 fresh_suits names [] words word h e = absurd (none-some word e)
 fresh_suits names (place ∷ places) [] word h e = absurd h
 fresh_suits names (Fresh ∷ places) (w ∷ words) word h e = subst (Suits names Fresh) (same_Some w word e) h.0

@@ -28,7 +28,8 @@ name_text (b ∷ bs) h =
     let whole = and_parts _ _ h in
     let front = and_parts _ _ whole.0 in
     let first = and_parts _ _ front.0 in
-    IsUtf8-from_ascii (b ∷ bs) (IsAscii-from_all (b ∷ bs) (All-cons (λ x. x < 128) b bs (letter_low b first.0) (All-weaker (λ x. is_name_byte x ≡ true) (λ x. x < 128) name_byte_low bs (AllPass-from_list_all is_name_byte bs first.1))))
+    IsUtf8-from_ascii (b ∷ bs) (IsAscii-from_all (b ∷ bs) (All-cons (λ x. x < 128) b bs (letter_low b first.0)
+    (All-weaker (λ x. is_name_byte x ≡ true) (λ x. x < 128) name_byte_low bs (AllPass-from_list_all is_name_byte bs first.1))))
 
 pub name_short : (word : List ℕ) → is_name word ≡ true → length word < 2 ^ 63
 name_short [] h = absurd (let e : false ≡ true = h in cc)

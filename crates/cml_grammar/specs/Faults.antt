@@ -1,5 +1,6 @@
 -- What is wrong with a line, and with a text: the first test of the table that holds, on the least line.
-use Rattle.std.specs.Prelude.{ℕ, suc, ◌≡◌, ◌⊎◌, ◌==◌, Bool, true, false, not, ◌&&◌, ◌||◌, nat_lt, nat_le, List, [], ◌∷◌, ◌++◌, length, Option, Some, None, if◌then◌else◌, codes}
+use Rattle.std.specs.Prelude.{ℕ, suc, ◌≡◌, ◌⊎◌, ◌==◌, Bool, true, false, not, ◌&&◌, ◌||◌, nat_lt, nat_le, List, [], ◌∷◌}
+use Rattle.std.specs.Prelude.{◌++◌, length, Option, Some, None, if◌then◌else◌, codes}
 use Rattle.std.specs.Option.{option_map, option_map_or, option_and_then, option_to_list}
 use Rattle.std.specs.List.{list_any, zip}
 use Rattle.std.specs.Str.{bytes_eq}
@@ -10,12 +11,15 @@ use Rattle.cml_grammar.specs.declared.forms.Declares.TheVariants as declares
 use Rattle.cml_grammar.specs.declared.forms.Place.{Place}
 use Rattle.cml_grammar.specs.declared.forms.Place.TheVariants.{Message, Capacity}
 use Rattle.cml_grammar.specs.declared.fault.What.{What}
-use Rattle.cml_grammar.specs.declared.fault.What.TheVariants.{NoLineEnd, BadBytes, BadHeader, BadWords, UnknownLine, LateDeclaration, UnknownStep, WordCount, BadName, NameTaken, UnknownName, WrongKind, NotYours, BadNumber, BadText, LaneTaken, TooManyThreads, TooLong, Memory}
+use Rattle.cml_grammar.specs.declared.fault.What.TheVariants.{NoLineEnd, BadBytes, BadHeader, BadWords, UnknownLine, LateDeclaration}
+use Rattle.cml_grammar.specs.declared.fault.What.TheVariants.{UnknownStep, WordCount, BadName, NameTaken, UnknownName, WrongKind, NotYours}
+use Rattle.cml_grammar.specs.declared.fault.What.TheVariants.{BadNumber, BadText, LaneTaken, TooManyThreads, TooLong, Memory}
 use Rattle.cml_grammar.specs.declared.fault.Fault.{Fault}
 use Rattle.cml_messages.specs.Prelude.{is_text}
 use Rattle.cml_grammar.specs.Words.{parts_of, words_of, is_bad_byte, is_skipped, has_empty_word}
 use Rattle.cml_grammar.specs.Names.{Given, is_name, is_number, is_capacity, position_of, is_given, named, seat_of, thread_count}
-use Rattle.cml_grammar.specs.Forms.{Form, unknown, declaration, lane, no_step, step, form_of, places_of, rest_of, is_name_place, is_fresh, is_used, suits, fresh_word, owner_of, named_by, declared_places, seat_of_form, is_others, step_places}
+use Rattle.cml_grammar.specs.Forms.{Form, unknown, declaration, lane, no_step, step, form_of, places_of, rest_of, is_name_place, is_fresh}
+use Rattle.cml_grammar.specs.Forms.{is_used, suits, fresh_word, owner_of, named_by, declared_places, seat_of_form, is_others, step_places}
 
 -- what a lane lies between: a thread by its seat, and an object by its position among the names
 abbrev pub Ends : Type 0
@@ -158,7 +162,8 @@ given_as n word = option_to_list (option_map (λ w. (w, n)) word)
 -- the names that a line gives
 abbrev pub gives : List Given → Form → List Given
 gives names unknown = []
-gives names (declaration d rest) = given_as (named_by d (thread_count names) (owner_of names rest)) (fresh_word (declared_places d rest) rest)
+gives names (declaration d rest) =
+    given_as (named_by d (thread_count names) (owner_of names rest)) (fresh_word (declared_places d rest) rest)
 gives names (lane rest) = []
 gives names (no_step seat) = []
 gives names (step seat v rest) = given_as (called.Port (users.One seat)) (fresh_word (step_places v) rest)

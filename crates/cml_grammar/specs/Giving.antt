@@ -1,5 +1,6 @@
 -- Which line of a script gives which of its names.
-use Rattle.std.specs.Prelude.{ℕ, ◌+◌, ◌≡◌, ◌<◌, true, Bool, List, [], ◌∷◌, length, slice_get, take, count_by, Option, Some, None, is_some, ◌⊎◌}
+use Rattle.std.specs.Prelude.{ℕ, ◌+◌, ◌≡◌, ◌<◌, true, Bool, List, [], ◌∷◌, length, slice_get, take, count_by, Option}
+use Rattle.std.specs.Prelude.{Some, None, is_some, ◌⊎◌}
 use Rattle.std.specs.Option.{option_and_then}
 use Rattle.cml_grammar.specs.declared.names.Named.{Named}
 use Rattle.cml_grammar.specs.declared.names.Named.TheVariants as called
@@ -31,7 +32,8 @@ names_before declared asked k = length declared + count_by is_giving (take k ask
 abbrev pub GivesPort : List Given → ℕ → List (List ℕ) → Type 0
 GivesPort names at words =
     (word : List ℕ) × (seat : ℕ)
-    × (asked_word words ≡ Some word) × (seat_of_step names words ≡ Some seat) × (slice_get names at ≡ Some (word, called.Port (users.One seat)))
+    × (asked_word words ≡ Some word) × (seat_of_step names words ≡ Some seat)
+    × (slice_get names at ≡ Some (word, called.Port (users.One seat)))
 
 -- a declaration of these words gives the name at this position
 abbrev pub GivesDeclared : List Given → ℕ → List (List ℕ) → Type 0
@@ -39,12 +41,14 @@ GivesDeclared names at words = (word : List ℕ) × (n : Named) × (declared_wor
 
 -- the k-th step gives the i-th name
 abbrev pub IsGivenAt : List SourceLine → List SourceLine → ℕ → Type 0
-IsGivenAt declared asked i = (k : ℕ) × (line : SourceLine) × (slice_get asked k ≡ Some line) × (is_giving line ≡ true) × (i ≡ names_before declared asked k)
+IsGivenAt declared asked i = (k : ℕ) × (line : SourceLine) × (slice_get asked k ≡ Some line) × (is_giving line ≡ true)
+    × (i ≡ names_before declared asked k)
 
 -- The i-th declaration gives the i-th name. Behind those are the names that steps give, in text order, each for a port of
 -- the step's thread. There are no others.
 pub record NamesAreGiven (names : List Given) (declared asked : List SourceLine) : Type 0 where
   pub total : length names ≡ length declared + count_by is_giving asked
   pub declares : (i : ℕ) (line : SourceLine) → slice_get declared i ≡ Some line → GivesDeclared names i line.words
-  pub steps : (k : ℕ) (line : SourceLine) → slice_get asked k ≡ Some line → is_giving line ≡ true → GivesPort names (names_before declared asked k) line.words
+  pub steps : (k : ℕ) (line : SourceLine) → slice_get asked k ≡ Some line → is_giving line ≡ true
+      → GivesPort names (names_before declared asked k) line.words
   pub each : (i : ℕ) (g : Given) → slice_get names i ≡ Some g → (i < length declared) ⊎ IsGivenAt declared asked i

@@ -33,7 +33,8 @@ PrintedNumbersAreRead = (n : ℕ) → n < 2 ^ 64 → is_number (decimal n) ≡ t
 abbrev pub NumbersAreTexts : Type 0
 NumbersAreTexts =
     (body : List ℕ) (script : Lines) → IsScript (codes "cml 1" ++ 10 ∷ body) script
-    → IsScript (codes "cml 2" ++ 10 ∷ body) (record { version = 2; declarations = script.declarations; lanes = script.lanes; steps = script.steps })
+    → IsScript (codes "cml 2" ++ 10 ∷ body)
+    (record { version = 2; declarations = script.declarations; lanes = script.lanes; steps = script.steps })
 
 -- a line's words, with a space between each two, are the line
 abbrev pub WordsMakeLines : Type 0

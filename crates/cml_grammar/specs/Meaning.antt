@@ -44,7 +44,8 @@ names_of script = (scope_of script).names
 -- what a feed's line says: its thread's seat, its channel by its position among the names, and its capacity
 abbrev pub feed_by : List Given → List (List ℕ) → Option FeedMaking
 feed_by names (thread ∷ name ∷ channel ∷ capacity ∷ []) =
-    option_and_then (λ seat. option_map (λ at. record { seat = seat; channel = at; capacity = digits_value 10 capacity }) (position_of names channel)) (seat_of names thread)
+    option_and_then (λ seat. option_map (λ at. record { seat = seat; channel = at; capacity = digits_value 10 capacity })
+    (position_of names channel)) (seat_of names thread)
 feed_by names _ = None
 
 -- what a declaration of these words makes: a port's channel by its position among the names, an m-variable with its message

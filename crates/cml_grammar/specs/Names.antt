@@ -1,5 +1,6 @@
 -- Names and numbers, and the list of the names given.
-use Rattle.std.specs.Prelude.{ℕ, ◌==◌, ◌^◌, Bool, false, not, ◌&&◌, ◌||◌, nat_lt, nat_le, List, [], ◌∷◌, length, slice_get, is_some, Option, Some, None, position, count_by, codes}
+use Rattle.std.specs.Prelude.{ℕ, ◌==◌, ◌^◌, Bool, false, not, ◌&&◌, ◌||◌, nat_lt, nat_le, List, [], ◌∷◌, length, slice_get}
+use Rattle.std.specs.Prelude.{is_some, Option, Some, None, position, count_by, codes}
 use Rattle.std.specs.Option.{option_map, option_and_then}
 use Rattle.std.specs.List.{list_any, list_all}
 use Rattle.std.specs.Str.{bytes_eq, all_ascii_digits}
@@ -20,7 +21,8 @@ is_name_byte b = is_letter b || is_digit b || b == 95
 
 -- the words that are no names
 abbrev pub reserved : List (List ℕ)
-reserved = codes "cml" ∷ codes "mailbox" ∷ codes "channel" ∷ codes "port" ∷ codes "ivar" ∷ codes "mvar" ∷ codes "thread" ∷ codes "lane" ∷ codes "feed" ∷ []
+reserved = codes "cml" ∷ codes "mailbox" ∷ codes "channel" ∷ codes "port" ∷ codes "ivar" ∷ codes "mvar" ∷ codes "thread"
+    ∷ codes "lane" ∷ codes "feed" ∷ []
 
 abbrev pub is_reserved : List ℕ → Bool
 is_reserved word = list_any (λ other. bytes_eq word other) reserved

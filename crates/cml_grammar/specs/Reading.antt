@@ -1,5 +1,6 @@
 -- How a script is kept, and what a reader of its lists may rely on.
-use Rattle.std.specs.Prelude.{ℕ, ◌≡◌, ◌<◌, ◌≤◌, ◌==◌, Bool, true, false, not, if◌then◌else◌, List, [], ◌++◌, length, map, Some, is_some, String, string_bytes, slice_get, All, ⊤, ◌⊎◌}
+use Rattle.std.specs.Prelude.{ℕ, ◌≡◌, ◌<◌, ◌≤◌, ◌==◌, Bool, true, false, not, if◌then◌else◌, List, [], ◌++◌, length, map, Some}
+use Rattle.std.specs.Prelude.{is_some, String, string_bytes, slice_get, All, ⊤, ◌⊎◌}
 use Rattle.std.specs.Global.{Global}
 use Rattle.std.specs.Map.{keys_of}
 use Rattle.cml_messages.specs.Prelude.{is_text}
@@ -163,13 +164,15 @@ pub record ReadsStep (names : List Given) (s : Step) : Type 0 where
 
 -- each name that a step uses is given before it
 abbrev pub UsesEarlier : Lines → List Step → Type 0
-UsesEarlier script asked = (k : ℕ) (s : Step) → slice_get asked k ≡ Some s → used_by s.action < names_before script.declarations script.steps k
+UsesEarlier script asked = (k : ℕ) (s : Step) → slice_get asked k ≡ Some s
+    → used_by s.action < names_before script.declarations script.steps k
 
 -- the capacity of each lane by its ends
 abbrev pub capacities_of : List Lane → List (Ends × ℕ)
 capacities_of lanes = map (λ l. ((l.seat, l.target), l.capacity)) lanes
 
-pub record IsReading (script : Lines) (entries : List (String Global × Named)) (declared : List Declaration) (laid : List Lane) (capacities : List (Ends × ℕ)) (asked : List Step) : Type 0 where
+pub record IsReading (script : Lines) (entries : List (String Global × Named)) (declared : List Declaration) (laid : List Lane)
+    (capacities : List (Ends × ℕ)) (asked : List Step) : Type 0 where
   pub names : texts_of entries ≡ names_of script
   pub gives : GivesNames (names_of script) declared
   pub given : NamesAreGiven (names_of script) script.declarations script.steps
@@ -184,7 +187,8 @@ pub record IsReading (script : Lines) (entries : List (String Global × Named)) 
   pub short : length asked ≤ 1048576
 
 -- the same of the lines so far, with the number of threads beside them, and what the next line needs to know
-pub record IsReadSoFar (script : Lines) (entries : List (String Global × Named)) (declared : List Declaration) (laid : List Lane) (capacities : List (Ends × ℕ)) (asked : List Step) (threads : ℕ) : Type 0 where
+pub record IsReadSoFar (script : Lines) (entries : List (String Global × Named)) (declared : List Declaration) (laid : List Lane)
+    (capacities : List (Ends × ℕ)) (asked : List Step) (threads : ℕ) : Type 0 where
   pub names : texts_of entries ≡ names_of script
   pub gives : GivesNames (names_of script) declared
   pub given : NamesAreGiven (names_of script) script.declarations script.steps

@@ -148,7 +148,9 @@ pub(crate) fn fault_in_form(
     form: &Form,
 ) -> Option<What>
     requires { threads ≡ thread_count (texts_of names.now.entries) }
-    ensures { result ≡ first_of (tests_of_form (record { version = version; names = texts_of names.now.entries; started = started; lanes = keys_of lanes.now.entries }) (shown form.now)) }
+    ensures { result ≡ first_of (tests_of_form
+        (record { version = version; names = texts_of names.now.entries; started = started; lanes = keys_of lanes.now.entries })
+        (shown form.now)) }
 {
     let seat = form.seat();
     let tests = [

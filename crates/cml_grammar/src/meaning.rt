@@ -56,7 +56,8 @@ fn given_capacity(word: &str) -> usize
 /// What a feed's line says whose words suit their places.
 #[tactic(auto, using(crate::proofs::RingLemmas::feed_words))]
 fn feed_by(names: &IndexMap<String, Named>, rest: &[&str]) -> FeedMaking
-    requires { AllSuit (texts_of names.now.entries) (declared_places Declares.Feed (map (λ w. w.now) rest.now)) (map (λ w. w.now) rest.now) }
+    requires { AllSuit (texts_of names.now.entries)
+        (declared_places Declares.Feed (map (λ w. w.now) rest.now)) (map (λ w. w.now) rest.now) }
     ensures { feed_by (texts_of names.now.entries) (map (λ w. w.now) rest.now) ≡ Some result }
 {
     FeedMaking {
@@ -99,7 +100,8 @@ pub(crate) fn makes_by(
     declares: Declares,
     rest: &[&str],
 ) -> Result<Makes, AllocError>
-    requires suits { AllSuit (texts_of names.now.entries) (declared_places declares (map (λ w. w.now) rest.now)) (map (λ w. w.now) rest.now) }
+    requires suits { AllSuit (texts_of names.now.entries)
+        (declared_places declares (map (λ w. w.now) rest.now)) (map (λ w. w.now) rest.now) }
     requires seats { All (λ g. IsSeatedWithin (thread_count (texts_of names.now.entries)) g.1) (texts_of names.now.entries) }
     ensures makes { IfOk result (λ made. makes_by (texts_of names.now.entries) declares (map (λ w. w.now) rest.now) ≡ Some made) }
     ensures uses { IfOk result (λ made. IsMadeWell (texts_of names.now.entries) (length (texts_of names.now.entries)) made) }

@@ -36,7 +36,8 @@ impl Model for Reading {
 
     ghost view = { λ r. view_of r.kept.version r.kept.declarations.items r.kept.lanes.items r.kept.steps.items };
 
-    ghost invariant = { λ r. IsReadSoFar (view_of r.kept.version r.kept.declarations.items r.kept.lanes.items r.kept.steps.items) r.kept.names.entries r.kept.declarations.items r.kept.lanes.items r.kept.capacities.entries r.kept.steps.items r.threads };
+    ghost invariant = { λ r. IsReadSoFar (view_of r.kept.version r.kept.declarations.items r.kept.lanes.items r.kept.steps.items)
+        r.kept.names.entries r.kept.declarations.items r.kept.lanes.items r.kept.capacities.entries r.kept.steps.items r.threads };
 }
 
 fn is_bad_header(number: u64, line: &[u8]) -> bool

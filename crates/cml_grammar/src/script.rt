@@ -65,7 +65,8 @@ impl Model for Script {
 
     ghost view = { λ s. view_of s.kept.version s.kept.declarations.items s.kept.lanes.items s.kept.steps.items };
 
-    ghost invariant = { λ s. IsReading (view_of s.kept.version s.kept.declarations.items s.kept.lanes.items s.kept.steps.items) s.kept.names.entries s.kept.declarations.items s.kept.lanes.items s.kept.capacities.entries s.kept.steps.items };
+    ghost invariant = { λ s. IsReading (view_of s.kept.version s.kept.declarations.items s.kept.lanes.items s.kept.steps.items)
+        s.kept.names.entries s.kept.declarations.items s.kept.lanes.items s.kept.capacities.entries s.kept.steps.items };
 }
 
 impl Declaration {
@@ -83,10 +84,12 @@ impl Script {
     ghost use Rattle.cml_grammar.specs.Meaning.{names_of};
     ghost use Rattle.cml_grammar.specs.Giving.{NamesAreGiven};
     ghost use Rattle.cml_grammar.specs.Rings.{capacity_of, first_lane, first_feed, first_ring};
-    ghost use Rattle.cml_grammar.specs.Reading.{source_of, view_of, texts_of, GivesNames, ReadsDeclaration, ReadsLane, ReadsStep, IsCapacity, UsesEarlier, IsReading};
+    ghost use Rattle.cml_grammar.specs.Reading.{source_of, view_of, texts_of, GivesNames, ReadsDeclaration, ReadsLane, ReadsStep};
+    ghost use Rattle.cml_grammar.specs.Reading.{IsCapacity, UsesEarlier, IsReading};
 
     pub(crate) fn new(kept: Kept) -> Script
-        requires { IsReading (view_of kept.version kept.declarations.items kept.lanes.items kept.steps.items) kept.names.entries kept.declarations.items kept.lanes.items kept.capacities.entries kept.steps.items }
+        requires { IsReading (view_of kept.version kept.declarations.items kept.lanes.items kept.steps.items) kept.names.entries
+            kept.declarations.items kept.lanes.items kept.capacities.entries kept.steps.items }
         ensures { result ≡ view_of kept.version kept.declarations.items kept.lanes.items kept.steps.items }
     {
         Script { kept }

@@ -6,7 +6,8 @@ use Rattle.cml_board.specs.declared.call.Call.TheVariants.{Poll}
 use Rattle.cml_board.specs.declared.entry.Reply.TheVariants.{Nothing, Closed}
 use Rattle.cml_board.specs.declared.outcome.Refusal.TheVariants.{NoMemory}
 
-makes_none : (opened : Bool) (messages : List ℕ) → tells_name (if opened then Some (unwrap_or (received messages) Nothing) else Some Closed) ≡ false
+makes_none : (opened : Bool) (messages : List ℕ)
+    → tells_name (if opened then Some (unwrap_or (received messages) Nothing) else Some Closed) ≡ false
 makes_none true [] = refl
 makes_none true (message ∷ messages) = refl
 makes_none false messages = refl

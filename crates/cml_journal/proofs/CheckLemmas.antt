@@ -1,5 +1,7 @@
 -- What was read and checked so far, and what a halt says of it.
-use Rattle.std.proofs.Common.{◌≡◌, ◌⊎◌, inl, inr, ℕ, Bool, true, not, ◌&&◌, ◌==◌, is_none, ◌+◌, ◌%◌, ◌^◌, ◌≤◌, zero, suc, List, [], ◌∷◌, ◌++◌, length, reverse, take, slice_get, Option, Some, None, Ok, Err, refl, sym, ap, subst, ◌∙◌, arith, append_assoc, length-append}
+use Rattle.std.proofs.Common.{◌≡◌, ◌⊎◌, inl, inr, ℕ, Bool, true, not, ◌&&◌, ◌==◌, is_none, ◌+◌, ◌%◌, ◌^◌, ◌≤◌, zero, suc}
+use Rattle.std.proofs.Common.{List, [], ◌∷◌, ◌++◌, length, reverse, take, slice_get, Option, Some, None, Ok, Err, refl, sym}
+use Rattle.std.proofs.Common.{ap, subst, ◌∙◌, arith, append_assoc, length-append}
 use Rattle.std.specs.Option.{option_to_list}
 use Rattle.std.proofs.lemmas.Bool.{and_parts}
 use Rattle.std.proofs.lemmas.List.{append-nil, reverse-append, length-reverse}
@@ -16,11 +18,13 @@ use Rattle.std.specs.Prelude.{string_bytes}
 use Rattle.cml_journal.proofs.FeedLemmas.{on, placed, reading-append}
 use Rattle.cml_journal.proofs.PositionLemmas.{ends_behind_last, entries_are_counted}
 
-pub lists_found : {M : Type 0} (state : State) {found other : Option (Entry M)} → found ≡ other → placed state (option_to_list found) ≡ placed state (option_to_list other)
+pub lists_found : {M : Type 0} (state : State) {found other : Option (Entry M)} → found ≡ other
+    → placed state (option_to_list found) ≡ placed state (option_to_list other)
 lists_found {M} state same = ap (λ (f : Option (Entry M)). placed state (option_to_list f)) same
 
 module _ {M : Type 0} (version : ℕ) (meaning : List ℕ → Option M) where
-  pub nothing_so_far : (progress : Progress M) → progress.state ≡ waiting_at 0 → progress.checker ≡ Ok [] → progress.halt ≡ None → IsSoFar version meaning [] progress
+  pub nothing_so_far : (progress : Progress M) → progress.state ≡ waiting_at 0 → progress.checker ≡ Ok [] → progress.halt ≡ None
+      → IsSoFar version meaning [] progress
   unfolding reading
   nothing_so_far progress state checker running = record {
     entries = [];
@@ -39,19 +43,23 @@ module _ {M : Type 0} (version : ℕ) (meaning : List ℕ → Option M) where
   goes_on old mid new front rest first second bytes so =
       subst (λ (b : List ℕ). IsSoFar version meaning b new) (append_assoc bytes front rest) (second (bytes ++ front) (first bytes so))
 
-  pub halts_later : (old mid new : Progress M) (all front rest : List ℕ) (halted : Halt) → all ≡ front ++ rest → Goes version meaning old front mid
+  pub halts_later : (old mid new : Progress M) (all front rest : List ℕ) (halted : Halt) → all ≡ front ++ rest
+      → Goes version meaning old front mid
       → HaltsIn version meaning mid rest new halted → HaltsIn version meaning old all new halted
   halts_later old mid new all front rest halted cut first second bytes so =
-      subst (λ (b : List ℕ). HaltTells version meaning b new halted) (append_assoc bytes front rest ∙ ap (λ (b : List ℕ). bytes ++ b) (sym cut)) (second (bytes ++ front) (first bytes so))
+      subst (λ (b : List ℕ). HaltTells version meaning b new halted)
+      (append_assoc bytes front rest ∙ ap (λ (b : List ℕ). bytes ++ b) (sym cut)) (second (bytes ++ front) (first bytes so))
 
   -- ---- a line
   -- what is read behind the bytes so far
   read_on : (bytes taken : List ℕ) (old : Progress M) (next : State) (found : List (Entry M)) (so : IsSoFar version meaning bytes old)
-      → reading version meaning old.state taken ≡ Ok (next, found) → reading version meaning (waiting_at 0) (bytes ++ taken) ≡ Ok (next, so.entries ++ found)
+      → reading version meaning old.state taken ≡ Ok (next, found)
+      → reading version meaning (waiting_at 0) (bytes ++ taken) ≡ Ok (next, so.entries ++ found)
   read_on bytes taken old next found so read =
       reading-append version meaning (waiting_at 0) bytes taken ∙ ap (on version meaning taken) so.read ∙ ap (behind so.entries) read
 
-  pub goes_past_line : (old new : Progress M) (taken : List ℕ) → reading version meaning old.state taken ≡ Ok (new.state, []) → new.checker ≡ old.checker
+  pub goes_past_line : (old new : Progress M) (taken : List ℕ)
+      → reading version meaning old.state taken ≡ Ok (new.state, []) → new.checker ≡ old.checker
       → new.halt ≡ old.halt → Goes version meaning old taken new
   goes_past_line old new taken read same halt bytes so = record {
     entries = so.entries;
@@ -64,7 +72,8 @@ module _ {M : Type 0} (version : ℕ) (meaning : List ℕ → Option M) where
   one_more : (entries : List (Entry M)) (entry : Entry M) → reverse (entries ++ entry ∷ []) ≡ entry ∷ reverse entries
   one_more entries entry = reverse-append entries (entry ∷ [])
 
-  goes_past_entry : (old new : Progress M) (taken : List ℕ) (entry : Entry M) → reading version meaning old.state taken ≡ Ok (new.state, entry ∷ [])
+  goes_past_entry : (old new : Progress M) (taken : List ℕ) (entry : Entry M)
+      → reading version meaning old.state taken ≡ Ok (new.state, entry ∷ [])
       → Feeds old.checker (entry ∷ []) new.checker (Ok tt) → new.halt ≡ old.halt → Goes version meaning old taken new
   goes_past_entry old new taken entry read feeds halt bytes so =
       let fed = subst (λ (c : Found M). Feeds c (entry ∷ []) new.checker (Ok tt)) so.checked feeds in
@@ -76,13 +85,15 @@ module _ {M : Type 0} (version : ℕ) (meaning : List ℕ → Option M) where
         running = halt ∙ so.running;
       }
 
-  pub goes_past_entry_to : (old : Progress M) (next : State) (new : Progress M) (taken : List ℕ) (entry : Entry M) → reading version meaning old.state taken ≡ Ok (next, entry ∷ [])
+  pub goes_past_entry_to : (old : Progress M) (next : State) (new : Progress M) (taken : List ℕ) (entry : Entry M)
+      → reading version meaning old.state taken ≡ Ok (next, entry ∷ [])
       → new.state ≡ next → Feeds old.checker (entry ∷ []) new.checker (Ok tt) → new.halt ≡ old.halt → Goes version meaning old taken new
   goes_past_entry_to old next new taken entry read same feeds halt =
       goes_past_entry old new taken entry (read ∙ ap (λ (s : State). Ok (s, entry ∷ [])) (sym same)) feeds halt
 
   -- all before a line that was not read is as it was
-  shows_so_far : (old new : Progress M) (front bytes : List ℕ) → new.state.lines ≡ old.state.lines → new.checker ≡ old.checker → IsSoFar version meaning front old
+  shows_so_far : (old new : Progress M) (front bytes : List ℕ) → new.state.lines ≡ old.state.lines → new.checker ≡ old.checker
+      → IsSoFar version meaning front old
       → ShowsFront version meaning (front ++ bytes) new
   shows_so_far old new front bytes lines checker so = record {
     front = front;
@@ -98,8 +109,10 @@ module _ {M : Type 0} (version : ℕ) (meaning : List ℕ → Option M) where
     checked = checker ∙ so.checked;
   }
 
-  shows_fault : (old new : Progress M) (front bytes : List ℕ) (line : ℕ) (what : What) → HasFault version meaning old.state bytes what → new.state.lines ≡ old.state.lines
-      → new.checker ≡ old.checker → line ≡ (new.state.lines + 1) % 2 ^ 64 → IsSoFar version meaning front old → ShowsFault version meaning (front ++ bytes) line what new
+  shows_fault : (old new : Progress M) (front bytes : List ℕ) (line : ℕ) (what : What) → HasFault version meaning old.state bytes what
+      → new.state.lines ≡ old.state.lines
+      → new.checker ≡ old.checker → line ≡ (new.state.lines + 1) % 2 ^ 64 → IsSoFar version meaning front old
+      → ShowsFault version meaning (front ++ bytes) line what new
   shows_fault old new front bytes line what has lines checker next so =
       let same = lines ∙ sym has.same_line in record {
         is = record {
@@ -121,13 +134,16 @@ module _ {M : Type 0} (version : ℕ) (meaning : List ℕ → Option M) where
         checked = checker ∙ so.checked;
       }
 
-  halts_by_unread : (old new : Progress M) (bytes : List ℕ) (line : ℕ) (e : Unread) → Meets version meaning old.state bytes e → new.state.lines ≡ old.state.lines
+  halts_by_unread : (old new : Progress M) (bytes : List ℕ) (line : ℕ) (e : Unread) → Meets version meaning old.state bytes e
+      → new.state.lines ≡ old.state.lines
       → new.checker ≡ old.checker → line ≡ (new.state.lines + 1) % 2 ^ 64 → HaltsIn version meaning old bytes new (halt_of e line)
   halts_by_unread old new bytes line unread.Memory meets lines checker next front so = shows_so_far old new front bytes lines checker so
-  halts_by_unread old new bytes line (unread.Fault what) meets lines checker next front so = shows_fault old new front bytes line what meets lines checker next so
+  halts_by_unread old new bytes line (unread.Fault what) meets lines checker next front so =
+      shows_fault old new front bytes line what meets lines checker next so
 
   pub halts_at_fault : (line : ℕ) (old new : Progress M) (bytes : List ℕ) (e : Unread) (halted : Halt) → halted ≡ halt_of e line
-      → Meets version meaning old.state bytes e → new.state.lines ≡ old.state.lines → new.checker ≡ old.checker → line ≡ (new.state.lines + 1) % 2 ^ 64
+      → Meets version meaning old.state bytes e → new.state.lines ≡ old.state.lines → new.checker ≡ old.checker
+      → line ≡ (new.state.lines + 1) % 2 ^ 64
       → HaltsIn version meaning old bytes new halted
   halts_at_fault line old new bytes e halted is meets lines checker next =
       subst (λ (x : Halt). HaltsIn version meaning old bytes new x) (sym is) (halts_by_unread old new bytes line e meets lines checker next)
@@ -167,11 +183,14 @@ module _ {M : Type 0} (version : ℕ) (meaning : List ℕ → Option M) where
       → IsFirstUnlawful (entries ++ entry ∷ []) (length entries)
   first_of_stop entries entry at stops =
       let one = only entry stops.entry stops.k stops.stands in
-      let at_start : followed_by (reverse entries) (entry ∷ []) stops.k ≡ reverse entries = ap (followed_by (reverse entries) (entry ∷ [])) one.0 in
+      let at_start : followed_by (reverse entries) (entry ∷ []) stops.k ≡ reverse entries =
+      ap (followed_by (reverse entries) (entry ∷ [])) one.0 in
       first_at_last entries entry (subst Lawful at_start stops.lawful)
-      (subst (λ (e : Entry M). IsLawfulNext (reverse entries) e → ⊥) (sym one.1) (subst (λ (h : List (Entry M)). IsLawfulNext h stops.entry → ⊥) at_start stops.unlawful))
+      (subst (λ (e : Entry M). IsLawfulNext (reverse entries) e → ⊥) (sym one.1)
+      (subst (λ (h : List (Entry M)). IsLawfulNext h stops.entry → ⊥) at_start stops.unlawful))
 
-  expects_last : (entries : List (Entry M)) (entry : Entry M) (at : ℕ) (expected : Expected M) → IsExpected (reverse entries) (entry ∷ []) at expected
+  expects_last : (entries : List (Entry M)) (entry : Entry M) (at : ℕ) (expected : Expected M)
+      → IsExpected (reverse entries) (entry ∷ []) at expected
       → Expects (before (entries ++ entry ∷ []) (length entries)) entry expected
   expects_last entries entry at expected is =
       let one = only entry is.entry is.k is.stands in
@@ -183,8 +202,10 @@ module _ {M : Type 0} (version : ℕ) (meaning : List ℕ → Option M) where
   stops_at_last entries entry at stops = last_position entries at stops.k stops.position (only entry stops.entry stops.k stops.stands).0
 
   is_unlawful : (old : Progress M) (next : State) (bytes taken rest : List ℕ) (entry : Entry M) (so : IsSoFar version meaning bytes old)
-      → reading version meaning old.state taken ≡ Ok (next, entry ∷ []) → next.line ≡ [] → (at : ℕ) (expected : Expected M) → StopsAt (reverse so.entries) (entry ∷ []) at
-      → IsExpected (reverse so.entries) (entry ∷ []) at expected → IsUnlawfulJournal version meaning (bytes ++ (taken ++ rest)) at entry expected
+      → reading version meaning old.state taken ≡ Ok (next, entry ∷ []) → next.line ≡ [] → (at : ℕ) (expected : Expected M)
+      → StopsAt (reverse so.entries) (entry ∷ []) at
+      → IsExpected (reverse so.entries) (entry ∷ []) at expected
+      → IsUnlawfulJournal version meaning (bytes ++ (taken ++ rest)) at entry expected
   is_unlawful old next bytes taken rest entry so read ended at expected stops is =
       let entries = so.entries ++ entry ∷ [] in
       let here = stops_at_last so.entries entry at stops in record {
@@ -202,19 +223,28 @@ module _ {M : Type 0} (version : ℕ) (meaning : List ℕ → Option M) where
       }
 
   -- an entry that is read can be counted
-  counts_one_more : (bytes : List ℕ) (next : State) (entries : List (Entry M)) (entry : Entry M) → reading version meaning (waiting_at 0) bytes ≡ Ok (next, entries ++ entry ∷ [])
+  counts_one_more : (bytes : List ℕ) (next : State) (entries : List (Entry M)) (entry : Entry M)
+      → reading version meaning (waiting_at 0) bytes ≡ Ok (next, entries ++ entry ∷ [])
       → 2 ^ 64 ≤ suc (length (reverse entries)) → ⊥
   counts_one_more bytes next entries entry read most =
-      absurd (omega (arith, entries_are_counted version meaning bytes next (entries ++ entry ∷ []) read, length-append entries (entry ∷ []), length-reverse entries, most))
+      absurd (omega (
+        arith,
+        entries_are_counted version meaning bytes next (entries ++ entry ∷ []) read,
+        length-append entries (entry ∷ []),
+        length-reverse entries,
+        most,
+      ))
 
   nothing_taken : (k : ℕ) → take {A = Entry M} k [] ≡ []
   nothing_taken zero = refl
   nothing_taken (suc k) = refl
 
   -- a check had no memory at an entry, before or behind its checker
-  shows_at_entry : (old new : Progress M) (next : State) (bytes taken rest : List ℕ) (entry : Entry M) (so : IsSoFar version meaning bytes old)
+  shows_at_entry : (old new : Progress M) (next : State) (bytes taken rest : List ℕ) (entry : Entry M)
+      (so : IsSoFar version meaning bytes old)
       → reading version meaning old.state taken ≡ Ok (next, entry ∷ []) → new.state ≡ next
-      → (new.checker ≡ Ok (reverse so.entries)) ⊎ Pauses (Ok (reverse so.entries)) (entry ∷ []) new.checker → ShowsFront version meaning (bytes ++ (taken ++ rest)) new
+      → (new.checker ≡ Ok (reverse so.entries)) ⊎ Pauses (Ok (reverse so.entries)) (entry ∷ []) new.checker
+      → ShowsFront version meaning (bytes ++ (taken ++ rest)) new
   shows_at_entry old new next bytes taken rest entry so read state = by
     where
       waits : new.checker ≡ Ok (reverse so.entries) → ShowsFront version meaning (bytes ++ (taken ++ rest)) new
@@ -232,7 +262,8 @@ module _ {M : Type 0} (version : ℕ) (meaning : List ℕ → Option M) where
         checked = checked;
       }
 
-      passed : new.checker ≡ Ok (entry ∷ reverse so.entries) → Lawful (entry ∷ reverse so.entries) → ShowsFront version meaning (bytes ++ (taken ++ rest)) new
+      passed : new.checker ≡ Ok (entry ∷ reverse so.entries) → Lawful (entry ∷ reverse so.entries)
+          → ShowsFront version meaning (bytes ++ (taken ++ rest)) new
       passed checked lawful =
           let more = sym (one_more so.entries entry) in record {
             front = bytes ++ taken;
@@ -248,19 +279,22 @@ module _ {M : Type 0} (version : ℕ) (meaning : List ℕ → Option M) where
             checked = checked ∙ ap (λ (h : List (Entry M)). Ok h) more;
           }
 
-      counted : (k : ℕ) → new.checker ≡ Ok (followed_by (reverse so.entries) (entry ∷ []) k) → Lawful (followed_by (reverse so.entries) (entry ∷ []) k)
+      counted : (k : ℕ) → new.checker ≡ Ok (followed_by (reverse so.entries) (entry ∷ []) k)
+          → Lawful (followed_by (reverse so.entries) (entry ∷ []) k)
           → ShowsFront version meaning (bytes ++ (taken ++ rest)) new
       counted zero checked lawful = waits checked
       counted (suc k) checked lawful =
           passed (checked ∙ ap (λ (l : List (Entry M)). Ok (reverse (entry ∷ l) ++ reverse so.entries)) (nothing_taken k))
           (subst (λ (l : List (Entry M)). Lawful (reverse (entry ∷ l) ++ reverse so.entries)) (nothing_taken k) lawful)
 
-      by : (new.checker ≡ Ok (reverse so.entries)) ⊎ Pauses (Ok (reverse so.entries)) (entry ∷ []) new.checker → ShowsFront version meaning (bytes ++ (taken ++ rest)) new
+      by : (new.checker ≡ Ok (reverse so.entries)) ⊎ Pauses (Ok (reverse so.entries)) (entry ∷ []) new.checker
+          → ShowsFront version meaning (bytes ++ (taken ++ rest)) new
       by (inl checked) = waits checked
       by (inr paused) = counted paused.0 paused.1 paused.2
 
   tells_at_entry : (old new : Progress M) (next : State) (bytes taken rest : List ℕ) (entry : Entry M)
-      → reading version meaning old.state taken ≡ Ok (next, entry ∷ []) → next.line ≡ [] → new.state ≡ next → (so : IsSoFar version meaning bytes old) → (halted : Halt)
+      → reading version meaning old.state taken ≡ Ok (next, entry ∷ []) → next.line ≡ [] → new.state ≡ next
+      → (so : IsSoFar version meaning bytes old) → (halted : Halt)
       → MayHaltAt (Ok (reverse so.entries)) entry new halted → HaltTells version meaning (bytes ++ (taken ++ rest)) new halted
   unfolding is_unlawful
   tells_at_entry old new next bytes taken rest entry read ended state so (halt.Unlawful at) may = record {
@@ -271,24 +305,29 @@ module _ {M : Type 0} (version : ℕ) (meaning : List ℕ → Option M) where
     last = may.1;
     shown = may.0.0.1;
   }
-  tells_at_entry old new next bytes taken rest entry read ended state so halt.NoMemory may = shows_at_entry old new next bytes taken rest entry so read state may
+  tells_at_entry old new next bytes taken rest entry read ended state so halt.NoMemory may =
+      shows_at_entry old new next bytes taken rest entry so read state may
   tells_at_entry old new next bytes taken rest entry read ended state so (halt.Fault line what) may =
       absurd (counts_one_more (bytes ++ taken) next so.entries entry (read_on bytes taken old next (entry ∷ []) so read) may)
 
   pub halts_at_entry : (old new : Progress M) (next : State) (bytes taken rest : List ℕ) (entry : Entry M) (halted : Halt)
-      → bytes ≡ taken ++ rest → reading version meaning old.state taken ≡ Ok (next, entry ∷ []) → next.line ≡ [] → new.state ≡ next → MayHaltAt old.checker entry new halted
+      → bytes ≡ taken ++ rest → reading version meaning old.state taken ≡ Ok (next, entry ∷ []) → next.line ≡ [] → new.state ≡ next
+      → MayHaltAt old.checker entry new halted
       → HaltsIn version meaning old bytes new halted
   halts_at_entry old new next all taken rest entry halted cut read ended state may bytes so =
       subst (λ (b : List ℕ). HaltTells version meaning (bytes ++ b) new halted) (sym cut)
-      (tells_at_entry old new next bytes taken rest entry read ended state so halted (subst (λ (c : Found M). MayHaltAt c entry new halted) so.checked may))
+      (tells_at_entry old new next bytes taken rest entry read ended state so halted
+      (subst (λ (c : Found M). MayHaltAt c entry new halted) so.checked may))
 
   -- ---- what is said of a halt
-  pub stops_as_told : (text : M → List ℕ) (old new : Progress M) (bytes : List ℕ) (halted : Halt) (told : Stop) → IsTold text new.last halted told
+  pub stops_as_told : (text : M → List ℕ) (old new : Progress M) (bytes : List ℕ) (halted : Halt) (told : Stop)
+      → IsTold text new.last halted told
       → HaltsIn version meaning old bytes new halted → StopsIn version meaning text old bytes new told
   stops_as_told text old new bytes (halt.Unlawful at) (stop.Unlawful position line) same halts front so =
       let shows = halts front so in
       let is : string_bytes line ≡ line_of text shows.entry = same.1 ∙ ap (line_of_last text) (shows.last) in
-      subst (λ (k : ℕ). (s : ShowsUnlawful version meaning (front ++ bytes) k new) × (string_bytes line ≡ line_of text s.entry)) (sym same.0) (shows, is)
+      subst (λ (k : ℕ). (s : ShowsUnlawful version meaning (front ++ bytes) k new) × (string_bytes line ≡ line_of text s.entry))
+      (sym same.0) (shows, is)
   stops_as_told text old new bytes (halt.Unlawful at) stop.NoMemory same halts front so = inr (at, halts front so)
   stops_as_told text old new bytes (halt.Unlawful at) (stop.Fault number what) same halts front so = absurd same
   stops_as_told text old new bytes (halt.Fault line what) (stop.Fault number fault) same halts front so =
@@ -330,7 +369,8 @@ module _ {M : Type 0} (version : ℕ) (meaning : List ℕ → Option M) where
       }
 
   -- a check that has stopped was never at some bytes
-  pub stops_no_more : (text : M → List ℕ) (old new : Progress M) (bytes : List ℕ) (halted : Halt) (told : Stop) → old.halt ≡ Some halted → StopsIn version meaning text old bytes new told
+  pub stops_no_more : (text : M → List ℕ) (old new : Progress M) (bytes : List ℕ) (halted : Halt) (told : Stop) → old.halt ≡ Some halted
+      → StopsIn version meaning text old bytes new told
   stops_no_more text old new bytes halted told stopped front so = absurd (none-some halted (sym so.running ∙ stopped))
 
   -- ---- a whole journal
@@ -355,7 +395,8 @@ module _ {M : Type 0} (version : ℕ) (meaning : List ℕ → Option M) where
 
   -- ---- a board from it
   pub restored_as_read : (progress : Progress M) (bytes : List ℕ) (limit : ℕ) (after : Found M) (restored : RestoredShown M)
-      → RestoresWith progress.checker limit after (Some restored) → IsSoFar version meaning bytes progress → IsRestored version meaning bytes limit restored
+      → RestoresWith progress.checker limit after (Some restored) → IsSoFar version meaning bytes progress
+      → IsRestored version meaning bytes limit restored
   restored_as_read progress bytes limit after restored restores so =
       let is = subst (λ (c : Found M). RestoresWith c limit after (Some restored)) so.checked restores in record {
         state = progress.state;
@@ -367,7 +408,8 @@ module _ {M : Type 0} (version : ℕ) (meaning : List ℕ → Option M) where
       }
 
   -- a checker that gave a board is as a new one
-  pub anew : (checker after : Found M) (limit : ℕ) (restored : RestoredShown M) → RestoresWith checker limit after (Some restored) → after ≡ Ok no_entries
+  pub anew : (checker after : Found M) (limit : ℕ) (restored : RestoredShown M)
+      → RestoresWith checker limit after (Some restored) → after ≡ Ok no_entries
   anew (Ok history) after limit restored is = is.2
   anew (Err unlawful) after limit restored is = absurd is
 

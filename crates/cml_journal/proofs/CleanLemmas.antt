@@ -1,5 +1,6 @@
 -- A line that was written has only bytes that a line may have.
-use Rattle.std.proofs.Common.{◌≡◌, ℕ, ◌<◌, ◌^◌, Bool, true, false, ◌||◌, nat_lt, nat_le, List, [], ◌∷◌, ◌++◌, Option, Some, None, refl, ap, ◌∙◌, arith}
+use Rattle.std.proofs.Common.{◌≡◌, ℕ, ◌<◌, ◌^◌, Bool, true, false, ◌||◌, nat_lt, nat_le, List, [], ◌∷◌, ◌++◌, Option}
+use Rattle.std.proofs.Common.{Some, None, refl, ap, ◌∙◌, arith}
 use Rattle.std.specs.Prelude.{codes, IfSome}
 use Rattle.std.specs.Fmt.{decimal}
 use Rattle.std.specs.List.{list_any, list_all}
@@ -56,15 +57,18 @@ word_clean {M} call =
     (λ a name. ap (λ r. is_dirty r.word) (asked_row M a name) ∙ (asked_word a).4)
     call
 
-object_clean : (o : Option Name) → IfSome o (λ (name : Name). name.0 < 2 ^ 64) → is_dirty (field (λ (name : Name). decimal name.0) o) ≡ false
+object_clean : (o : Option Name) → IfSome o (λ (name : Name). name.0 < 2 ^ 64)
+    → is_dirty (field (λ (name : Name). decimal name.0) o) ≡ false
 object_clean None small = refl
 object_clean (Some name) small = number_clean name.0 small
 
-message_clean : {M : Type 0} (text : M → List ℕ) (fits : M → Bool) (read : List ℕ → Option M) (written : IsWritten text fits read) (o : Option M) → IfSome o (λ message. fits message ≡ true) → is_dirty (field text o) ≡ false
+message_clean : {M : Type 0} (text : M → List ℕ) (fits : M → Bool) (read : List ℕ → Option M) (written : IsWritten text fits read)
+    (o : Option M) → IfSome o (λ message. fits message ≡ true) → is_dirty (field text o) ≡ false
 message_clean text fits read written None fit = refl
 message_clean text fits read written (Some message) fit = printed_clean (text message) (written.printed message fit)
 
-reply_clean : {M : Type 0} (text : M → List ℕ) (fits : M → Bool) (read : List ℕ → Option M) (written : IsWritten text fits read) (reply : Reply M) → ReplyFits fits reply → is_dirty (reply_text text reply) ≡ false
+reply_clean : {M : Type 0} (text : M → List ℕ) (fits : M → Bool) (read : List ℕ → Option M) (written : IsWritten text fits read)
+    (reply : Reply M) → ReplyFits fits reply → is_dirty (reply_text text reply) ≡ false
 reply_clean text fits read written Done fit = refl
 reply_clean text fits read written (Made name) fit = both_clean (codes "made") (32 ∷ decimal name.0) refl (number_clean name.0 fit)
 reply_clean text fits read written (Got message) fit = printed_clean (text message) (written.printed message fit)
@@ -72,13 +76,16 @@ reply_clean text fits read written Nothing fit = refl
 reply_clean text fits read written Put fit = refl
 reply_clean text fits read written Closed fit = refl
 
-pub line_clean : {M : Type 0} (text : M → List ℕ) (fits : M → Bool) (read : List ℕ → Option M) (written : IsWritten text fits read) (entry : Entry M) → HasLine fits entry → is_dirty (line_of text entry) ≡ false
+pub line_clean : {M : Type 0} (text : M → List ℕ) (fits : M → Bool) (read : List ℕ → Option M) (written : IsWritten text fits read)
+    (entry : Entry M) → HasLine fits entry → is_dirty (line_of text entry) ≡ false
 line_clean text fits read written entry has =
     both_clean (who_text entry.who ++ 32 ∷ call_text text entry.call) (58 ∷ 32 ∷ reply_text text entry.reply)
     (both_clean (who_text entry.who) (32 ∷ call_text text entry.call)
     (numbered_clean (who_word entry.who) (who_number entry.who) (who_word_clean entry.who) has.who)
-    (both_clean ((row_of entry.call).word ++ field (λ (name : Name). decimal name.0) (object_in entry.call)) (field text (message_of entry.call))
-    (both_clean (row_of entry.call).word (field (λ (name : Name). decimal name.0) (object_in entry.call)) (word_clean entry.call) (object_clean (object_in entry.call) has.object))
+    (both_clean ((row_of entry.call).word ++ field (λ (name : Name). decimal name.0) (object_in entry.call))
+    (field text (message_of entry.call))
+    (both_clean (row_of entry.call).word (field (λ (name : Name). decimal name.0) (object_in entry.call)) (word_clean entry.call)
+    (object_clean (object_in entry.call) has.object))
     (message_clean text fits read written (message_of entry.call) has.message)))
     (reply_clean text fits read written entry.reply has.reply)
 

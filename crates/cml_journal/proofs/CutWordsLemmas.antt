@@ -1,5 +1,6 @@
 -- Where a line is cut at a space, and a word loses its colon.
-use Rattle.std.proofs.Common.{◌≡◌, ◌≢◌, ℕ, suc, ◌<◌, Bool, true, false, ◌==◌, ◌||◌, nat_le, if◌then◌else◌, List, [], ◌∷◌, ◌++◌, length, get_or, Option, Some, None, refl, sym, ap, subst, ◌∙◌, arith}
+use Rattle.std.proofs.Common.{◌≡◌, ◌≢◌, ℕ, suc, ◌<◌, Bool, true, false, ◌==◌, ◌||◌, nat_le, if◌then◌else◌, List, [], ◌∷◌, ◌++◌}
+use Rattle.std.proofs.Common.{length, get_or, Option, Some, None, refl, sym, ap, subst, ◌∙◌, arith}
 use Rattle.std.specs.List.{list_any, list_all}
 use Rattle.std.specs.Option.{option_map, MatchOption}
 use Rattle.std.proofs.lemmas.Bool.{and_parts, or_parts, leb-true, eqb-true, ne_eqb}
@@ -33,8 +34,10 @@ pub cut_takes : (line : List ℕ) (x : List ℕ × List ℕ) → cut line ≡ So
 cut_takes [] x h = absurd (none-some x h)
 cut_takes (b ∷ bs) x h = by (b == 32) refl (cut_takes bs) h
   where
-    by : (t : Bool) → (b == 32) ≡ t → ((y : List ℕ × List ℕ) → cut bs ≡ Some y → bs ≡ y.0 ++ 32 ∷ y.1) → (if t then Some ([], bs) else option_map (behind_first b) (cut bs)) ≡ Some x → b ∷ bs ≡ x.0 ++ 32 ∷ x.1
-    by true e later f = subst (λ (y : List ℕ × List ℕ). b ∷ bs ≡ y.0 ++ 32 ∷ y.1) (same_Some ([], bs) x f) (ap (λ (c : ℕ). c ∷ bs) (eqb-true b 32 e))
+    by : (t : Bool) → (b == 32) ≡ t → ((y : List ℕ × List ℕ) → cut bs ≡ Some y → bs ≡ y.0 ++ 32 ∷ y.1)
+        → (if t then Some ([], bs) else option_map (behind_first b) (cut bs)) ≡ Some x → b ∷ bs ≡ x.0 ++ 32 ∷ x.1
+    by true e later f =
+        subst (λ (y : List ℕ × List ℕ). b ∷ bs ≡ y.0 ++ 32 ∷ y.1) (same_Some ([], bs) x f) (ap (λ (c : ℕ). c ∷ bs) (eqb-true b 32 e))
     by false e later f =
         let (y, found, made) = mapped_some (behind_first b) (cut bs) x f in
         subst (λ (z : List ℕ × List ℕ). b ∷ bs ≡ z.0 ++ 32 ∷ z.1) made (ap (λ (r : List ℕ). b ∷ r) (later y found))
@@ -60,7 +63,8 @@ colon_no_space (b ∷ bs) h =
 
 -- what `split_once` gives at a space
 pub cut_is : (line : List ℕ) (r : Option (Bor (List ℕ) × Bor (List ℕ)))
-    → MatchOption r ((i : ℕ) → i < length line → get_or line i 0 ≢ 32) (λ x. (line ≡ x.0.now ++ 32 ∷ x.1.now) × ((i : ℕ) → i < length x.0.now → get_or x.0.now i 0 ≢ 32))
+    → MatchOption r ((i : ℕ) → i < length line → get_or line i 0 ≢ 32)
+    (λ x. (line ≡ x.0.now ++ 32 ∷ x.1.now) × ((i : ℕ) → i < length x.0.now → get_or x.0.now i 0 ≢ 32))
     → option_map (λ parts. (parts.0.now, parts.1.now)) r ≡ cut line
 cut_is line None h = sym (cut_none line (no_space line h))
 cut_is line (Some x) h = sym (ap cut h.0 ∙ cut_again x.0.now x.1.now (no_space x.0.now h.1))

@@ -1,5 +1,6 @@
 -- A text is read byte by byte.
-use Rattle.std.proofs.Common.{◌≡◌, ℕ, ◌<◌, Bool, true, false, ◌==◌, if◌then◌else◌, List, [], ◌∷◌, ◌++◌, length, Option, Some, None, refl, sym, ap, subst, ◌∙◌, arith, append_assoc}
+use Rattle.std.proofs.Common.{◌≡◌, ℕ, ◌<◌, Bool, true, false, ◌==◌, if◌then◌else◌, List, [], ◌∷◌, ◌++◌, length, Option, Some}
+use Rattle.std.proofs.Common.{None, refl, sym, ap, subst, ◌∙◌, arith, append_assoc}
 use Rattle.std.specs.Option.{option_map}
 use Rattle.std.proofs.lemmas.Option.{none-some, cond_some}
 use Rattle.std.proofs.lemmas.Bool.{eqb-true, false_from_ne_true}
@@ -11,26 +12,31 @@ use Rattle.cml_journal.specs.EscapeLaws.{plain_first}
 abbrev onto : ℕ → List ℕ → List ℕ
 onto b rest = b ∷ rest
 
-escape_step : (text : List ℕ) (b : ℕ) (rest : List ℕ) → escape_at text ≡ Some (b, rest) → (bytes_in (37 ∷ text) ≡ option_map (onto b) (bytes_in rest)) × (length rest < length text)
+escape_step : (text : List ℕ) (b : ℕ) (rest : List ℕ) → escape_at text ≡ Some (b, rest)
+    → (bytes_in (37 ∷ text) ≡ option_map (onto b) (bytes_in rest)) × (length rest < length text)
 unfolding bytes_in
 escape_step [] b rest e = absurd (none-some (b, rest) e)
 escape_step (high ∷ []) b rest e = absurd (none-some (b, rest) e)
 escape_step (high ∷ low ∷ bs) b rest e =
     let (byte, found, same) = mapped_some (λ (b : ℕ). (b, bs)) (escaped high low) (b, rest) e in
-    subst (λ (y : ℕ × List ℕ). (bytes_in (37 ∷ high ∷ low ∷ bs) ≡ option_map (onto y.0) (bytes_in y.1)) × (length y.1 < length (high ∷ low ∷ bs))) same
+    subst (λ (y : ℕ × List ℕ). (bytes_in (37 ∷ high ∷ low ∷ bs) ≡ option_map (onto y.0) (bytes_in y.1))
+    × (length y.1 < length (high ∷ low ∷ bs))) same
     (ap (λ (o : Option ℕ). before o (bytes_in bs)) found, omega arith)
 
-pub byte_step : (text : List ℕ) (b : ℕ) (rest : List ℕ) → byte_at text ≡ Some (b, rest) → (bytes_in text ≡ option_map (onto b) (bytes_in rest)) × (length rest < length text)
+pub byte_step : (text : List ℕ) (b : ℕ) (rest : List ℕ) → byte_at text ≡ Some (b, rest)
+    → (bytes_in text ≡ option_map (onto b) (bytes_in rest)) × (length rest < length text)
 byte_step [] b rest e = absurd (none-some (b, rest) e)
 byte_step (a ∷ bs) b rest e = by (a == 37) refl e
   where
     Steps : ℕ × List ℕ → Type 0
     Steps y = (bytes_in (a ∷ bs) ≡ option_map (onto y.0) (bytes_in y.1)) × (length y.1 < length (a ∷ bs))
 
-    by : (t : Bool) → (a == 37) ≡ t → (if t then escape_at bs else (if is_plain a then Some (a, bs) else None)) ≡ Some (b, rest) → Steps (b, rest)
+    by : (t : Bool) → (a == 37) ≡ t
+        → (if t then escape_at bs else (if is_plain a then Some (a, bs) else None)) ≡ Some (b, rest) → Steps (b, rest)
     by true is f =
         let step = escape_step bs b rest f in
-        subst (λ (c : ℕ). (bytes_in (c ∷ bs) ≡ option_map (onto b) (bytes_in rest)) × (length rest < length (c ∷ bs))) (sym (eqb-true a 37 is)) (step.0, omega (arith, step.1))
+        subst (λ (c : ℕ). (bytes_in (c ∷ bs) ≡ option_map (onto b) (bytes_in rest)) × (length rest < length (c ∷ bs)))
+        (sym (eqb-true a 37 is)) (step.0, omega (arith, step.1))
     by false is f =
         let parts = cond_some (is_plain a) (a, bs) (b, rest) f in
         subst Steps parts.1 (plain_first a bs parts.0, omega arith)
@@ -60,7 +66,8 @@ bad_first a (c ∷ d ∷ bs) is apart =
 pub byte_end : (text : List ℕ) → byte_at text ≡ None → bytes_in text ≡ (if length text == 0 then Some [] else None)
 unfolding bytes_in
 byte_end [] e = refl
-byte_end (a ∷ bs) e = by (a == 37) refl e ∙ ap (λ t. if t then Some [] else None) (sym (false_from_ne_true (length (a ∷ bs) == 0) (λ z. absurd (omega (arith, eqb-true (length (a ∷ bs)) 0 z)))))
+byte_end (a ∷ bs) e = by (a == 37) refl e ∙ ap (λ t. if t then Some [] else None)
+    (sym (false_from_ne_true (length (a ∷ bs) == 0) (λ z. absurd (omega (arith, eqb-true (length (a ∷ bs)) 0 z)))))
   where
     whole : ℕ × List ℕ
     whole = (a, bs)
@@ -69,23 +76,27 @@ byte_end (a ∷ bs) e = by (a == 37) refl e ∙ ap (λ t. if t then Some [] else
     plainly true is plain f = absurd (none-some whole (sym f))
     plainly false is plain f = bad_first a bs is plain
 
-    by : (t : Bool) → (a == 37) ≡ t → (if t then escape_at bs else (if is_plain a then Some whole else None)) ≡ None → bytes_in (a ∷ bs) ≡ None
+    by : (t : Bool) → (a == 37) ≡ t → (if t then escape_at bs else (if is_plain a then Some whole else None)) ≡ None
+        → bytes_in (a ∷ bs) ≡ None
     by true is f = ap (λ (c : ℕ). bytes_in (c ∷ bs)) (eqb-true a 37 is) ∙ escape_end bs f
     by false is f = plainly (is_plain a) is refl f
 
 -- ---- the loop over a text
 pub goes_on : (front rest : List ℕ) (b : ℕ) (later : List ℕ) (whole : Option (List ℕ)) → Some (b, later) ≡ byte_at rest
-    → option_map (λ (more : List ℕ). front ++ more) (bytes_in rest) ≡ whole → option_map (λ (more : List ℕ). (front ++ b ∷ []) ++ more) (bytes_in later) ≡ whole
+    → option_map (λ (more : List ℕ). front ++ more) (bytes_in rest) ≡ whole
+    → option_map (λ (more : List ℕ). (front ++ b ∷ []) ++ more) (bytes_in later) ≡ whole
 goes_on front rest b later whole next so_far =
     regrouped (bytes_in later) ∙ ap (option_map (λ (more : List ℕ). front ++ more)) (sym (byte_step rest b later (sym next)).0) ∙ so_far
   where
-    regrouped : (o : Option (List ℕ)) → option_map (λ (more : List ℕ). (front ++ b ∷ []) ++ more) o ≡ option_map (λ (more : List ℕ). front ++ more) (option_map (onto b) o)
+    regrouped : (o : Option (List ℕ)) → option_map (λ (more : List ℕ). (front ++ b ∷ []) ++ more) o
+        ≡ option_map (λ (more : List ℕ). front ++ more) (option_map (onto b) o)
     regrouped None = refl
     regrouped (Some more) = ap (λ (r : List ℕ). Some r) (append_assoc front (b ∷ []) more)
 
 pub ends : (front rest : List ℕ) (whole : Option (List ℕ)) → None ≡ byte_at rest
     → option_map (λ (more : List ℕ). front ++ more) (bytes_in rest) ≡ whole → (if length rest == 0 then Some front else None) ≡ whole
-ends front rest whole next so_far = by (length rest == 0) ∙ ap (option_map (λ (more : List ℕ). front ++ more)) (sym (byte_end rest (sym next))) ∙ so_far
+ends front rest whole next so_far = by (length rest == 0)
+    ∙ ap (option_map (λ (more : List ℕ). front ++ more)) (sym (byte_end rest (sym next))) ∙ so_far
   where
     by : (t : Bool) → (if t then Some front else None) ≡ option_map (λ (more : List ℕ). front ++ more) (if t then Some [] else None)
     by true = ap (λ (r : List ℕ). Some r) (sym (append-nil front))

@@ -1,5 +1,6 @@
 -- Where the first line ends.
-use Rattle.std.proofs.Common.{◌≡◌, ℕ, suc, ◌+◌, ◌-◌, length, Bool, true, false, cond, ◌==◌, ◌||◌, List, [], ◌∷◌, ◌++◌, position, take, drop, Option, Some, None, refl, sym, ap, subst, ◌∙◌, arith}
+use Rattle.std.proofs.Common.{◌≡◌, ℕ, suc, ◌+◌, ◌-◌, length, Bool, true, false, cond, ◌==◌, ◌||◌, List, [], ◌∷◌, ◌++◌, position}
+use Rattle.std.proofs.Common.{take, drop, Option, Some, None, refl, sym, ap, subst, ◌∙◌, arith}
 use Rattle.std.specs.Option.{option_map}
 use Rattle.std.proofs.lemmas.Bool.{eqb-true}
 use Rattle.std.proofs.lemmas.List.{append-nil}
@@ -14,7 +15,8 @@ pub no_line_end : (bytes : List ℕ) → first_end bytes ≡ None → has_line_e
 no_line_end [] h = refl
 no_line_end (b ∷ bs) h = by (b == 10) refl (first_end bs) refl (sym (position-cons (λ b. b == 10) b bs) ∙ h) (no_line_end bs)
   where
-    by : (t : Bool) → (b == 10) ≡ t → (o : Option ℕ) → first_end bs ≡ o → cond t (Some 0) (option_map suc o) ≡ None → (first_end bs ≡ None → has_line_end bs ≡ false) → has_line_end (b ∷ bs) ≡ false
+    by : (t : Bool) → (b == 10) ≡ t → (o : Option ℕ) → first_end bs ≡ o → cond t (Some 0) (option_map suc o) ≡ None
+        → (first_end bs ≡ None → has_line_end bs ≡ false) → has_line_end (b ∷ bs) ≡ false
     by true is o found f later = absurd (none-some 0 (sym f))
     by false is None found f later = ap (λ t. t || has_line_end bs) is ∙ later found
     by false is (Some i) found f later = absurd (none-some (suc i) (sym f))
@@ -26,7 +28,8 @@ pub line_end_parts : (bytes : List ℕ) (i : ℕ) → first_end bytes ≡ Some i
 line_end_parts [] i h = absurd (none-some i h)
 line_end_parts (b ∷ bs) i h = by (b == 10) refl (first_end bs) refl (sym (position-cons (λ b. b == 10) b bs) ∙ h) (line_end_parts bs)
   where
-    by : (t : Bool) → (b == 10) ≡ t → (o : Option ℕ) → first_end bs ≡ o → cond t (Some 0) (option_map suc o) ≡ Some i → ((j : ℕ) → first_end bs ≡ Some j → Parts bs j) → Parts (b ∷ bs) i
+    by : (t : Bool) → (b == 10) ≡ t → (o : Option ℕ) → first_end bs ≡ o → cond t (Some 0) (option_map suc o) ≡ Some i
+        → ((j : ℕ) → first_end bs ≡ Some j → Parts bs j) → Parts (b ∷ bs) i
     by true is o found f later = subst (Parts (b ∷ bs)) (same_Some 0 i f) (ap (λ (a : ℕ). a ∷ bs) (eqb-true b 10 is), refl)
     by false is None found f later = absurd (none-some i f)
     by false is (Some j) found f later =

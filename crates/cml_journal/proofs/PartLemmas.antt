@@ -1,5 +1,6 @@
 -- A text is written part by part.
-use Rattle.std.proofs.Common.{◌≡◌, ℕ, ◌+◌, ◌<◌, List, [], ◌∷◌, ◌++◌, length, take, get_or, Option, Some, None, Result, Ok, Err, refl, sym, subst, ap, ◌∙◌, append_assoc}
+use Rattle.std.proofs.Common.{◌≡◌, ℕ, ◌+◌, ◌<◌, List, [], ◌∷◌, ◌++◌, length, take, get_or, Option, Some, None, Result, Ok}
+use Rattle.std.proofs.Common.{Err, refl, sym, subst, ap, ◌∙◌, append_assoc}
 use Rattle.std.specs.Prelude.{OnOk}
 use Rattle.std.specs.List.{flat_map}
 use Rattle.std.specs.Io.KnownBytes.{Appends}
@@ -15,7 +16,8 @@ pub appends_none : (held : Option (List ℕ)) → Appends held held []
 appends_none None = tt
 appends_none (Some bytes) = sym (append-nil bytes)
 
-pub appends_both : (held between holds : Option (List ℕ)) (one other : List ℕ) → Appends held between one → Appends between holds other → Appends held holds (one ++ other)
+pub appends_both : (held between holds : Option (List ℕ)) (one other : List ℕ) → Appends held between one → Appends between holds other
+    → Appends held holds (one ++ other)
 appends_both None between holds one other first second = tt
 appends_both (Some bytes) None holds one other first second = absurd first
 appends_both (Some bytes) (Some more) None one other first second = absurd second
@@ -31,19 +33,23 @@ pub writes_all : (held holds : Option (List ℕ)) (text left : List ℕ) → App
 writes_all held holds text left appends empty = (text, appends, sym (append-nil text) ∙ ap (λ (t : List ℕ). text ++ t) (sym empty))
 
 -- a line more was added, and then a part was written
-pub writes_more : (held between holds : Option (List ℕ)) (text before left line later : List ℕ) → Writes held between text before → left ≡ before ++ line → Writes between holds left later
+pub writes_more : (held between holds : Option (List ℕ)) (text before left line later : List ℕ) → Writes held between text before
+    → left ≡ before ++ line → Writes between holds left later
     → Writes held holds (text ++ line) later
 writes_more held between holds text before left line later first added second = (
   first.0 ++ second.0,
   appends_both held between holds first.0 second.0 first.1 second.1,
-  ap (λ (t : List ℕ). t ++ line) first.2 ∙ append_assoc first.0 before line ∙ ap (λ (t : List ℕ). first.0 ++ t) (sym added ∙ second.2) ∙ sym (append_assoc first.0 second.0 later),
+  ap (λ (t : List ℕ). t ++ line) first.2 ∙ append_assoc first.0 before line ∙ ap (λ (t : List ℕ). first.0 ++ t) (sym added ∙ second.2)
+      ∙ sym (append_assoc first.0 second.0 later),
 )
 
 -- what is left is written too, and more behind it
-pub writes_end : (held between holds : Option (List ℕ)) (text left last more : List ℕ) → Writes held between text left → Appends between holds last → last ≡ left ++ more
+pub writes_end : (held between holds : Option (List ℕ)) (text left last more : List ℕ) → Writes held between text left
+    → Appends between holds last → last ≡ left ++ more
     → Appends held holds (text ++ more)
 writes_end held between holds text left last more first appends is =
-    subst (Appends held holds) (ap (λ (t : List ℕ). first.0 ++ t) is ∙ sym (append_assoc first.0 left more) ∙ ap (λ (t : List ℕ). t ++ more) (sym first.2))
+    subst (Appends held holds) (ap (λ (t : List ℕ). first.0 ++ t) is ∙ sym (append_assoc first.0 left more)
+    ∙ ap (λ (t : List ℕ). t ++ more) (sym first.2))
     (appends_both held between holds first.0 last first.1 appends)
 
 -- one entry more
@@ -51,5 +57,6 @@ pub lines_more : {E : Type 0} (line : E → List ℕ) (text : List ℕ) (entries
     → (text ++ flat_map line (take i entries)) ++ line (get_or entries i d) ≡ text ++ flat_map line (take (i + 1) entries)
 lines_more line text entries i d within =
     append_assoc text (flat_map line (take i entries)) (line (get_or entries i d))
-    ∙ ap (λ (t : List ℕ). text ++ t) (ap (λ (t : List ℕ). flat_map line (take i entries) ++ t) (sym (append-nil (line (get_or entries i d))))
+    ∙ ap (λ (t : List ℕ). text ++ t) (ap (λ (t : List ℕ). flat_map line (take i entries) ++ t)
+    (sym (append-nil (line (get_or entries i d))))
     ∙ sym (flat_map-append line (take i entries) (get_or entries i d ∷ [])) ∙ ap (flat_map line) (sym (take_more entries i d within)))

@@ -1,5 +1,6 @@
 -- The position behind what was read of a journal, from its first entry on.
-use Rattle.std.proofs.Common.{◌≡◌, ◌⊎◌, inl, inr, ℕ, ◌+◌, ◌%◌, ◌^◌, ◌<◌, Bool, true, false, ◌==◌, nat_lt, if◌then◌else◌, List, [], ◌∷◌, ◌++◌, length, Option, Some, None, Result, Ok, Err, refl, sym, ap, subst, ◌∙◌, arith, length-append}
+use Rattle.std.proofs.Common.{◌≡◌, ◌⊎◌, inl, inr, ℕ, ◌+◌, ◌%◌, ◌^◌, ◌<◌, Bool, true, false, ◌==◌, nat_lt, if◌then◌else◌, List, [], ◌∷◌}
+use Rattle.std.proofs.Common.{◌++◌, length, Option, Some, None, Result, Ok, Err, refl, sym, ap, subst, ◌∙◌, arith, length-append}
 use Rattle.std.specs.Prelude.{codes, ⊤}
 use Rattle.std.specs.Option.{option_to_list}
 use Rattle.std.specs.List.{list_any}
@@ -45,11 +46,13 @@ module _ {M : Type 0} (version : ℕ) (read : List ℕ → Option M) where
   unfolding entered
   entered_moves p line = by (entry_in read line)
     where
-      sized : (t : Bool) → nat_lt (p + 1) (2 ^ 64) ≡ t → (entry : Entry M) → Moves {M = M} p (if t then Ok (Inside (p + 1), Some entry) else Err TooMany)
+      sized : (t : Bool) → nat_lt (p + 1) (2 ^ 64) ≡ t → (entry : Entry M)
+          → Moves {M = M} p (if t then Ok (Inside (p + 1), Some entry) else Err TooMany)
       sized true is entry = (refl, inr (ltb-true (p + 1) (2 ^ 64) is))
       sized false is entry = tt
 
-      by : (r : Result (Entry M) What) → Moves {M = M} p (r >>= λ entry. if nat_lt (p + 1) (2 ^ 64) then Ok (Inside (p + 1), Some entry) else Err TooMany)
+      by : (r : Result (Entry M) What)
+          → Moves {M = M} p (r >>= λ entry. if nat_lt (p + 1) (2 ^ 64) then Ok (Inside (p + 1), Some entry) else Err TooMany)
       by (Ok entry) = sized (nat_lt (p + 1) (2 ^ 64)) refl entry
       by (Err what) = tt
 
@@ -91,7 +94,8 @@ module _ {M : Type 0} (version : ℕ) (read : List ℕ → Option M) where
   unfolding behind_header
   behind_header_moves p line = by (numbered (codes "from") line)
     where
-      zeroed : (t : Bool) (from : ℕ) → Moves {M = M} p (if t then Err BadNumber else begun (Some p) from >>= λ position. Ok (Inside position, None))
+      zeroed : (t : Bool) (from : ℕ)
+          → Moves {M = M} p (if t then Err BadNumber else begun (Some p) from >>= λ position. Ok (Inside position, None))
       zeroed true from = tt
       zeroed false from = begun_from p from
 
@@ -100,9 +104,12 @@ module _ {M : Type 0} (version : ℕ) (read : List ℕ → Option M) where
       by (Some from) = zeroed (from == 0) from
 
   step_moves : (p : ℕ) (stage : Stage) (line : List ℕ) → place stage ≡ Some p → Moves {M = M} p (line_step version read stage line)
-  step_moves p (Waiting before) line at = subst (λ (b : Option ℕ). Moves {M = M} p (headed version b (numbered (codes "journal") line))) (sym at) (headed_moves p (numbered (codes "journal") line))
-  step_moves p (Headed before) line at = subst (λ (b : Option ℕ). Moves {M = M} p (behind_header read b line)) (sym at) (behind_header_moves p line)
-  step_moves p (Inside position) line at = subst (λ (q : ℕ). Moves {M = M} p (inside read q line)) (sym (same_Some position p at)) (inside_moves p line)
+  step_moves p (Waiting before) line at = subst (λ (b : Option ℕ). Moves {M = M} p (headed version b (numbered (codes "journal") line)))
+      (sym at) (headed_moves p (numbered (codes "journal") line))
+  step_moves p (Headed before) line at =
+      subst (λ (b : Option ℕ). Moves {M = M} p (behind_header read b line)) (sym at) (behind_header_moves p line)
+  step_moves p (Inside position) line at =
+      subst (λ (q : ℕ). Moves {M = M} p (inside read q line)) (sym (same_Some position p at)) (inside_moves p line)
 
   line_moves : (p : ℕ) (stage : Stage) (line : List ℕ) → place stage ≡ Some p → Moves {M = M} p (line_read version read stage line)
   unfolding line_read
@@ -116,7 +123,8 @@ module _ {M : Type 0} (version : ℕ) (read : List ℕ → Option M) where
   unfolding turned
   turned_moves p state at = by (line_read version read state.stage state.line) (line_moves p state.stage state.line at)
     where
-      by : (r : Step M) → Moves {M = M} p r → MovesTo {M = M} p (r >>= λ step. Ok (record { stage = step.0; lines = (state.lines + 1) % 2 ^ 64; line = [] }, step.1))
+      by : (r : Step M) → Moves {M = M} p r
+          → MovesTo {M = M} p (r >>= λ step. Ok (record { stage = step.0; lines = (state.lines + 1) % 2 ^ 64; line = [] }, step.1))
       by (Ok step) moves = moves
       by (Err what) moves = tt
 
@@ -136,12 +144,14 @@ module _ {M : Type 0} (version : ℕ) (read : List ℕ → Option M) where
   reads p state [] at = (at ∙ stays p, inl refl)
   reads p state (b ∷ bs) at = by (byte_read version read state b) (byte_moves p state b at) (λ q next there. reads q next bs there)
     where
-      counts : (found rest : List (Entry M)) → Counts p (length found) → Counts (p + length found) (length rest) → Counts p (length (found ++ rest))
+      counts : (found rest : List (Entry M)) → Counts p (length found) → Counts (p + length found) (length rest)
+          → Counts p (length (found ++ rest))
       counts found rest (inl none) (inl end) = inl (omega (arith, length-append found rest))
       counts found rest (inr few) (inl end) = inr (omega (arith, length-append found rest))
       counts found rest one (inr fewer) = inr (omega (arith, length-append found rest))
 
-      later : (next : State) (found : Option (Entry M)) (r : Read M) → Counts p (length (option_to_list found)) → Reads {M = M} (p + length (option_to_list found)) r
+      later : (next : State) (found : Option (Entry M)) (r : Read M) → Counts p (length (option_to_list found))
+          → Reads {M = M} (p + length (option_to_list found)) r
           → Reads {M = M} p (behind (option_to_list found) r)
       later next found (Ok told) one moves = (
         moves.0 ∙ ap (λ (n : ℕ). Some n) (omega (arith, length-append (option_to_list found) told.1)),
@@ -152,7 +162,8 @@ module _ {M : Type 0} (version : ℕ) (read : List ℕ → Option M) where
       by : (r : Result (State × Option (Entry M)) What) → MovesTo {M = M} p r
           → ((q : ℕ) (next : State) → place next.stage ≡ Some q → Reads {M = M} q (reading version read next bs))
           → Reads {M = M} p (r >>= λ first. behind (option_to_list first.1) (reading version read first.0 bs))
-      by (Ok first) moves on = later first.0 first.1 (reading version read first.0 bs) moves.1 (on (p + length (option_to_list first.1)) first.0 moves.0)
+      by (Ok first) moves on =
+          later first.0 first.1 (reading version read first.0 bs) moves.1 (on (p + length (option_to_list first.1)) first.0 moves.0)
       by (Err what) moves on = tt
 
   ends_at : (stage : Stage) (left end : ℕ) → end_by stage left ≡ Some end → place stage ≡ Some end
@@ -165,7 +176,8 @@ module _ {M : Type 0} (version : ℕ) (read : List ℕ → Option M) where
   ends_at (Inside position) left end is = absurd (none-some end is)
 
   -- a journal that was read from position 0 on ends behind its last entry
-  pub ends_behind_last : (bytes : List ℕ) (state : State) (entries : List (Entry M)) (end : ℕ) → reading version read (waiting_at 0) bytes ≡ Ok (state, entries)
+  pub ends_behind_last : (bytes : List ℕ) (state : State) (entries : List (Entry M)) (end : ℕ)
+      → reading version read (waiting_at 0) bytes ≡ Ok (state, entries)
       → end_of state ≡ Some end → end ≡ length entries
   ends_behind_last bytes state entries end is ended =
       let at = subst (λ (r : Read M). Reads {M = M} 0 r) is (reads 0 (waiting_at 0) bytes refl) in
@@ -176,5 +188,7 @@ module _ {M : Type 0} (version : ℕ) (read : List ℕ → Option M) where
   fewer n (inr few) = omega (arith, few)
 
   -- the entries of a journal that was read from position 0 on can be counted
-  pub entries_are_counted : (bytes : List ℕ) (state : State) (entries : List (Entry M)) → reading version read (waiting_at 0) bytes ≡ Ok (state, entries) → length entries < 2 ^ 64
-  entries_are_counted bytes state entries is = fewer (length entries) (subst (λ (r : Read M). Reads {M = M} 0 r) is (reads 0 (waiting_at 0) bytes refl)).1
+  pub entries_are_counted : (bytes : List ℕ) (state : State) (entries : List (Entry M))
+      → reading version read (waiting_at 0) bytes ≡ Ok (state, entries) → length entries < 2 ^ 64
+  entries_are_counted bytes state entries is =
+      fewer (length entries) (subst (λ (r : Read M). Reads {M = M} 0 r) is (reads 0 (waiting_at 0) bytes refl)).1

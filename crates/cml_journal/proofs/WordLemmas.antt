@@ -1,5 +1,6 @@
 -- What is read of a line's words was written so, and what was written is read again.
-use Rattle.std.proofs.Common.{◌≡◌, ℕ, ◌<◌, ◌^◌, Bool, true, false, if◌then◌else◌, List, [], ◌∷◌, ◌++◌, Option, Some, None, Result, Ok, Err, refl, sym, ap, subst, ◌∙◌, append_assoc, ◌⊎◌, inl, inr}
+use Rattle.std.proofs.Common.{◌≡◌, ℕ, ◌<◌, ◌^◌, Bool, true, false, if◌then◌else◌, List, [], ◌∷◌, ◌++◌, Option, Some, None, Result}
+use Rattle.std.proofs.Common.{Ok, Err, refl, sym, ap, subst, ◌∙◌, append_assoc, ◌⊎◌, inl, inr}
 use Rattle.std.specs.Prelude.{codes}
 use Rattle.std.specs.Fmt.{decimal}
 use Rattle.std.specs.Str.{bytes_eq}
@@ -71,7 +72,8 @@ pub last_again : (word rest : List ℕ) → has_space word ≡ false → last_at
 unfolding last_at
 last_again word rest h =
     ap last_at (sym (append_assoc word (58 ∷ []) (32 ∷ rest)))
-    ∙ ap (λ (r : Result (List ℕ × List ℕ) What). r >>= λ next. ok_or NoColon (without_colon next.0) >>= λ w. Ok (w, next.1)) (word_again (word ++ 58 ∷ []) rest (colon_no_space word h))
+    ∙ ap (λ (r : Result (List ℕ × List ℕ) What). r >>= λ next. ok_or NoColon (without_colon next.0) >>= λ w. Ok (w, next.1))
+    (word_again (word ++ 58 ∷ []) rest (colon_no_space word h))
     ∙ ap (λ (o : Option (List ℕ)). ok_or NoColon o >>= λ w. Ok (w, rest)) (colon_again word)
 
 -- ---- numbers
@@ -131,7 +133,8 @@ who_no_space (Feed n) = refl
 pub who_takes : (line : List ℕ) (x : Who × List ℕ) → who_at line ≡ Ok x → (line ≡ who_text x.0 ++ 32 ∷ x.1) × (who_number x.0 < 2 ^ 64)
 unfolding who_at
 who_takes line x e =
-    let a = bind_ok (word_at line) (λ word. word_at word.1 >>= λ next. number_in next.0 >>= λ number. who_by word.0 number >>= λ who. Ok (who, next.1)) x e in
+    let a = bind_ok (word_at line)
+    (λ word. word_at word.1 >>= λ next. number_in next.0 >>= λ number. who_by word.0 number >>= λ who. Ok (who, next.1)) x e in
     let b = bind_ok (word_at a.0.1) (λ next. number_in next.0 >>= λ number. who_by a.0.0 number >>= λ who. Ok (who, next.1)) x a.2 in
     let c = bind_ok (number_in b.0.0) (λ number. who_by a.0.0 number >>= λ who. Ok (who, b.0.1)) x b.2 in
     let d = bind_ok (who_by a.0.0 c.0) (λ who. Ok (who, b.0.1)) x c.2 in
@@ -142,11 +145,17 @@ who_takes line x e =
     ∙ ap (λ (rest : List ℕ). a.0.0 ++ 32 ∷ rest) (word_takes a.0.1 b.0 b.1 ∙ ap (λ (m : List ℕ). m ++ 32 ∷ b.0.1) (n.0 ∙ ap decimal w.1))
     ∙ ap (λ (v : List ℕ). v ++ 32 ∷ (decimal (who_number d.0) ++ 32 ∷ b.0.1)) w.0
     ∙ sym (append_assoc (who_word d.0) (32 ∷ decimal (who_number d.0)) (32 ∷ b.0.1)) in
-    subst (λ (y : Who × List ℕ). (line ≡ who_text y.0 ++ 32 ∷ y.1) × (who_number y.0 < 2 ^ 64)) (ok_is (d.0, b.0.1) x d.2) (whole, subst (λ (m : ℕ). m < 2 ^ 64) w.1 n.1)
+    subst (λ (y : Who × List ℕ). (line ≡ who_text y.0 ++ 32 ∷ y.1) × (who_number y.0 < 2 ^ 64)) (ok_is (d.0, b.0.1) x d.2)
+    (whole, subst (λ (m : ℕ). m < 2 ^ 64) w.1 n.1)
 
 pub who_again : (who : Who) (rest : List ℕ) → who_number who < 2 ^ 64 → who_at (who_text who ++ 32 ∷ rest) ≡ Ok (who, rest)
 unfolding who_at
 who_again who rest small =
     let n = decimal (who_number who) in
     ap who_at (append_assoc (who_word who) (32 ∷ n) (32 ∷ rest))
-    ∙ rw (word_again (who_word who) (n ++ 32 ∷ rest) (who_no_space who), word_again n rest (number_no_space (who_number who) small), number_again (who_number who) small, who_by_again who) refl
+    ∙ rw (
+      word_again (who_word who) (n ++ 32 ∷ rest) (who_no_space who),
+      word_again n rest (number_no_space (who_number who) small),
+      number_again (who_number who) small,
+      who_by_again who,
+    ) refl

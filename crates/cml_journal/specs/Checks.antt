@@ -1,5 +1,6 @@
 -- What a check has found of a journal's text so far, and why it stops.
-use Rattle.std.specs.Prelude.{◌≡◌, ◌⊎◌, ℕ, suc, ◌+◌, ◌%◌, ◌^◌, ◌≤◌, ◌==◌, Bool, not, ◌&&◌, ◌≢◌, is_some, is_none, List, [], ◌∷◌, ◌++◌, reverse, length, slice_get, string_bytes, Option, Some, None, Ok, Err, IfOk, ⊤}
+use Rattle.std.specs.Prelude.{◌≡◌, ◌⊎◌, ℕ, suc, ◌+◌, ◌%◌, ◌^◌, ◌≤◌, ◌==◌, Bool, not, ◌&&◌, ◌≢◌, is_some, is_none, List, [], ◌∷◌, ◌++◌}
+use Rattle.std.specs.Prelude.{reverse, length, slice_get, string_bytes, Option, Some, None, Ok, Err, IfOk, ⊤}
 use Rattle.cml_board.specs.Prelude.{Entry, Expected, Lawful, before, AreMakers, RestoredShown, Expects, Found, HasMade, IsFirstUnlawful}
 use Rattle.cml_board.specs.Prelude.{Pauses, StopsAt, count_of}
 use Rattle.cml_board.specs.Checking.{Shows}

@@ -1,5 +1,6 @@
 -- A journal's text is read byte by byte.
-use Rattle.std.specs.Prelude.{ℕ, ◌+◌, ◌%◌, ◌^◌, ◌≤◌, ◌==◌, Bool, nat_lt, nat_le, if◌then◌else◌, List, [], ◌∷◌, ◌++◌, length, Option, Some, None, Result, Ok, Err, codes}
+use Rattle.std.specs.Prelude.{ℕ, ◌+◌, ◌%◌, ◌^◌, ◌≤◌, ◌==◌, Bool, nat_lt, nat_le, if◌then◌else◌, List, [], ◌∷◌, ◌++◌, length}
+use Rattle.std.specs.Prelude.{Option, Some, None, Result, Ok, Err, codes}
 use Rattle.std.specs.Option.{option_and_then, option_to_list}
 use Rattle.std.specs.List.{list_any}
 use Rattle.std.specs.Str.{bytes_eq}
@@ -95,7 +96,8 @@ held state b = if nat_lt (length state.line) most then Ok (record state { line =
 
 -- bytes of a line
 abbrev pub held_all : State → List ℕ → Result State What
-held_all state bytes = if nat_le (length state.line + length bytes) most then Ok (record state { line = state.line ++ bytes }) else Err TooLong
+held_all state bytes = if nat_le (length state.line + length bytes) most
+    then Ok (record state { line = state.line ++ bytes }) else Err TooLong
 
 abbrev pub has_line_end : List ℕ → Bool
 has_line_end bytes = list_any (λ b. b == 10) bytes

@@ -1,11 +1,13 @@
 -- The laws of numbers as words.
-use Rattle.std.proofs.Common.{◌≡◌, ℕ, ◌<◌, ◌≤◌, ◌^◌, Bool, true, false, not, ◌==◌, ◌||◌, if◌then◌else◌, List, [], ◌∷◌, length, get_or, Some, None, refl, sym, ap, subst, ◌∙◌, arith, true≢false, ◌⊎◌, inl, inr, eq-eqb}
+use Rattle.std.proofs.Common.{◌≡◌, ℕ, ◌<◌, ◌≤◌, ◌^◌, Bool, true, false, not, ◌==◌, ◌||◌, if◌then◌else◌, List, [], ◌∷◌, length, get_or}
+use Rattle.std.proofs.Common.{Some, None, refl, sym, ap, subst, ◌∙◌, arith, true≢false, ◌⊎◌, inl, inr, eq-eqb}
 use Rattle.std.specs.Fmt.{decimal}
 use Rattle.std.specs.List.{list_all}
 use Rattle.std.specs.Str.{all_ascii_digits}
 use Rattle.std.specs.Str.Parse.{digits_value}
 use Rattle.std.proofs.lemmas.Bool.{and_parts, and_from, or_cases, cases_lt, eqb-true, ltb-true, lt-ltb}
-use Rattle.std.proofs.lemmas.Fmt.{decimal-digits_value, digits_decimal, digits_value-decimal, decimal_nonempty, first_decimal, decimal_digit}
+use Rattle.std.proofs.lemmas.Fmt.{decimal-digits_value, digits_decimal, digits_value-decimal, decimal_nonempty}
+use Rattle.std.proofs.lemmas.Fmt.{first_decimal, decimal_digit}
 use Rattle.std.proofs.lemmas.Option.{cond_some}
 use Rattle.std.proofs.lemmas.Str.Parse.{numerals_by_value, tells_all_ascii_digits}
 use Rattle.cml_messages.specs.Prelude.{is_text_byte}
@@ -15,7 +17,8 @@ use Rattle.cml_journal.specs.Numbers.{is_small, number_of}
 use Rattle.cml_journal.specs.Written.{IsWritten}
 
 -- digits without a zero in front are a number
-number_from_digits : (digits : List ℕ) → all_ascii_digits digits ≡ true → 0 < length digits → (get_or digits 0 0 ≡ 48 → length digits ≡ 1) → digits_value 10 digits < 2 ^ 64 → is_number digits ≡ true
+number_from_digits : (digits : List ℕ) → all_ascii_digits digits ≡ true → 0 < length digits → (get_or digits 0 0 ≡ 48 → length digits ≡ 1)
+    → digits_value 10 digits < 2 ^ 64 → is_number digits ≡ true
 number_from_digits [] all some lone small = absurd (omega arith)
 number_from_digits (b ∷ bs) all some lone small = and_from _ _ (and_from _ _ all (begins (b == 48) refl)) (lt-ltb _ _ small)
   where
@@ -26,7 +29,8 @@ number_from_digits (b ∷ bs) all some lone small = and_from _ _ (and_from _ _ a
 written_number : (n : ℕ) → n < 2 ^ 64 → is_number (decimal n) ≡ true
 written_number n small =
     let own = numerals_by_value _ tells_all_ascii_digits in
-    number_from_digits (decimal n) (digits_decimal own n small) (decimal_nonempty n small) (λ e. lone e (cases_lt 0 n)) (subst (λ (m : ℕ). m < 2 ^ 64) (sym (digits_value-decimal own n small)) small)
+    number_from_digits (decimal n) (digits_decimal own n small) (decimal_nonempty n small) (λ e. lone e (cases_lt 0 n))
+    (subst (λ (m : ℕ). m < 2 ^ 64) (sym (digits_value-decimal own n small)) small)
   where
     lone : get_or (decimal n) 0 0 ≡ 48 → (0 < n) ⊎ (n ≤ 0) → length (decimal n) ≡ 1
     lone e (inl above) = absurd (omega (arith, first_decimal n above small, e))
@@ -37,7 +41,8 @@ number_word [] h = absurd (true≢false (sym h))
 number_word (b ∷ bs) h =
     let whole = and_parts _ _ h in
     let front = and_parts _ _ whole.0 in
-    sym (decimal-digits_value (numerals_by_value _ tells_all_ascii_digits) (b ∷ bs) front.0 (omega arith) (λ e. lone e (or_cases _ _ front.1)) (ltb-true _ _ whole.1))
+    sym (decimal-digits_value (numerals_by_value _ tells_all_ascii_digits) (b ∷ bs) front.0 (omega arith)
+    (λ e. lone e (or_cases _ _ front.1)) (ltb-true _ _ whole.1))
   where
     lone : b ≡ 48 → (not (b == 48) ≡ true) ⊎ ((length bs == 0) ≡ true) → length (b ∷ bs) ≡ 1
     lone e (inl n) = absurd (true≢false (sym n ∙ ap not (eq-eqb b 48 e)))

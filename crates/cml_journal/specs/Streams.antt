@@ -32,7 +32,8 @@ piece_lines version text from entries =
 -- pieces of which each begins where the one before ended
 abbrev pub stream_lines : {M : Type 0} → ℕ → (M → List ℕ) → ℕ → List (List (Entry M)) → List (List ℕ)
 stream_lines version text from [] = []
-stream_lines version text from (entries ∷ later) = piece_lines version text from entries ++ stream_lines version text (from + length entries) later
+stream_lines version text from (entries ∷ later) =
+    piece_lines version text from entries ++ stream_lines version text (from + length entries) later
 
 -- of a text its front was written, and this is left
 abbrev pub Writes : Option (List ℕ) → Option (List ℕ) → List ℕ → List ℕ → Type 0

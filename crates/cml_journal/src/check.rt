@@ -1,5 +1,6 @@
 //! A journal is read and checked as it comes, in memory for the objects, what waits in them, and one line.
-ghost use Rattle.std.specs.Prelude.{◌≡◌, ◌≤◌, ◌-◌, ◌^◌, ◌∷◌, ◌++◌, ℕ, List, [], Ok, None, Some, length, IfOk, IfErr, IfSome, IsNone, OnOk, OnErr, OnSome, IsErr, IsTrue, is_none, not, ◌&&◌, ◌==◌, option_map, string_bytes};
+ghost use Rattle.std.specs.Prelude.{◌≡◌, ◌≤◌, ◌-◌, ◌^◌, ◌∷◌, ◌++◌, ℕ, List, [], Ok, None, Some, length, IfOk, IfErr, IfSome, IsNone};
+ghost use Rattle.std.specs.Prelude.{OnOk, OnErr, OnSome, IsErr, IsTrue, is_none, not, ◌&&◌, ◌==◌, option_map, string_bytes};
 ghost use Rattle.cml_board.specs.Prelude.{Feeds, count_of, expected_of};
 ghost use Rattle.cml_journal.specs.Prelude.{Halt, State, end_of, IsSoFar, Goes, HaltsIn, StopsIn, MayHaltAt, IsTold, IsSpent, is_whole};
 ghost use Rattle.cml_journal.specs.Prelude.{line_of_last, IsLawfulJournal, IsRestored};
@@ -31,7 +32,8 @@ impl<M: Message> Model for Check<M> {
 
     ghost Value = { Progress M };
 
-    ghost view = { λ check. record { state = check.reader; checker = check.checker.value; halt = check.halt; last = slice_get check.entry.items 0 } };
+    ghost view = { λ check.
+        record { state = check.reader; checker = check.checker.value; halt = check.halt; last = slice_get check.entry.items 0 } };
 }
 
 impl<M: Message + Written> Check<M> {
@@ -97,7 +99,8 @@ impl<M: Message + Written> Check<M> {
 
     /// Reads up to a line end, and gives the bytes behind it.
     fn take_line<'a>(&mut self, bytes: &'a [u8]) -> Result<&'a [u8], Halt>
-        ensures taken { IfOk result (λ rest. (taken : List ℕ) × (bytes.now ≡ taken ++ rest.now) × Goes M.VERSION M.meaning self.old taken self.new) }
+        ensures taken { IfOk result (λ rest. (taken : List ℕ) × (bytes.now ≡ taken ++ rest.now)
+            × Goes M.VERSION M.meaning self.old taken self.new) }
         ensures halted { IfErr result (λ halt. HaltsIn M.VERSION M.meaning self.old bytes.now self.new halt) }
         ensures halt { OnOk result (self.new.halt ≡ self.old.halt) }
         ensures shorter { IfOk result (λ rest. length rest.now ≤ length bytes.now - 1) }

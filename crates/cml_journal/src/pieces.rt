@@ -24,7 +24,8 @@ pub fn write_piece<M: Written, W: Write>(
     entries: &[Entry<M>],
 ) -> io::Result<()>
     requires { from + length entries.now < 2 ^ 64 }
-    ensures { OnOk result (Appends (W.contents writer.old) (W.contents writer.new) (text_of (piece_lines M.VERSION M.text from entries.now))) }
+    ensures { OnOk result (Appends (W.contents writer.old) (W.contents writer.new)
+        (text_of (piece_lines M.VERSION M.text from entries.now))) }
 {
     let mut text = String::new(alloc);
     write_head(&mut text, M::VERSION, from)?;

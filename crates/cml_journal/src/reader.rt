@@ -1,5 +1,6 @@
 //! How a journal's text is read as it comes.
-ghost use Rattle.std.specs.Prelude.{◌≡◌, ◌≤◌, ◌-◌, ◌==◌, ◌++◌, ◌∷◌, [], ℕ, List, Ok, false, length, position, IfOk, IfErr, OnOk, OnErr, OnSome, MatchOption};
+ghost use Rattle.std.specs.Prelude.{◌≡◌, ◌≤◌, ◌-◌, ◌==◌, ◌++◌, ◌∷◌, [], ℕ, List, Ok, false, length, position, IfOk, IfErr};
+ghost use Rattle.std.specs.Prelude.{OnOk, OnErr, OnSome, MatchOption};
 ghost use Rattle.std.specs.Option.{option_to_list};
 ghost use Rattle.cml_journal.specs.Prelude.{Gives, Meets, State, fresh, waiting_at, numbered, headed, begun, entered, ended_by, inside};
 ghost use Rattle.cml_journal.specs.Prelude.{from_by, behind_header, line_step, line_read, has_line_end, held_all, most, turned, reading};

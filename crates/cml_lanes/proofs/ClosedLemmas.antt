@@ -1,5 +1,6 @@
 -- What is closed or ended stays so over a run of calls, and gets no entry more.
-use Rattle.std.proofs.Common.{◌≡◌, ◌≢◌, ℕ, zero, suc, ◌<◌, ◌≤◌, Bool, true, false, List, [], ◌∷◌, ◌++◌, length, slice_get, slice_set, Option, Some, None, refl, sym, ap, ◌∙◌, arith, Result, Ok, Err}
+use Rattle.std.proofs.Common.{◌≡◌, ◌≢◌, ℕ, zero, suc, ◌<◌, ◌≤◌, Bool, true, false, List, [], ◌∷◌, ◌++◌, length, slice_get, slice_set}
+use Rattle.std.proofs.Common.{Option, Some, None, refl, sym, ap, ◌∙◌, arith, Result, Ok, Err}
 use Rattle.std.proofs.lemmas.Bool.{true≢false}
 use Rattle.std.proofs.lemmas.List.{length_push}
 use Rattle.std.specs.Prelude.{⊤}
@@ -16,7 +17,8 @@ use Rattle.cml_lanes.proofs.SlotsLemmas.{same_length}
 use Rattle.cml_lanes.proofs.LaningLemmas.{laned_other, laned_apart}
 use Rattle.cml_lanes.proofs.FeedEntriesLemmas.{fed_other, fed_apart, laned_fed, fed_laned}
 use Rattle.cml_lanes.proofs.FeedOpensLemmas.{none_fed}
-use Rattle.cml_lanes.proofs.DeedsLemmas.{still, reserves, opens_lane, drains, drops, abandons, closes, closes_counted, opens_feed, pumps, ends}
+use Rattle.cml_lanes.proofs.DeedsLemmas.{still, reserves, opens_lane, drains, drops, abandons, closes, closes_counted}
+use Rattle.cml_lanes.proofs.DeedsLemmas.{opens_feed, pumps, ends}
 
 module _ {Side : Type 0} where
   -- what a call does to the places of lanes or of feeds: nothing; or one place gets something else, but nothing if it was empty;
@@ -27,7 +29,8 @@ module _ {Side : Type 0} where
         → new ≡ slice_set old number slot → Touches old new
     pushed : (slot : Option Side) → new ≡ old ++ slot ∷ [] → Touches old new
 
-  placed : {left : Side → Option Side} {number : ℕ} {old new : List (Option Side)} {Does : Side → Side → Type 0} → OnPlace left number old new Does
+  placed : {left : Side → Option Side} {number : ℕ} {old new : List (Option Side)} {Does : Side → Side → Type 0}
+      → OnPlace left number old new Does
       → Touches old new
   placed {left} {number} on = set number (left on.to) (λ taken. ap is_taken on.opened) on.places
 
@@ -35,9 +38,11 @@ module _ {Side : Type 0} where
   emptied old new number same = set number None (λ never. absurd (true≢false (sym never))) same
 
   -- what is done to one place is done to another one than this
-  another_place : {left : Side → Option Side} {number : ℕ} {old new : List (Option Side)} {Does : Side → Side → Type 0} (k : ℕ) → OnPlace left number old new Does
+  another_place : {left : Side → Option Side} {number : ℕ} {old new : List (Option Side)} {Does : Side → Side → Type 0} (k : ℕ)
+      → OnPlace left number old new Does
       → is_taken (slice_get old k) ≡ false → k ≢ number
-  another_place {left} {number} {old} k on free = λ same. true≢false (sym (ap is_taken on.opened) ∙ ap (λ n. is_taken (slice_get old n)) (sym same) ∙ free)
+  another_place {left} {number} {old} k on free =
+      λ same. true≢false (sym (ap is_taken on.opened) ∙ ap (λ n. is_taken (slice_get old n)) (sym same) ∙ free)
 
   slot_stays : (slot was : Option Side) → (is_taken (Some slot) ≡ true → is_taken (Some was) ≡ true) → is_taken (Some was) ≡ false
       → is_taken (Some slot) ≡ false
@@ -65,10 +70,14 @@ module _ {Side : Type 0} where
       → (is_taken (slice_get new k) ≡ false) × (length old ≤ length new)
   touched_lasts k old new (untouched same) within free =
       (ap (λ slots. is_taken (slice_get slots k)) same ∙ free, omega (arith, ap length same))
-  touched_lasts k old new (set number slot taken same) within free =
-      (ap (λ slots. is_taken (slice_get slots k)) same ∙ set_stays old number slot k taken free, omega (arith, ap length same, same_length old number slot))
-  touched_lasts k old new (pushed slot same) within free =
-      (ap (λ slots. is_taken (slice_get slots k)) same ∙ pushed_stays old slot k within free, omega (arith, ap length same, length_push old slot))
+  touched_lasts k old new (set number slot taken same) within free = (
+    ap (λ slots. is_taken (slice_get slots k)) same ∙ set_stays old number slot k taken free,
+    omega (arith, ap length same, same_length old number slot),
+  )
+  touched_lasts k old new (pushed slot same) within free = (
+    ap (λ slots. is_taken (slice_get slots k)) same ∙ pushed_stays old slot k within free,
+    omega (arith, ap length same, length_push old slot),
+  )
 
 module _ {M : Type 0} where
   -- what a call leaves of lanes and feeds: their places, and the entries of those that were not open
@@ -79,7 +88,8 @@ module _ {M : Type 0} where
     pub ended : (k : ℕ) → is_open_feed old k ≡ false → fed new.board.history k ≡ fed old.board.history k
 
   -- it makes no entry
-  none_leaves : (old new : FloorShown M) → Touches old.lanes new.lanes → Touches old.feeds new.feeds → new.board.history ≡ old.board.history → Leaves old new
+  none_leaves : (old new : FloorShown M) → Touches old.lanes new.lanes → Touches old.feeds new.feeds
+      → new.board.history ≡ old.board.history → Leaves old new
   none_leaves old new lanes feeds same = record {
     lanes = lanes;
     feeds = feeds;
@@ -100,7 +110,8 @@ module _ {M : Type 0} where
         ended = λ k free. ap (λ h. fed h k) moves.history ∙ fed_laned number side.way side.target moves.moved old.board.history k;
       }
   deed_leaves old new (lane_gone number same) =
-      none_leaves old new (emptied old.lanes new.lanes number (ap (λ (f : FloorShown M). f.lanes) same)) (untouched (ap (λ (f : FloorShown M). f.feeds) same))
+      none_leaves old new (emptied old.lanes new.lanes number (ap (λ (f : FloorShown M). f.lanes) same))
+      (untouched (ap (λ (f : FloorShown M). f.feeds) same))
       (ap (λ (f : FloorShown M). f.board.history) same)
   deed_leaves old new (lane_opened side board lanes feeds) =
       none_leaves old new (pushed (Some side) lanes) (untouched feeds) (ap (λ (b : Shown M). b.history) board)
@@ -115,7 +126,8 @@ module _ {M : Type 0} where
             ∙ fed_apart number side.port pumps.pumped old.board.history k (another_place k on.place free);
       }
   deed_leaves old new (feed_gone number same) =
-      none_leaves old new (untouched (ap (λ (f : FloorShown M). f.lanes) same)) (emptied old.feeds new.feeds number (ap (λ (f : FloorShown M). f.feeds) same))
+      none_leaves old new (untouched (ap (λ (f : FloorShown M). f.lanes) same))
+      (emptied old.feeds new.feeds number (ap (λ (f : FloorShown M). f.feeds) same))
       (ap (λ (f : FloorShown M). f.board.history) same)
   deed_leaves old new (feed_opened number channel port side makes lanes feeds) = record {
     lanes = untouched lanes;
@@ -126,22 +138,27 @@ module _ {M : Type 0} where
   }
 
   -- a call of a seat makes no entry of a lane or of a feed
-  seat_adds : (chunk : ℕ) (sure : Bool) (old new : Shown M) (seat : ℕ) (call : Call M) (outcome : Outcome M) (k : ℕ) → Applies chunk sure old new (Seat seat) call outcome
+  seat_adds : (chunk : ℕ) (sure : Bool) (old new : Shown M) (seat : ℕ) (call : Call M) (outcome : Outcome M) (k : ℕ)
+      → Applies chunk sure old new (Seat seat) call outcome
       → (laned new.history k ≡ laned old.history k) × (fed new.history k ≡ fed old.history k)
   seat_adds chunk sure old new seat call (Answered answer) k applies = (
     ap (λ h. laned h k) applies.5.history ∙ laned_other (record { who = Seat seat; call = call; reply = answer.reply }) old.history k refl,
     ap (λ h. fed h k) applies.5.history ∙ fed_other (record { who = Seat seat; call = call; reply = answer.reply }) old.history k refl,
   )
-  seat_adds chunk sure old new seat call (WouldWait back) k applies = (ap (λ h. laned h k) applies.4.history, ap (λ h. fed h k) applies.4.history)
-  seat_adds chunk sure old new seat call (Refused refusal back) k applies = (ap (λ h. laned h k) applies.2.history, ap (λ h. fed h k) applies.2.history)
+  seat_adds chunk sure old new seat call (WouldWait back) k applies =
+      (ap (λ h. laned h k) applies.4.history, ap (λ h. fed h k) applies.4.history)
+  seat_adds chunk sure old new seat call (Refused refusal back) k applies =
+      (ap (λ h. laned h k) applies.2.history, ap (λ h. fed h k) applies.2.history)
 
-  seat_same : (chunk : ℕ) (sure : Bool) (old new : FloorShown M) (seat : ℕ) (call : Call M) (outcome : Outcome M) (k : ℕ) (barred : Bool) → is_barred old.feeds call ≡ barred
+  seat_same : (chunk : ℕ) (sure : Bool) (old new : FloorShown M) (seat : ℕ) (call : Call M) (outcome : Outcome M) (k : ℕ) (barred : Bool)
+      → is_barred old.feeds call ≡ barred
       → AppliesSeat chunk sure seat call old new outcome
       → (laned new.board.history k ≡ laned old.board.history k) × (fed new.board.history k ≡ fed old.board.history k)
   seat_same chunk sure old new seat call outcome k true is applies =
       let same : new ≡ old = (applies.barred is).1 in
       (ap (λ (f : FloorShown M). laned f.board.history k) same, ap (λ (f : FloorShown M). fed f.board.history k) same)
-  seat_same chunk sure old new seat call outcome k false is applies = seat_adds chunk sure old.board new.board seat call outcome k (applies.applied is)
+  seat_same chunk sure old new seat call outcome k false is applies =
+      seat_adds chunk sure old.board new.board seat call outcome k (applies.applied is)
 
   cut_leaves : (old new : FloorShown M) (result : Result ⊤ Refusal) → CutsAFloor old new result → Leaves old new
   cut_leaves old new (Ok done) told = none_leaves old new (untouched told.lanes) (untouched told.feeds) told.board.history
@@ -156,13 +173,15 @@ module _ {M : Type 0} where
     ended = λ k free. (seat_same chunk sure old new seat call outcome k (is_barred old.feeds call) refl applies).1;
   }
   call_leaves chunk sure (Reserve n result) old new told = deed_leaves old new (reserves old new n result told)
-  call_leaves chunk sure (OpenLane target capacity result) old new told = deed_leaves old new (opens_lane old new target capacity result told)
+  call_leaves chunk sure (OpenLane target capacity result) old new told =
+      deed_leaves old new (opens_lane old new target capacity result told)
   call_leaves chunk sure (Drain lane result) old new told = deed_leaves old new (drains chunk sure lane old new result told)
   call_leaves chunk sure (CloseLane end result) old new told = deed_leaves old new (closes chunk sure old new end result told)
   call_leaves chunk sure (CloseCounted end result) old new told = deed_leaves old new (closes_counted chunk sure old new end result told)
   call_leaves chunk sure (DropLane lane result) old new told = deed_leaves old new (drops chunk sure lane old new result told)
   call_leaves chunk sure (AbandonLane lane result) old new told = deed_leaves old new (abandons lane old new result told)
-  call_leaves chunk sure (OpenFeed channel capacity result) old new told = deed_leaves old new (opens_feed chunk sure old new channel capacity result told)
+  call_leaves chunk sure (OpenFeed channel capacity result) old new told =
+      deed_leaves old new (opens_feed chunk sure old new channel capacity result told)
   call_leaves chunk sure (Pump feed result) old new told = deed_leaves old new (pumps chunk sure feed old new result told)
   call_leaves chunk sure (EndFeed feed result) old new told = deed_leaves old new (ends feed old new result told)
   call_leaves chunk sure (Cut result) old new told = cut_leaves old new result told.0
@@ -183,12 +202,17 @@ module _ {M : Type 0} where
       let rest = run_lasts slots entries leaves chunk sure later run.0 new k run.2 (omega (arith, within, next.1)) next.0 in
       (rest.0, rest.1 ∙ one.1 k free)
 
-  pub lanes_last : (chunk : ℕ) (sure : Bool) (calls : List (FloorCall M)) (old new : FloorShown M) (k : ℕ) → AreCalled chunk sure calls old new
-      → k < length old.lanes → is_open_lane old k ≡ false → (is_open_lane new k ≡ false) × (laned new.board.history k ≡ laned old.board.history k)
+  pub lanes_last : (chunk : ℕ) (sure : Bool) (calls : List (FloorCall M)) (old new : FloorShown M) (k : ℕ)
+      → AreCalled chunk sure calls old new
+      → k < length old.lanes → is_open_lane old k ≡ false
+      → (is_open_lane new k ≡ false) × (laned new.board.history k ≡ laned old.board.history k)
   lanes_last chunk sure calls old new k run within free =
-      run_lasts (λ floor. floor.lanes) laned (λ before after leaves. (leaves.lanes, leaves.closed)) chunk sure calls old new k run within free
+      run_lasts (λ floor. floor.lanes) laned (λ before after leaves. (leaves.lanes, leaves.closed)) chunk
+      sure calls old new k run within free
 
-  pub feeds_last : (chunk : ℕ) (sure : Bool) (calls : List (FloorCall M)) (old new : FloorShown M) (k : ℕ) → AreCalled chunk sure calls old new
-      → k < length old.feeds → is_open_feed old k ≡ false → (is_open_feed new k ≡ false) × (fed new.board.history k ≡ fed old.board.history k)
+  pub feeds_last : (chunk : ℕ) (sure : Bool) (calls : List (FloorCall M)) (old new : FloorShown M) (k : ℕ)
+      → AreCalled chunk sure calls old new
+      → k < length old.feeds → is_open_feed old k ≡ false
+      → (is_open_feed new k ≡ false) × (fed new.board.history k ≡ fed old.board.history k)
   feeds_last chunk sure calls old new k run within free =
       run_lasts (λ floor. floor.feeds) fed (λ before after leaves. (leaves.feeds, leaves.ended)) chunk sure calls old new k run within free

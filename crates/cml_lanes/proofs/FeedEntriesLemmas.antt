@@ -1,5 +1,6 @@
 -- How entries of a feed, and entries of others, change what the journal has of each feed, each lane and each port.
-use Rattle.std.proofs.Common.{◌≡◌, ◌≢◌, ◌↔◌, ℕ, Bool, false, cond, List, [], ◌∷◌, ◌++◌, Some, None, IsSome, IfSome, IsTrue, subst, refl, sym, ap, ◌∙◌, append_assoc}
+use Rattle.std.proofs.Common.{◌≡◌, ◌≢◌, ◌↔◌, ℕ, Bool, false, cond, List, [], ◌∷◌, ◌++◌, Some, None, IsSome, IfSome, IsTrue}
+use Rattle.std.proofs.Common.{subst, refl, sym, ap, ◌∙◌, append_assoc}
 use Rattle.std.proofs.lemmas.Bool.{eq-eqb, ne_eqb, false≢true}
 use Rattle.std.proofs.lemmas.List.{append-nil}
 use Rattle.cml_board.specs.Prelude.{Name, Entry, takes, message_in, kind_of, is_open, got, answer, Fits}
@@ -15,8 +16,10 @@ use Rattle.cml_lanes.proofs.LaningLemmas.{laned_other, kind_more}
 
 module _ {M : Type 0} where
   -- an entry of another adds none
-  pub fed_other : (entry : Entry M) (history : List (Entry M)) (number : ℕ) → is_feed entry.who number ≡ false → fed (entry ∷ history) number ≡ fed history number
-  fed_other entry history number other = ap (λ b. fed history number ++ cond b (message_in entry.reply) []) other ∙ append-nil (fed history number)
+  pub fed_other : (entry : Entry M) (history : List (Entry M)) (number : ℕ) → is_feed entry.who number ≡ false
+      → fed (entry ∷ history) number ≡ fed history number
+  fed_other entry history number other =
+      ap (λ b. fed history number ++ cond b (message_in entry.reply) []) other ∙ append-nil (fed history number)
 
   fed_one : (number : ℕ) (port : Name) (message : M) (history : List (Entry M))
       → fed (feed_entry number port message ∷ history) number ≡ fed history number ++ message ∷ []
@@ -104,19 +107,22 @@ module _ {M : Type 0} where
       → fed (with_lane number way target messages history) feed ≡ fed history feed
   fed_laned number way target [] history feed = refl
   fed_laned number way target (message ∷ messages) history feed =
-      fed_laned number way target messages (lane_entry number way target message ∷ history) feed ∙ fed_by_lane number way target message history feed
+      fed_laned number way target messages (lane_entry number way target message ∷ history) feed
+      ∙ fed_by_lane number way target message history feed
 
   pub got_laned : (number : ℕ) (way : Way) (target : Name) (messages : List M) (history : List (Entry M)) (object : ℕ)
       → got (with_lane number way target messages history) object ≡ got history object
   got_laned number way target [] history object = refl
   got_laned number way target (message ∷ messages) history object =
-      got_laned number way target messages (lane_entry number way target message ∷ history) object ∙ got_by_lane number way target message history object
+      got_laned number way target messages (lane_entry number way target message ∷ history) object
+      ∙ got_by_lane number way target message history object
 
   pub open_laned : (number : ℕ) (way : Way) (target : Name) (messages : List M) (history : List (Entry M)) (object : ℕ)
       → is_open (with_lane number way target messages history) object ≡ is_open history object
   open_laned number way target [] history object = refl
   open_laned number way target (message ∷ messages) history object =
-      open_laned number way target messages (lane_entry number way target message ∷ history) object ∙ open_by_lane number way target message history object
+      open_laned number way target messages (lane_entry number way target message ∷ history) object
+      ∙ open_by_lane number way target message history object
 
   -- so a feed is kept by the entries of any lane, and of a feed of another port; and a lane by those of any feed
   pub keeps_laned : (number : ℕ) (way : Way) (target : Name) (messages : List M) (history : List (Entry M)) (feed : ℕ) (side : FeedSide M)
@@ -153,7 +159,8 @@ module _ {M : Type 0} where
 
   -- a feed's call fits its port
   pub fits_recv : (history : List (Entry M)) (port : Name) → kind_of history port.0 ≡ Some Port → Fits history (Recv port)
-  fits_recv history port is = (subst (λ k. IsSome k) (sym is) refl, subst (λ k. IfSome k (λ kind. IsTrue (takes {M = M} kind (Recv port)))) (sym is) refl)
+  fits_recv history port is =
+      (subst (λ k. IsSome k) (sym is) refl, subst (λ k. IfSome k (λ kind. IsTrue (takes {M = M} kind (Recv port)))) (sym is) refl)
 
   -- the receive does not wait if the board says that it would not
   pub still_owed : (history : List (Entry M)) (port name : Name) (waits : Bool) → kind_of history port.0 ≡ Some Port → name ≡ port

@@ -1,5 +1,6 @@
 -- What a floor keeps of its lanes and its feeds when a feed is opened.
-use Rattle.std.proofs.Common.{◌≡◌, ◌≢◌, ℕ, ◌<◌, ◌≤◌, inl, inr, Bool, true, false, cond, List, [], ◌∷◌, ◌++◌, length, slice_get, Option, Some, None, subst, refl, sym, ap, ◌∙◌, arith}
+use Rattle.std.proofs.Common.{◌≡◌, ◌≢◌, ℕ, ◌<◌, ◌≤◌, inl, inr, Bool, true, false, cond, List, [], ◌∷◌, ◌++◌, length, slice_get}
+use Rattle.std.proofs.Common.{Option, Some, None, subst, refl, sym, ap, ◌∙◌, arith}
 use Rattle.std.specs.Option.{option_map}
 use Rattle.std.proofs.lemmas.Option.{same_Some, none-some, slice_get_past}
 use Rattle.std.proofs.lemmas.List.{append-nil, length_push}
@@ -23,7 +24,8 @@ nothing_more xs false = append-nil xs
 
 module _ {M : Type 0} where
   -- the port's name is the next
-  next_port : (number : ℕ) (old new : Shown M) (channel name : Name) → MakesPort number old new channel name → name.0 ≡ length (made old.history)
+  next_port : (number : ℕ) (old new : Shown M) (channel name : Name) → MakesPort number old new channel name
+      → name.0 ≡ length (made old.history)
   next_port number old new channel name makes =
       let told : new_name old.history ≡ Made name = same_Some _ _ makes.made in
       let next : Name = record { 0 = length (made old.history) } in
@@ -38,7 +40,8 @@ module _ {M : Type 0} where
       ap (kind_of history) same ∙ ap (option_map kind_by) (slice_get_past (made history) (length (made history)) (omega arith)) in
       none-some Port (sym none ∙ (keeps.feed number side found).kind)
 
-  pub own_new_port : (number : ℕ) (old new : Shown M) (channel name : Name) (feeds news : List (Option (FeedSide M))) → MakesPort number old new channel name
+  pub own_new_port : (number : ℕ) (old new : Shown M) (channel name : Name) (feeds news : List (Option (FeedSide M)))
+      → MakesPort number old new channel name
       → KeepsFeeds old.history feeds → news ≡ feeds → is_feeds_port news name.0 ≡ false
   own_new_port number old new channel name feeds news makes keeps same =
       let next = next_port number old new channel name makes in
@@ -49,7 +52,8 @@ module _ {M : Type 0} where
   abbrev made_entry : ℕ → Name → Name → Entry M
   made_entry number channel name = record { who = Feed number; call = NewPort channel; reply = Made name }
 
-  pub none_fed : (number : ℕ) (channel name : Name) (history : List (Entry M)) (k : ℕ) → fed (made_entry number channel name ∷ history) k ≡ fed history k
+  pub none_fed : (number : ℕ) (channel name : Name) (history : List (Entry M)) (k : ℕ)
+      → fed (made_entry number channel name ∷ history) k ≡ fed history k
   none_fed number channel name history k = nothing_more (fed history k) (is_feed (Feed number) k)
 
   still_keeps : (number : ℕ) (channel name : Name) (history : List (Entry M)) (k : ℕ) (side : FeedSide M) → KeepsFeed history k side
@@ -61,10 +65,12 @@ module _ {M : Type 0} where
     opened = stays_open history (made_entry number channel name) side.port.0 refl ∙ keeps.opened;
   }
 
-  begins_feed : (number : ℕ) (channel name : Name) (history : List (Entry M)) (side : FeedSide M) → Lawful history → name.0 ≡ length (made history)
+  begins_feed : (number : ℕ) (channel name : Name) (history : List (Entry M)) (side : FeedSide M)
+      → Lawful history → name.0 ≡ length (made history)
       → side.port ≡ name → side.pushed ≡ [] → fed history number ≡ [] → KeepsFeed (made_entry number channel name ∷ history) number side
   begins_feed number channel name history side lawful next same none never =
-      let begun = makes_here history (Feed number) (NewPort channel) name (port channel.0 (length (sent history channel.0))) None lawful (port_makes history channel name) in
+      let begun = makes_here history (Feed number) (NewPort channel) name (port channel.0 (length (sent history channel.0))) None lawful
+      (port_makes history channel name) in
       let at : side.port.0 ≡ length (made history) = ap (λ (n : Name). n.0) same ∙ next in
       let all : List (Entry M) = made_entry number channel name ∷ history in
       record {
@@ -75,15 +81,18 @@ module _ {M : Type 0} where
       }
 
   -- the feeds, one more
-  keeps_one_more : (number : ℕ) (channel name : Name) (history : List (Entry M)) (feeds : List (Option (FeedSide M))) (side : FeedSide M) → Lawful history
+  keeps_one_more : (number : ℕ) (channel name : Name) (history : List (Entry M)) (feeds : List (Option (FeedSide M)))
+      (side : FeedSide M) → Lawful history
       → name.0 ≡ length (made history) → number ≡ length feeds → side.port ≡ name → side.pushed ≡ [] → KeepsFeeds history feeds
       → KeepsFeeds (made_entry number channel name ∷ history) (feeds ++ Some side ∷ [])
-  keeps_one_more number channel name history feeds side lawful next last same none keeps = record { feed = each; no_feed = past_all; apart = still_apart }
+  keeps_one_more number channel name history feeds side lawful next last same none keeps =
+      record { feed = each; no_feed = past_all; apart = still_apart }
     where
       at : side.port.0 ≡ length (made history)
       at = ap (λ (n : Name). n.0) same ∙ next
 
-      each : (k : ℕ) (s : FeedSide M) → slice_get (feeds ++ Some side ∷ []) k ≡ Some (Some s) → KeepsFeed (made_entry number channel name ∷ history) k s
+      each : (k : ℕ) (s : FeedSide M) → slice_get (feeds ++ Some side ∷ []) k ≡ Some (Some s)
+          → KeepsFeed (made_entry number channel name ∷ history) k s
       each k s found = elim (pushed_cases feeds (Some side) (Some s) k found) [
         | inl was ↦ still_keeps number channel name history k s (keeps.feed k s was)
         | inr new ↦
@@ -96,25 +105,29 @@ module _ {M : Type 0} where
       past_all : (k : ℕ) → length (feeds ++ Some side ∷ []) ≤ k → fed (made_entry number channel name ∷ history) k ≡ []
       past_all k past = none_fed number channel name history k ∙ keeps.no_feed k (omega (arith, past, length_push feeds (Some side)))
 
-      still_apart : (one two : ℕ) (a b : FeedSide M) → slice_get (feeds ++ Some side ∷ []) one ≡ Some (Some a) → slice_get (feeds ++ Some side ∷ []) two ≡ Some (Some b)
+      still_apart : (one two : ℕ) (a b : FeedSide M) → slice_get (feeds ++ Some side ∷ []) one ≡ Some (Some a)
+          → slice_get (feeds ++ Some side ∷ []) two ≡ Some (Some b)
           → a.port ≡ b.port → one ≡ two
       still_apart one two a b first second ports = elim (pushed_cases feeds (Some side) (Some a) one first) [
         | inl was ↦ elim (pushed_cases feeds (Some side) (Some b) two second) [
           | inl is ↦ keeps.apart one two a b was is ports
           | inr new ↦
               let new_side : side ≡ b = same_Some _ _ new.1 in
-              absurd (feeds_no_next history feeds keeps one a was (ap (λ (n : Name). n.0) ports ∙ sym (ap (λ (s : FeedSide M). s.port.0) new_side) ∙ at))
+              absurd (feeds_no_next history feeds keeps one a was
+              (ap (λ (n : Name). n.0) ports ∙ sym (ap (λ (s : FeedSide M). s.port.0) new_side) ∙ at))
         ]
         | inr new ↦ elim (pushed_cases feeds (Some side) (Some b) two second) [
           | inl is ↦
               let new_side : side ≡ a = same_Some _ _ new.1 in
-              absurd (feeds_no_next history feeds keeps two b is (sym (ap (λ (n : Name). n.0) ports) ∙ sym (ap (λ (s : FeedSide M). s.port.0) new_side) ∙ at))
+              absurd (feeds_no_next history feeds keeps two b is
+              (sym (ap (λ (n : Name). n.0) ports) ∙ sym (ap (λ (s : FeedSide M). s.port.0) new_side) ∙ at))
           | inr other ↦ new.0 ∙ sym other.0
         ]
       ]
 
   -- the lanes
-  lanes_still : (number : ℕ) (channel name : Name) (history : List (Entry M)) (lanes : List (Option (LaneSide M))) → KeepsLanes history lanes
+  lanes_still : (number : ℕ) (channel name : Name) (history : List (Entry M)) (lanes : List (Option (LaneSide M)))
+      → KeepsLanes history lanes
       → KeepsLanes (made_entry number channel name ∷ history) lanes
   lanes_still number channel name history lanes keeps = record {
     lane = λ k side found. record {
@@ -125,8 +138,10 @@ module _ {M : Type 0} where
   }
 
   -- what the floor keeps of both
-  pub feed_opened_keeps : (number : ℕ) (old new : Shown M) (channel name : Name) (lanes : List (Option (LaneSide M))) (feeds via news : List (Option (FeedSide M)))
-      (side : FeedSide M) → MakesPort number old new channel name → Lawful old.history → number ≡ length via → via ≡ feeds → news ≡ via ++ Some side ∷ []
+  pub feed_opened_keeps : (number : ℕ) (old new : Shown M) (channel name : Name) (lanes : List (Option (LaneSide M)))
+      (feeds via news : List (Option (FeedSide M)))
+      (side : FeedSide M) → MakesPort number old new channel name → Lawful old.history → number ≡ length via
+      → via ≡ feeds → news ≡ via ++ Some side ∷ []
       → side.port ≡ name → side.pushed ≡ []
       → KeepsLanes old.history lanes × KeepsFeeds old.history feeds → KeepsLanes new.history lanes × KeepsFeeds new.history news
   feed_opened_keeps number old new channel name lanes feeds via news side makes lawful last same pushed own none keeps =
@@ -137,11 +152,13 @@ module _ {M : Type 0} where
             (subst (λ h. KeepsFeeds h (feeds ++ Some side ∷ [])) (sym makes.entry.history) more),
       )
 
-  pub feed_opened_rings : {lanes : List (Option (LaneSide M))} (board after : Shown M) (feeds via news : List (Option (FeedSide M))) (side : FeedSide M) (old : FloorShown M)
+  pub feed_opened_rings : {lanes : List (Option (LaneSide M))} (board after : Shown M) (feeds via news : List (Option (FeedSide M)))
+      (side : FeedSide M) (old : FloorShown M)
       → record { board = board; lanes = lanes; feeds = feeds } ≡ old → via ≡ feeds → news ≡ via ++ Some side ∷ []
       → (number : ℕ) → number < length old.feeds → SameFeedRing number old (record { board = after; lanes = lanes; feeds = news })
   feed_opened_rings board after feeds via news side old view same pushed number within s found =
-      elim (pushed_cases feeds (Some side) (Some s) number (sym (ap (λ fs. slice_get fs number) (pushed ∙ ap (λ fs. fs ++ Some side ∷ []) same)) ∙ found)) [
+      elim (pushed_cases feeds (Some side) (Some s) number
+      (sym (ap (λ fs. slice_get fs number) (pushed ∙ ap (λ fs. fs ++ Some side ∷ []) same)) ∙ found)) [
         | inl was ↦ (s, ap (λ (f : FloorShown M). slice_get f.feeds number) (sym view) ∙ was, refl)
         | inr next ↦ absurd (omega (arith, next.0, within, ap (λ (f : FloorShown M). length f.feeds) view))
       ]

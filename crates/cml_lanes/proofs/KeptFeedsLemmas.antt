@@ -1,5 +1,6 @@
 -- What a floor keeps of its feeds, while something is done to the board, to a lane or to one of them.
-use Rattle.std.proofs.Common.{◌≡◌, ◌≢◌, ℕ, zero, suc, ◌≤◌, inl, inr, Bool, true, false, cond, ◌||◌, eqb, List, [], ◌∷◌, length, slice_get, slice_set, Option, Some, None, subst, refl, sym, ap, ◌∙◌, arith}
+use Rattle.std.proofs.Common.{◌≡◌, ◌≢◌, ℕ, zero, suc, ◌≤◌, inl, inr, Bool, true, false, cond, ◌||◌, eqb, List, [], ◌∷◌, length}
+use Rattle.std.proofs.Common.{slice_get, slice_set, Option, Some, None, subst, refl, sym, ap, ◌∙◌, arith}
 use Rattle.std.proofs.lemmas.Option.{same_Some, none-some}
 use Rattle.std.proofs.lemmas.Bool.{eq-eqb, ne_eqb, false≢true}
 use Rattle.cml_board.specs.Prelude.{Name, Call, Reply, Entry, Outcome, message_in, got_by, is_done, closes, kind_of, is_open, got, Shown}
@@ -23,7 +24,8 @@ or_true false c is = is
 
 module _ {M : Type 0} where
   -- an open feed's port is found
-  pub found_port : (feeds : List (Option (FeedSide M))) (number : ℕ) (side : FeedSide M) → slice_get feeds number ≡ Some (Some side) → is_feeds_port feeds side.port.0 ≡ true
+  pub found_port : (feeds : List (Option (FeedSide M))) (number : ℕ) (side : FeedSide M) → slice_get feeds number ≡ Some (Some side)
+      → is_feeds_port feeds side.port.0 ≡ true
   found_port [] number side found = absurd (none-some (Some side) found)
   found_port (slot ∷ feeds) zero side found =
       ap (λ s. has_port side.port.0 s || is_feeds_port feeds side.port.0) (same_Some _ _ found)
@@ -32,18 +34,22 @@ module _ {M : Type 0} where
       or_true (has_port side.port.0 slot) (is_feeds_port feeds side.port.0) (found_port feeds number side found)
 
   -- and no port is that none has
-  pub no_port : (feeds : List (Option (FeedSide M))) (object : ℕ) → ((number : ℕ) (side : FeedSide M) → slice_get feeds number ≡ Some (Some side) → side.port.0 ≢ object)
+  pub no_port : (feeds : List (Option (FeedSide M))) (object : ℕ)
+      → ((number : ℕ) (side : FeedSide M) → slice_get feeds number ≡ Some (Some side) → side.port.0 ≢ object)
       → is_feeds_port feeds object ≡ false
   no_port [] object none = refl
   no_port (None ∷ feeds) object none = no_port feeds object (λ number. none (suc number))
   no_port (Some side ∷ feeds) object none =
-      ap (λ b. b || is_feeds_port feeds object) (ne_eqb side.port.0 object (none zero side refl)) ∙ no_port feeds object (λ number. none (suc number))
+      ap (λ b. b || is_feeds_port feeds object) (ne_eqb side.port.0 object (none zero side refl))
+      ∙ no_port feeds object (λ number. none (suc number))
 
   -- nothing is kept at the beginning
-  pub begins : (history : List (Entry M)) (lanes : List (Option (LaneSide M))) (feeds : List (Option (FeedSide M))) → history ≡ [] → lanes ≡ [] → feeds ≡ []
+  pub begins : (history : List (Entry M)) (lanes : List (Option (LaneSide M))) (feeds : List (Option (FeedSide M)))
+      → history ≡ [] → lanes ≡ [] → feeds ≡ []
       → KeepsLanes history lanes × KeepsFeeds history feeds
   begins history lanes feeds none no_lanes no_feeds =
-      let lanes_begin : KeepsLanes {M = M} [] [] = record { lane = λ number side found. absurd (none-some (Some side) found); no_lane = λ number past. refl } in
+      let lanes_begin : KeepsLanes {M = M} [] [] =
+      record { lane = λ number side found. absurd (none-some (Some side) found); no_lane = λ number past. refl } in
       let feeds_begin : KeepsFeeds {M = M} [] [] = record {
         feed = λ number side found. absurd (none-some (Some side) found);
         no_feed = λ number past. refl;
@@ -54,7 +60,8 @@ module _ {M : Type 0} where
       )
 
   -- entries of a lane leave all feeds
-  laned_keeps_feeds : (number : ℕ) (way : Way) (target : Name) (messages : List M) (history : List (Entry M)) (feeds : List (Option (FeedSide M)))
+  laned_keeps_feeds : (number : ℕ) (way : Way) (target : Name) (messages : List M) (history : List (Entry M))
+      (feeds : List (Option (FeedSide M)))
       → KeepsFeeds history feeds → KeepsFeeds (with_lane number way target messages history) feeds
   laned_keeps_feeds number way target messages history feeds keeps = record {
     feed = λ k side found. keeps_laned number way target messages history k side (keeps.feed k side found);
@@ -69,22 +76,29 @@ module _ {M : Type 0} where
       (laned_keeps_feeds number d.looked.way d.looked.target d.moves.moved old.history feeds keeps)
 
   -- a call that isn't barred leaves the port of an open feed
-  other_port : (feeds : List (Option (FeedSide M))) (name object : ℕ) → is_feeds_port feeds object ≡ true → is_feeds_port feeds name ≡ false → eqb name object ≡ false
+  other_port : (feeds : List (Option (FeedSide M))) (name object : ℕ) → is_feeds_port feeds object ≡ true
+      → is_feeds_port feeds name ≡ false → eqb name object ≡ false
   other_port feeds name object here free = ne_eqb name object (λ same. false≢true (sym free ∙ ap (is_feeds_port feeds) same ∙ here))
 
-  untouched : (feeds : List (Option (FeedSide M))) (call : Call M) (reply : Reply M) (object : ℕ) → is_feeds_port feeds object ≡ true → is_barred feeds call ≡ false
+  untouched : (feeds : List (Option (FeedSide M))) (call : Call M) (reply : Reply M) (object : ℕ)
+      → is_feeds_port feeds object ≡ true → is_barred feeds call ≡ false
       → (got_by call reply object ≡ []) × (closes call reply object ≡ false)
-  untouched feeds (Recv name) reply object here free = (ap (λ t. cond t (message_in reply) []) (other_port feeds name.0 object here free), refl)
-  untouched feeds (Poll name) reply object here free = (ap (λ t. cond t (message_in reply) []) (other_port feeds name.0 object here free), refl)
-  untouched feeds (ClosePort name) reply object here free = (refl, ap (λ t. cond t (is_done reply) false) (other_port feeds name.0 object here free))
+  untouched feeds (Recv name) reply object here free =
+      (ap (λ t. cond t (message_in reply) []) (other_port feeds name.0 object here free), refl)
+  untouched feeds (Poll name) reply object here free =
+      (ap (λ t. cond t (message_in reply) []) (other_port feeds name.0 object here free), refl)
+  untouched feeds (ClosePort name) reply object here free =
+      (refl, ap (λ t. cond t (is_done reply) false) (other_port feeds name.0 object here free))
   untouched feeds call reply object here free = (refl, refl)
 
   -- what an entry of a seat leaves
-  seat_keeps_feeds : (history : List (Entry M)) (feeds : List (Option (FeedSide M))) (seat : ℕ) (call : Call M) (reply : Reply M) → is_barred feeds call ≡ false
+  seat_keeps_feeds : (history : List (Entry M)) (feeds : List (Option (FeedSide M))) (seat : ℕ) (call : Call M) (reply : Reply M)
+      → is_barred feeds call ≡ false
       → KeepsFeeds history feeds → KeepsFeeds (record { who = Seat seat; call = call; reply = reply } ∷ history) feeds
   seat_keeps_feeds history feeds seat call reply free keeps = record { feed = each; no_feed = none; apart = keeps.apart }
     where
-      each : (k : ℕ) (side : FeedSide M) → slice_get feeds k ≡ Some (Some side) → KeepsFeed (record { who = Seat seat; call = call; reply = reply } ∷ history) k side
+      each : (k : ℕ) (side : FeedSide M) → slice_get feeds k ≡ Some (Some side)
+          → KeepsFeed (record { who = Seat seat; call = call; reply = reply } ∷ history) k side
       each k side found =
           let kept = keeps.feed k side found in
           let apart = untouched feeds call reply side.port.0 (found_port feeds k side found) free in
@@ -100,17 +114,23 @@ module _ {M : Type 0} where
       none k past = fed_other (record { who = Seat seat; call = call; reply = reply }) history k refl ∙ keeps.no_feed k past
 
   -- what a seat's call leaves
-  pub applied_keeps_feeds : (chunk : ℕ) (sure : Bool) (old new : Shown M) (feeds : List (Option (FeedSide M))) (seat : ℕ) (call : Call M) (outcome : Outcome M)
-      → is_barred feeds call ≡ false → Applies chunk sure old new (Seat seat) call outcome → KeepsFeeds old.history feeds → KeepsFeeds new.history feeds
-  applied_keeps_feeds chunk sure old new feeds seat call (Refused refusal back) free applies keeps = subst (λ h. KeepsFeeds h feeds) (sym applies.2.history) keeps
-  applied_keeps_feeds chunk sure old new feeds seat call (WouldWait back) free applies keeps = subst (λ h. KeepsFeeds h feeds) (sym applies.4.history) keeps
+  pub applied_keeps_feeds : (chunk : ℕ) (sure : Bool) (old new : Shown M) (feeds : List (Option (FeedSide M))) (seat : ℕ)
+      (call : Call M) (outcome : Outcome M)
+      → is_barred feeds call ≡ false → Applies chunk sure old new (Seat seat) call outcome
+      → KeepsFeeds old.history feeds → KeepsFeeds new.history feeds
+  applied_keeps_feeds chunk sure old new feeds seat call (Refused refusal back) free applies keeps =
+      subst (λ h. KeepsFeeds h feeds) (sym applies.2.history) keeps
+  applied_keeps_feeds chunk sure old new feeds seat call (WouldWait back) free applies keeps =
+      subst (λ h. KeepsFeeds h feeds) (sym applies.4.history) keeps
   applied_keeps_feeds chunk sure old new feeds seat call (Answered answer) free applies keeps =
       subst (λ h. KeepsFeeds h feeds) (sym applies.5.history) (seat_keeps_feeds old.history feeds seat call answer.reply free keeps)
 
   -- no two feeds have one port, whatever is in the slot of one, if its port is the same
   still_apart : (number : ℕ) (history : List (Entry M)) (feeds : List (Option (FeedSide M))) (from : FeedSide M) (to : Option (FeedSide M))
-      → slice_get feeds number ≡ Some (Some from) → ((side : FeedSide M) → to ≡ Some side → side.port ≡ from.port) → KeepsFeeds history feeds
-      → (one two : ℕ) (a b : FeedSide M) → slice_get (slice_set feeds number to) one ≡ Some (Some a) → slice_get (slice_set feeds number to) two ≡ Some (Some b)
+      → slice_get feeds number ≡ Some (Some from) → ((side : FeedSide M) → to ≡ Some side → side.port ≡ from.port)
+      → KeepsFeeds history feeds
+      → (one two : ℕ) (a b : FeedSide M) → slice_get (slice_set feeds number to) one ≡ Some (Some a)
+      → slice_get (slice_set feeds number to) two ≡ Some (Some b)
       → a.port ≡ b.port → one ≡ two
   still_apart number history feeds from to opened same keeps = λ one two a b first second ports.
       let was : (s : FeedSide M) × (slice_get feeds one ≡ Some (Some s)) × (a.port ≡ s.port) =
@@ -120,7 +140,8 @@ module _ {M : Type 0} where
       keeps.apart one two was.0 other.0 was.1 other.1 (sym was.2 ∙ ports ∙ other.2)
 
   -- a feed is ended
-  pub ended_keeps_feeds : (number : ℕ) (history : List (Entry M)) (feeds : List (Option (FeedSide M))) (from : FeedSide M) → slice_get feeds number ≡ Some (Some from)
+  pub ended_keeps_feeds : (number : ℕ) (history : List (Entry M)) (feeds : List (Option (FeedSide M))) (from : FeedSide M)
+      → slice_get feeds number ≡ Some (Some from)
       → KeepsFeeds history feeds → KeepsFeeds history (slice_set feeds number None)
   ended_keeps_feeds number history feeds from opened keeps = record {
     feed = each;
@@ -135,7 +156,8 @@ module _ {M : Type 0} where
       ]
 
   -- its port is then no feed's
-  pub own_port : (number : ℕ) (history : List (Entry M)) (feeds : List (Option (FeedSide M))) (from : FeedSide M) → slice_get feeds number ≡ Some (Some from)
+  pub own_port : (number : ℕ) (history : List (Entry M)) (feeds : List (Option (FeedSide M))) (from : FeedSide M)
+      → slice_get feeds number ≡ Some (Some from)
       → KeepsFeeds history feeds → is_feeds_port (slice_set feeds number None) from.port.0 ≡ false
   own_port number history feeds from opened keeps = no_port (slice_set feeds number None) from.port.0 others
     where
@@ -149,7 +171,8 @@ module _ {M : Type 0} where
       ]
 
   -- a feed is pumped
-  looked_keeps : (history : List (Entry M)) (number : ℕ) (from looked : FeedSide M) → LearnsFree from looked → KeepsFeed history number from → KeepsFeed history number looked
+  looked_keeps : (history : List (Entry M)) (number : ℕ) (from looked : FeedSide M) → LearnsFree from looked
+      → KeepsFeed history number from → KeepsFeed history number looked
   looked_keeps history number from looked looks keeps = record {
     fed = keeps.fed ∙ sym (ap (λ (s : FeedSide M). s.pushed) looks.side);
     got = ap (λ (s : FeedSide M). got history s.port.0) looks.side ∙ keeps.got ∙ sym (ap (λ (s : FeedSide M). s.pushed) looks.side);
@@ -157,12 +180,15 @@ module _ {M : Type 0} where
     opened = ap (λ (s : FeedSide M). is_open history s.port.0) looks.side ∙ keeps.opened;
   }
 
-  pub pumped_keeps_feeds : (number count : ℕ) (old new : Shown M) (feeds : List (Option (FeedSide M))) (from looked to : FeedSide M) → slice_get feeds number ≡ Some (Some from)
-      → LearnsFree from looked → PumpsIn number count old new looked to → KeepsFeeds old.history feeds → KeepsFeeds new.history (slice_set feeds number (Some to))
+  pub pumped_keeps_feeds : (number count : ℕ) (old new : Shown M) (feeds : List (Option (FeedSide M))) (from looked to : FeedSide M)
+      → slice_get feeds number ≡ Some (Some from)
+      → LearnsFree from looked → PumpsIn number count old new looked to → KeepsFeeds old.history feeds
+      → KeepsFeeds new.history (slice_set feeds number (Some to))
   pumped_keeps_feeds number count old new feeds from looked to opened looks p keeps = record {
     feed = each;
     no_feed = none;
-    apart = still_apart number old.history feeds from (Some to) opened (λ side is. sym (ap (λ (s : FeedSide M). s.port) (same_Some _ _ is)) ∙ port ∙ before) keeps;
+    apart = still_apart number old.history feeds from (Some to) opened
+        (λ side is. sym (ap (λ (s : FeedSide M). s.port) (same_Some _ _ is)) ∙ port ∙ before) keeps;
   }
     where
       port : to.port ≡ looked.port
@@ -174,10 +200,12 @@ module _ {M : Type 0} where
       each : (k : ℕ) (side : FeedSide M) → slice_get (slice_set feeds number (Some to)) k ≡ Some (Some side) → KeepsFeed new.history k side
       each k side found = elim (this_or_other k number) [
         | inl same ↦
-            let is : to ≡ side = same_Some _ _ (same_Some _ _ (sym (ap (slice_get (slice_set feeds number (Some to))) same ∙ slice_get-set_same feeds number (Some from) (Some to) opened) ∙ found)) in
+            let is : to ≡ side = same_Some _ _ (same_Some _ _ (sym (ap (slice_get (slice_set feeds number (Some to))) same
+            ∙ slice_get-set_same feeds number (Some from) (Some to) opened) ∙ found)) in
             subst (λ (s : FeedSide M). KeepsFeed new.history k s) is
             (subst (λ n. KeepsFeed new.history n to) (sym same)
-            (keeps_pumped number count old new looked to (looked_keeps old.history number from looked looks (keeps.feed number from opened)) p))
+            (keeps_pumped number count old new looked to
+            (looked_keeps old.history number from looked looks (keeps.feed number from opened)) p))
         | inr apart ↦
             let was : slice_get feeds k ≡ Some (Some side) = sym (slice_get-set_other feeds number k (Some to) apart) ∙ found in
             let away : side.port.0 ≢ looked.port.0 = λ same.
@@ -191,5 +219,6 @@ module _ {M : Type 0} where
       none k past =
           let within = taken_within feeds number (ap is_taken opened) in
           let past_old : length feeds ≤ k = omega (arith, past, same_length feeds number (Some to)) in
-          ap (λ h. fed h k) p.history ∙ fed_apart number looked.port p.pumped old.history k (λ same. absurd (omega (arith, same, within, past_old)))
+          ap (λ h. fed h k) p.history
+          ∙ fed_apart number looked.port p.pumped old.history k (λ same. absurd (omega (arith, same, within, past_old)))
           ∙ keeps.no_feed k past_old

@@ -1,5 +1,6 @@
 -- How entries of a lane, and entries of others, change what the journal has of each lane.
-use Rattle.std.proofs.Common.{◌≡◌, ◌≢◌, ℕ, ◌≤◌, Bool, true, false, cond, List, [], ◌∷◌, ◌++◌, length, Some, IsSome, IfSome, IsTrue, subst, refl, sym, ap, ◌∙◌, arith, length-append, append_assoc}
+use Rattle.std.proofs.Common.{◌≡◌, ◌≢◌, ℕ, ◌≤◌, Bool, true, false, cond, List, [], ◌∷◌, ◌++◌, length, Some, IsSome, IfSome}
+use Rattle.std.proofs.Common.{IsTrue, subst, refl, sym, ap, ◌∙◌, arith, length-append, append_assoc}
 use Rattle.std.proofs.lemmas.Bool.{eq-eqb, ne_eqb}
 use Rattle.std.proofs.lemmas.List.{append-nil}
 use Rattle.cml_board.specs.Prelude.{Name, Call, Entry, takes, kind_of, answer, Fits, has_message}
@@ -21,11 +22,18 @@ module _ {M : Type 0} where
   pub laned_within : (history : List (Entry M)) (number : ℕ) → length (laned history number) ≤ length history
   laned_within [] number = omega arith
   laned_within (entry ∷ before) number =
-      omega (arith, laned_within before number, one_at_most (is_lane entry.who number) entry.call, length-append (laned before number) (cond (is_lane entry.who number) (moved_by entry.call) []))
+      omega (
+        arith,
+        laned_within before number,
+        one_at_most (is_lane entry.who number) entry.call,
+        length-append (laned before number) (cond (is_lane entry.who number) (moved_by entry.call) []),
+      )
 
   -- an entry of another adds none
-  pub laned_other : (entry : Entry M) (history : List (Entry M)) (number : ℕ) → is_lane entry.who number ≡ false → laned (entry ∷ history) number ≡ laned history number
-  laned_other entry history number other = ap (λ b. laned history number ++ cond b (moved_by entry.call) []) other ∙ append-nil (laned history number)
+  pub laned_other : (entry : Entry M) (history : List (Entry M)) (number : ℕ) → is_lane entry.who number ≡ false
+      → laned (entry ∷ history) number ≡ laned history number
+  laned_other entry history number other = ap (λ b. laned history number ++ cond b (moved_by entry.call) []) other
+      ∙ append-nil (laned history number)
 
   moved_way : (way : Way) (target : Name) (message : M) → moved_by (way_call way target message) ≡ message ∷ []
   moved_way Send target message = refl
@@ -63,7 +71,8 @@ module _ {M : Type 0} where
 
   -- the entries of messages and then of more
   pub with_lane_more : (number : ℕ) (way : Way) (target : Name) (messages more : List M) (history : List (Entry M))
-      → with_lane number way target (messages ++ more) history ≡ with_lane number way target more (with_lane number way target messages history)
+      → with_lane number way target (messages ++ more) history
+      ≡ with_lane number way target more (with_lane number way target messages history)
   with_lane_more number way target [] more history = refl
   with_lane_more number way target (message ∷ messages) more history =
       with_lane_more number way target messages more (lane_entry number way target message ∷ history)
@@ -71,10 +80,17 @@ module _ {M : Type 0} where
   -- a lane's call fits its target, is answered, and has a message
   pub fits_way : (history : List (Entry M)) (way : Way) (target : Name) (message : M) → kind_of history target.0 ≡ Some (way_kind way)
       → Fits history (way_call way target message)
-  fits_way history Send target message is = (subst (λ k. IsSome k) (sym is) refl, subst (λ k. IfSome k (λ kind. IsTrue (takes kind (way_call Send target message)))) (sym is) refl)
-  fits_way history Cast target message is = (subst (λ k. IsSome k) (sym is) refl, subst (λ k. IfSome k (λ kind. IsTrue (takes kind (way_call Cast target message)))) (sym is) refl)
+  fits_way history Send target message is = (
+    subst (λ k. IsSome k) (sym is) refl,
+    subst (λ k. IfSome k (λ kind. IsTrue (takes kind (way_call Send target message)))) (sym is) refl,
+  )
+  fits_way history Cast target message is = (
+    subst (λ k. IsSome k) (sym is) refl,
+    subst (λ k. IfSome k (λ kind. IsTrue (takes kind (way_call Cast target message)))) (sym is) refl,
+  )
 
-  pub answer_way : (history : List (Entry M)) (way : Way) (target : Name) (message : M) → answer history (way_call way target message) ≡ Some Done
+  pub answer_way : (history : List (Entry M)) (way : Way) (target : Name) (message : M)
+      → answer history (way_call way target message) ≡ Some Done
   answer_way history Send target message = refl
   answer_way history Cast target message = refl
 

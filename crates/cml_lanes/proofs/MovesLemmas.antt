@@ -1,5 +1,6 @@
 -- Moves of messages, one after another.
-use Rattle.std.proofs.Common.{◌≡◌, ℕ, ◌+◌, ◌<◌, Bool, false, List, [], ◌∷◌, ◌++◌, length, slice_get, Option, Some, None, IfNone, is_some, subst, refl, sym, ap, ◌∙◌, arith, length-append, append_assoc}
+use Rattle.std.proofs.Common.{◌≡◌, ℕ, ◌+◌, ◌<◌, Bool, false, List, [], ◌∷◌, ◌++◌, length, slice_get, Option, Some, None, IfNone}
+use Rattle.std.proofs.Common.{is_some, subst, refl, sym, ap, ◌∙◌, arith, length-append, append_assoc}
 use Rattle.std.proofs.lemmas.Option.{same_Some, none-some}
 use Rattle.std.proofs.lemmas.List.{append-nil}
 use Rattle.std.proofs.lemmas.Bool.{true≢false}
@@ -46,10 +47,12 @@ module _ {M : Type 0} where
   pub one_moves : (number : ℕ) (old new : Shown M) (from to : LaneSide M) (call : Call M) (reply : Reply M) (message taken : M)
       → AddsEntry old new (Lane number) call reply → answer old.history call ≡ Some reply
       → call ≡ way_call from.way from.target message → slice_get from.seen 0 ≡ Some message
-      → to ≡ record from { received = from.received ++ taken ∷ []; seen = to.seen } → from.seen ≡ taken ∷ to.seen → MovesOut number 1 old new from to
+      → to ≡ record from { received = from.received ++ taken ∷ []; seen = to.seen } → from.seen ≡ taken ∷ to.seen
+      → MovesOut number 1 old new from to
   one_moves number old new from to call reply message taken adds answers call_is next side seen =
       let same : message ≡ taken = first_is seen next in
-      let replied : reply ≡ Done = same_Some _ _ (sym answers ∙ ap (answer old.history) call_is ∙ answer_way old.history from.way from.target message) in
+      let replied : reply ≡ Done =
+      same_Some _ _ (sym answers ∙ ap (answer old.history) call_is ∙ answer_way old.history from.way from.target message) in
       record {
         moved = taken ∷ [];
         as_many = refl;
@@ -99,14 +102,23 @@ module _ {M : Type 0} where
       → IsAsBefore old new → slice_get side.seen 0 ≡ Some message → IsLimit refusal
       → Refuses chunk sure old (way_call side.way side.target message) refusal → Stops chunk sure number 0 old new side side refusal
   stops_first chunk sure number old new side refusal message after next limit refuses =
-      record { at = old; moves = none_move number old side; after = after; message = message; next = next; limit = limit; refused = refuses }
+      record {
+        at = old;
+        moves = none_move number old side;
+        after = after;
+        message = message;
+        next = next;
+        limit = limit;
+        refused = refuses;
+      }
 
   -- the journal is full
   pub stops_full : (chunk : ℕ) (sure : Bool) (number : ℕ) (board : Shown M) (side : LaneSide M) → KeepsLane board.history number side
       → 0 < length side.seen → entries_in board.history ≡ full_at board → Stops chunk sure number 0 board board side side JournalFull
   stops_full chunk sure number board side keeps some full =
       let first = some_first side.seen some in
-      stops_first chunk sure number board board side JournalFull first.0 (unchanged board) first.1 tt (fits_way board.history side.way side.target first.0 keeps.kind, full)
+      stops_first chunk sure number board board side JournalFull first.0 (unchanged board) first.1 tt
+      (fits_way board.history side.way side.target first.0 keeps.kind, full)
 
   -- the message can't be shared
   pub stops_unshared : (chunk : ℕ) (sure : Bool) (number : ℕ) (board : Shown M) (side : LaneSide M) → KeepsLane board.history number side
@@ -134,13 +146,16 @@ module _ {M : Type 0} where
   limit_refuses chunk sure board call Unseen fits refuses = refuses
 
   -- the call was refused by the board
-  pub stops_refused : (chunk : ℕ) (sure : Bool) (number : ℕ) (old new : Shown M) (side : LaneSide M) (refusal : Refusal) (call : Call M) (message : M)
-      → kind_of old.history side.target.0 ≡ Some (way_kind side.way) → IsAsBefore old new → slice_get side.seen 0 ≡ Some message → call ≡ way_call side.way side.target message → Refuses chunk sure old call refusal
+  pub stops_refused : (chunk : ℕ) (sure : Bool) (number : ℕ) (old new : Shown M) (side : LaneSide M)
+      (refusal : Refusal) (call : Call M) (message : M)
+      → kind_of old.history side.target.0 ≡ Some (way_kind side.way) → IsAsBefore old new → slice_get side.seen 0 ≡ Some message
+      → call ≡ way_call side.way side.target message → Refuses chunk sure old call refusal
       → Stops chunk sure number 0 old new side side refusal
   stops_refused chunk sure number old new side refusal call message kind after next is refuses =
       let refused = subst (λ c. Refuses chunk sure old c refusal) is refuses in
       stops_first chunk sure number old new side refusal message after next
-      (limit_refuses chunk sure old (way_call side.way side.target message) refusal (fits_way old.history side.way side.target message kind) refused) refused
+      (limit_refuses chunk sure old (way_call side.way side.target message) refusal
+      (fits_way old.history side.way side.target message kind) refused) refused
 
   -- so many went out until one was refused
   pub stopped_moves : {chunk : ℕ} {sure : Bool} {number count : ℕ} {old new : Shown M} {from to : LaneSide M} {refusal : Refusal}

@@ -12,7 +12,8 @@ use Rattle.cml_lanes.proofs.KeptFeedsLemmas.{ended_keeps_feeds, own_port, pumped
 
 module _ {M : Type 0} where
   -- no lane has more
-  fed_keeps_lanes : (number count : ℕ) (old new : Shown M) (lanes : List (Option (LaneSide M))) (from to : FeedSide M) → PumpsIn number count old new from to
+  fed_keeps_lanes : (number count : ℕ) (old new : Shown M) (lanes : List (Option (LaneSide M))) (from to : FeedSide M)
+      → PumpsIn number count old new from to
       → KeepsLanes old.history lanes → KeepsLanes new.history lanes
   fed_keeps_lanes number count old new lanes from to p keeps =
       let now : KeepsLanes (with_feed number from.port p.pumped old.history) lanes = record {
@@ -22,7 +23,8 @@ module _ {M : Type 0} where
       subst (λ h. KeepsLanes h lanes) (sym p.history) now
 
   -- what the floor keeps of its lanes and of its feeds
-  pub floor_pumped : (chunk : ℕ) (sure : Bool) (number count : ℕ) (stopped : Option Refusal) (board after : Shown M) (lanes : List (Option (LaneSide M))) (feeds news : List (Option (FeedSide M)))
+  pub floor_pumped : (chunk : ℕ) (sure : Bool) (number count : ℕ) (stopped : Option Refusal) (board after : Shown M)
+      (lanes : List (Option (LaneSide M))) (feeds news : List (Option (FeedSide M)))
       → OnPlace stays number feeds news (PumpsUntil chunk sure number count stopped board after)
       → KeepsLanes board.history lanes × KeepsFeeds board.history feeds → KeepsLanes after.history lanes × KeepsFeeds after.history news
   floor_pumped chunk sure number count stopped board after lanes feeds news on keeps =
@@ -33,11 +35,14 @@ module _ {M : Type 0} where
       )
 
   -- what is done to the place is done to the feed
-  pub on_feed : {lanes : List (Option (LaneSide M))} (left : FeedSide M → Option (FeedSide M)) (number : ℕ) (board after : Shown M) (feeds news : List (Option (FeedSide M))) (old : FloorShown M)
-      (Does : Shown M → FeedSide M → FeedSide M → Type 0) → record { board = board; lanes = lanes; feeds = feeds } ≡ old → OnPlace left number feeds news (Does board)
+  pub on_feed : {lanes : List (Option (LaneSide M))} (left : FeedSide M → Option (FeedSide M)) (number : ℕ) (board after : Shown M)
+      (feeds news : List (Option (FeedSide M))) (old : FloorShown M)
+      (Does : Shown M → FeedSide M → FeedSide M → Type 0) → record { board = board; lanes = lanes; feeds = feeds } ≡ old
+      → OnPlace left number feeds news (Does board)
       → OnFeed left number old (record { board = after; lanes = lanes; feeds = news }) (Does old.board)
   on_feed {lanes} left number board after feeds news old Does view on =
-      let all : OnFeed left number (record { board = board; lanes = lanes; feeds = feeds }) (record { board = after; lanes = lanes; feeds = news }) (Does board) = record { place = on; lanes = refl } in
+      let all : OnFeed left number (record { board = board; lanes = lanes; feeds = feeds })
+      (record { board = after; lanes = lanes; feeds = news }) (Does board) = record { place = on; lanes = refl } in
       subst (λ (f : FloorShown M). OnFeed left number f (record { board = after; lanes = lanes; feeds = news }) (Does f.board)) view all
 
   -- and keeps the rings
@@ -46,11 +51,14 @@ module _ {M : Type 0} where
   pumped_rings chunk sure number count stopped old new =
       feed_rings (λ from to side until is.
       let pumps = until_pumps chunk sure number count stopped old.board new.board from to until in
-      sym (ap (λ (s : FeedSide M). s.ring) (same_Some _ _ is)) ∙ ap (λ (s : FeedSide M). s.ring) pumps.pumps.side ∙ ap (λ (s : FeedSide M). s.ring) pumps.looks.side)
+      sym (ap (λ (s : FeedSide M). s.ring) (same_Some _ _ is)) ∙ ap (λ (s : FeedSide M). s.ring) pumps.pumps.side
+      ∙ ap (λ (s : FeedSide M). s.ring) pumps.looks.side)
 
   -- an open feed's slot
-  pub open_feed_slot : {lanes : List (Option (LaneSide M))} (number : ℕ) (board : Shown M) (feeds : List (Option (FeedSide M))) (floor : FloorShown M)
-      → record { board = board; lanes = lanes; feeds = feeds } ≡ floor → is_open_feed floor number ≡ true → is_taken (slice_get feeds number) ≡ true
+  pub open_feed_slot : {lanes : List (Option (LaneSide M))} (number : ℕ) (board : Shown M)
+      (feeds : List (Option (FeedSide M))) (floor : FloorShown M)
+      → record { board = board; lanes = lanes; feeds = feeds } ≡ floor → is_open_feed floor number ≡ true
+      → is_taken (slice_get feeds number) ≡ true
   open_feed_slot number board feeds floor view opened = ap (λ (f : FloorShown M). is_taken (slice_get f.feeds number)) view ∙ opened
 
   -- no other open feed has its port
@@ -63,17 +71,22 @@ module _ {M : Type 0} where
       → IfSome end (λ whole. whole ≡ record { ring = side.ring; number = number; sent = side.pushed })
       → IfSome end (λ whole. whole ≡ record { ring = side.ring; number = number; sent = fed history number })
   given_end number history side None same given = tt
-  given_end number history side (Some end) same given = given ∙ ap (λ sent. record { ring = side.ring; number = number; sent = sent }) (sym same)
+  given_end number history side (Some end) same given = given
+      ∙ ap (λ sent. record { ring = side.ring; number = number; sent = sent }) (sym same)
 
-  pub ends_feed : {lanes : List (Option (LaneSide M))} (number : ℕ) (board : Shown M) (feeds news : List (Option (FeedSide M))) (old : FloorShown M) (end : Option (Ended M))
-      → record { board = board; lanes = lanes; feeds = feeds } ≡ old → is_taken (slice_get feeds number) ≡ true → KeepsFeeds board.history feeds
+  pub ends_feed : {lanes : List (Option (LaneSide M))} (number : ℕ) (board : Shown M) (feeds news : List (Option (FeedSide M)))
+      (old : FloorShown M) (end : Option (Ended M))
+      → record { board = board; lanes = lanes; feeds = feeds } ≡ old
+      → is_taken (slice_get feeds number) ≡ true → KeepsFeeds board.history feeds
       → news ≡ slice_set feeds number None
-      → ((side : FeedSide M) → slice_get feeds number ≡ Some (Some side) → IfSome end (λ whole. whole ≡ record { ring = side.ring; number = number; sent = side.pushed }))
+      → ((side : FeedSide M) → slice_get feeds number ≡ Some (Some side)
+      → IfSome end (λ whole. whole ≡ record { ring = side.ring; number = number; sent = side.pushed }))
       → EndsFeed number old (record { board = board; lanes = lanes; feeds = news }) end
   ends_feed {lanes} number board feeds news old end view taken keeps written given =
       let slot = taken_slot feeds number taken in
       let now = given_end number board.history slot.0 end (keeps.feed number slot.0 slot.1).fed (given slot.0 slot.1) in
-      let all : EndsFeed number (record { board = board; lanes = lanes; feeds = feeds }) (record { board = board; lanes = lanes; feeds = news }) end = record {
+      let all : EndsFeed number (record { board = board; lanes = lanes; feeds = feeds })
+      (record { board = board; lanes = lanes; feeds = news }) end = record {
         from = slot.0;
         opened = slot.1;
         floor = ap (λ (fs : List (Option (FeedSide M))). record { board = board; lanes = lanes; feeds = fs }) written;
@@ -81,17 +94,24 @@ module _ {M : Type 0} where
       } in
       subst (λ (f : FloorShown M). EndsFeed number f (record { board = board; lanes = lanes; feeds = news }) end) view all
 
-  pub end_keeps : (number : ℕ) (board : Shown M) (lanes : List (Option (LaneSide M))) (feeds news : List (Option (FeedSide M))) → is_taken (slice_get feeds number) ≡ true
+  pub end_keeps : (number : ℕ) (board : Shown M) (lanes : List (Option (LaneSide M))) (feeds news : List (Option (FeedSide M)))
+      → is_taken (slice_get feeds number) ≡ true
       → news ≡ slice_set feeds number None → KeepsLanes board.history lanes × KeepsFeeds board.history feeds
       → KeepsLanes board.history lanes × KeepsFeeds board.history news
   end_keeps number board lanes feeds news taken written keeps =
-      let slot = taken_slot feeds number taken in
-      (keeps.0, subst (λ fs. KeepsFeeds board.history fs) (sym written) (ended_keeps_feeds number board.history feeds slot.0 slot.1 keeps.1))
+      let slot = taken_slot feeds number taken in (
+        keeps.0,
+        subst (λ fs. KeepsFeeds board.history fs) (sym written) (ended_keeps_feeds number board.history feeds slot.0 slot.1 keeps.1),
+      )
 
-  pub end_rings : {lanes : List (Option (LaneSide M))} (number : ℕ) (board : Shown M) (feeds news : List (Option (FeedSide M))) (old : FloorShown M)
-      → record { board = board; lanes = lanes; feeds = feeds } ≡ old → is_taken (slice_get feeds number) ≡ true → news ≡ slice_set feeds number None
+  pub end_rings : {lanes : List (Option (LaneSide M))} (number : ℕ) (board : Shown M)
+      (feeds news : List (Option (FeedSide M))) (old : FloorShown M)
+      → record { board = board; lanes = lanes; feeds = feeds } ≡ old → is_taken (slice_get feeds number) ≡ true
+      → news ≡ slice_set feeds number None
       → KeepsRings old (record { board = board; lanes = lanes; feeds = news })
   end_rings {lanes} number board feeds news old view taken written =
       let slot = taken_slot feeds number taken in
-      let gone : OnPlace goes number feeds news (λ from to. to ≡ from) = record { from = slot.0; to = slot.0; opened = slot.1; places = written; does = refl } in
-      feed_rings (λ from to side same is. absurd (none-some side is)) (on_feed goes number board board feeds news old (λ b from to. to ≡ from) view gone)
+      let gone : OnPlace goes number feeds news (λ from to. to ≡ from) =
+      record { from = slot.0; to = slot.0; opened = slot.1; places = written; does = refl } in
+      feed_rings (λ from to side same is. absurd (none-some side is))
+      (on_feed goes number board board feeds news old (λ b from to. to ≡ from) view gone)

@@ -1,5 +1,6 @@
 -- What is done to the slots of lanes, as what is done to the floor.
-use Rattle.std.proofs.Common.{◌≡◌, ℕ, Bool, true, false, List, ◌++◌, slice_get, slice_set, Option, Some, None, is_some, subst, refl, sym, ap, ◌∙◌}
+use Rattle.std.proofs.Common.{◌≡◌, ℕ, Bool, true, false, List, ◌++◌, slice_get, slice_set, Option, Some, None, is_some}
+use Rattle.std.proofs.Common.{subst, refl, sym, ap, ◌∙◌}
 use Rattle.std.proofs.lemmas.Option.{same_Some, none-some}
 use Rattle.std.proofs.lemmas.Bool.{true≢false}
 use Rattle.std.proofs.lemmas.List.{append-nil}
@@ -15,26 +16,32 @@ use Rattle.cml_lanes.proofs.KeptFeedsLemmas.{drained_keeps_feeds}
 
 module _ {M : Type 0} where
   -- what the floor keeps of its lanes and of its feeds
-  pub floor_drained : (chunk : ℕ) (sure : Bool) (number count : ℕ) (stopped : Option Refusal) (board after : Shown M) (lanes news : List (Option (LaneSide M))) (feeds : List (Option (FeedSide M)))
+  pub floor_drained : (chunk : ℕ) (sure : Bool) (number count : ℕ) (stopped : Option Refusal) (board after : Shown M)
+      (lanes news : List (Option (LaneSide M))) (feeds : List (Option (FeedSide M)))
       → OnPlace stays number lanes news (DrainsUntil chunk sure number count stopped board after)
       → KeepsLanes board.history lanes × KeepsFeeds board.history feeds → KeepsLanes after.history news × KeepsFeeds after.history feeds
   floor_drained chunk sure number count stopped board after lanes news feeds on keeps =
       let drains = until_drains chunk sure number count stopped board after on.from on.to on.does in (
-        subst (λ ls. KeepsLanes after.history ls) (sym on.places) (drain_keeps number count board after lanes on.from on.to on.opened drains keeps.0),
+        subst (λ ls. KeepsLanes after.history ls) (sym on.places)
+            (drain_keeps number count board after lanes on.from on.to on.opened drains keeps.0),
         drained_keeps_feeds number count board after feeds on.from on.to drains keeps.1,
       )
 
   -- what is done to the place is done to the lane
-  pub on_lane : {feeds : List (Option (FeedSide M))} (left : LaneSide M → Option (LaneSide M)) (number : ℕ) (board after : Shown M) (lanes news : List (Option (LaneSide M))) (old : FloorShown M)
-      (Does : Shown M → LaneSide M → LaneSide M → Type 0) → record { board = board; lanes = lanes; feeds = feeds } ≡ old → OnPlace left number lanes news (Does board)
+  pub on_lane : {feeds : List (Option (FeedSide M))} (left : LaneSide M → Option (LaneSide M)) (number : ℕ) (board after : Shown M)
+      (lanes news : List (Option (LaneSide M))) (old : FloorShown M)
+      (Does : Shown M → LaneSide M → LaneSide M → Type 0) → record { board = board; lanes = lanes; feeds = feeds } ≡ old
+      → OnPlace left number lanes news (Does board)
       → OnLane left number old (record { board = after; lanes = news; feeds = feeds }) (Does old.board)
   on_lane {feeds} left number board after lanes news old Does view on =
-      let all : OnLane left number (record { board = board; lanes = lanes; feeds = feeds }) (record { board = after; lanes = news; feeds = feeds }) (Does board) = record { place = on; feeds = refl } in
+      let all : OnLane left number (record { board = board; lanes = lanes; feeds = feeds })
+      (record { board = after; lanes = news; feeds = feeds }) (Does board) = record { place = on; feeds = refl } in
       subst (λ (f : FloorShown M). OnLane left number f (record { board = after; lanes = news; feeds = feeds }) (Does f.board)) view all
 
   -- and keeps the rings
   same_ring : (number count : ℕ) (old new : Shown M) (from to : LaneSide M) → DrainsRing number count old new from to → to.ring ≡ from.ring
-  same_ring number count old new from to d = ap (λ (side : LaneSide M). side.ring) d.moves.side ∙ ap (λ (side : LaneSide M). side.ring) d.looks.side
+  same_ring number count old new from to d = ap (λ (side : LaneSide M). side.ring) d.moves.side
+      ∙ ap (λ (side : LaneSide M). side.ring) d.looks.side
 
   pub drained_rings : (chunk : ℕ) (sure : Bool) (number count : ℕ) (stopped : Option Refusal) (old new : FloorShown M)
       → OnLane stays number old new (DrainsUntil chunk sure number count stopped old.board new.board) → KeepsRings old new
@@ -42,18 +49,25 @@ module _ {M : Type 0} where
       lane_rings (λ from to side until is. sym (ap (λ (s : LaneSide M). s.ring) (same_Some _ _ is))
       ∙ same_ring number count old.board new.board from to (until_drains chunk sure number count stopped old.board new.board from to until))
 
-  pub gone_rings : {feeds : List (Option (FeedSide M))} (number : ℕ) (board : Shown M) (lanes news : List (Option (LaneSide M))) (old : FloorShown M)
-      → record { board = board; lanes = lanes; feeds = feeds } ≡ old → is_taken (slice_get lanes number) ≡ true → news ≡ slice_set lanes number None
+  pub gone_rings : {feeds : List (Option (FeedSide M))} (number : ℕ) (board : Shown M)
+      (lanes news : List (Option (LaneSide M))) (old : FloorShown M)
+      → record { board = board; lanes = lanes; feeds = feeds } ≡ old → is_taken (slice_get lanes number) ≡ true
+      → news ≡ slice_set lanes number None
       → KeepsRings old (record { board = board; lanes = news; feeds = feeds })
   gone_rings number board lanes news old view taken written =
       let slot = taken_slot lanes number taken in
-      let gone : OnPlace goes number lanes news (λ from to. to ≡ from) = record { from = slot.0; to = slot.0; opened = slot.1; places = written; does = refl } in
-      lane_rings (λ from to side same is. absurd (none-some side is)) (on_lane goes number board board lanes news old (λ b from to. to ≡ from) view gone)
+      let gone : OnPlace goes number lanes news (λ from to. to ≡ from) =
+      record { from = slot.0; to = slot.0; opened = slot.1; places = written; does = refl } in
+      lane_rings (λ from to side same is. absurd (none-some side is))
+      (on_lane goes number board board lanes news old (λ b from to. to ≡ from) view gone)
 
   -- what the journal has and what is left
-  pub gives_all : (number : ℕ) (after : Shown M) (news : List (Option (LaneSide M))) (feeds : List (Option (FeedSide M))) (end : Ended M) → KeepsLanes after.history news
-      → ((side : LaneSide M) → slice_get news number ≡ Some (Some side) → LeavesAll end side) → GivesAll number (record { board = after; lanes = news; feeds = feeds }) end
-  gives_all number after news feeds end keeps all = λ side found. ap (λ ms. ms ++ side.seen) (keeps.lane number side found).laned ∙ all side found
+  pub gives_all : (number : ℕ) (after : Shown M) (news : List (Option (LaneSide M))) (feeds : List (Option (FeedSide M))) (end : Ended M)
+      → KeepsLanes after.history news
+      → ((side : LaneSide M) → slice_get news number ≡ Some (Some side) → LeavesAll end side)
+      → GivesAll number (record { board = after; lanes = news; feeds = feeds }) end
+  gives_all number after news feeds end keeps all =
+      λ side found. ap (λ ms. ms ++ side.seen) (keeps.lane number side found).laned ∙ all side found
 
   -- all that was seen went, and then the lane was let go
   pub empties_off : (number lane count : ℕ) (old mid new : FloorShown M) → number ≡ lane → EmptiesLane stays number count old mid
@@ -63,22 +77,29 @@ module _ {M : Type 0} where
       from = on.place.from;
       to = on.place.to;
       opened = on.place.opened;
-      places = ap (λ (f : FloorShown M). f.lanes) gone ∙ ap (λ ls. slice_set ls number None) on.place.places ∙ set_again old.lanes number (Some on.place.to) None;
-      does = subst (λ (b : Shown M). Empties number count old.board b on.place.from on.place.to) (sym (ap (λ (f : FloorShown M). f.board) gone)) on.place.does;
+      places = ap (λ (f : FloorShown M). f.lanes) gone ∙ ap (λ ls. slice_set ls number None) on.place.places
+          ∙ set_again old.lanes number (Some on.place.to) None;
+      does = subst (λ (b : Shown M). Empties number count old.board b on.place.from on.place.to)
+          (sym (ap (λ (f : FloorShown M). f.board) gone)) on.place.does;
     };
     feeds = ap (λ (f : FloorShown M). f.feeds) gone ∙ on.feeds;
   })
 
-  pub all_stands : (number lane count : ℕ) (old mid new : FloorShown M) (end : Ended M) → number ≡ lane → EmptiesLane stays number count old mid
+  pub all_stands : (number lane count : ℕ) (old mid new : FloorShown M) (end : Ended M) → number ≡ lane
+      → EmptiesLane stays number count old mid
       → GivesAll number mid end → new ≡ record mid { lanes = slice_set mid.lanes number None } → laned new.board.history lane ≡ end.sent
   all_stands number lane count old mid new end same on gives gone =
       let here : slice_get mid.lanes number ≡ Some (Some on.place.to) =
-      ap (λ ls. slice_get ls number) on.place.places ∙ slice_get-set_same old.lanes number (Some on.place.from) (Some on.place.to) on.place.opened in
+      ap (λ ls. slice_get ls number) on.place.places
+      ∙ slice_get-set_same old.lanes number (Some on.place.from) (Some on.place.to) on.place.opened in
       ap (laned new.board.history) (sym same) ∙ ap (λ (f : FloorShown M). laned f.board.history number) gone
-      ∙ sym (append-nil (laned mid.board.history number)) ∙ ap (λ ms. laned mid.board.history number ++ ms) (sym on.place.does.none) ∙ gives on.place.to here
+      ∙ sym (append-nil (laned mid.board.history number))
+      ∙ ap (λ ms. laned mid.board.history number ++ ms) (sym on.place.does.none) ∙ gives on.place.to here
 
   -- where none was refused
-  pub until_none : (chunk : ℕ) (sure : Bool) (number count : ℕ) (old new : FloorShown M) (stopped : Option Refusal) → is_some stopped ≡ false
-      → OnLane stays number old new (DrainsUntil chunk sure number count stopped old.board new.board) → EmptiesLane stays number count old new
+  pub until_none : (chunk : ℕ) (sure : Bool) (number count : ℕ) (old new : FloorShown M) (stopped : Option Refusal)
+      → is_some stopped ≡ false
+      → OnLane stays number old new (DrainsUntil chunk sure number count stopped old.board new.board)
+      → EmptiesLane stays number count old new
   until_none chunk sure number count old new None is on = on
   until_none chunk sure number count old new (Some refusal) is on = absurd (true≢false is)

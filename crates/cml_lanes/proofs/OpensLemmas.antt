@@ -1,5 +1,6 @@
 -- What a floor keeps of its lanes when one is opened.
-use Rattle.std.proofs.Common.{◌≡◌, ℕ, ◌<◌, ◌≤◌, inl, inr, List, [], ◌∷◌, ◌++◌, length, slice_get, Option, Some, subst, refl, sym, ap, ◌∙◌, arith}
+use Rattle.std.proofs.Common.{◌≡◌, ℕ, ◌<◌, ◌≤◌, inl, inr, List, [], ◌∷◌, ◌++◌, length, slice_get, Option, Some, subst}
+use Rattle.std.proofs.Common.{refl, sym, ap, ◌∙◌, arith}
 use Rattle.std.proofs.lemmas.Option.{same_Some}
 use Rattle.std.proofs.lemmas.List.{length_push}
 use Rattle.cml_board.specs.Prelude.{Entry, kind_of, Shown}
@@ -21,13 +22,15 @@ module _ {M : Type 0} where
       none : (number : ℕ) → length (lanes ++ Some side ∷ []) ≤ number → laned history number ≡ []
       none number past = keeps.no_lane number (omega (arith, past, length_push lanes (Some side)))
 
-  pub opened_keeps : {feeds : List (Option (FeedSide M))} (history : List (Entry M)) (lanes items : List (Option (LaneSide M))) (side : LaneSide M) → items ≡ lanes ++ Some side ∷ []
+  pub opened_keeps : {feeds : List (Option (FeedSide M))} (history : List (Entry M)) (lanes items : List (Option (LaneSide M)))
+      (side : LaneSide M) → items ≡ lanes ++ Some side ∷ []
       → KeepsLanes history lanes × KeepsFeeds history feeds → side.received ≡ [] → kind_of history side.target.0 ≡ Some (way_kind side.way)
       → KeepsLanes history items × KeepsFeeds history feeds
   opened_keeps history lanes items side pushed keeps received kind =
       (subst (λ ls. KeepsLanes history ls) (sym pushed) (keeps_pushed history lanes side keeps.0 received kind), keeps.1)
 
-  pub opened_rings : {feeds : List (Option (FeedSide M))} (board : Shown M) (lanes items : List (Option (LaneSide M))) (side : LaneSide M) (old : FloorShown M)
+  pub opened_rings : {feeds : List (Option (FeedSide M))} (board : Shown M) (lanes items : List (Option (LaneSide M)))
+      (side : LaneSide M) (old : FloorShown M)
       → record { board = board; lanes = lanes; feeds = feeds } ≡ old → items ≡ lanes ++ Some side ∷ []
       → (number : ℕ) → number < length old.lanes → SameRing number old (record { board = board; lanes = items; feeds = feeds })
   opened_rings board lanes items side old view pushed number within s found =

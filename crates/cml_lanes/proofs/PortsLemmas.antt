@@ -1,5 +1,6 @@
 -- The ports of open feeds, and the feeds that they are of.
-use Rattle.std.proofs.Common.{◌≡◌, ℕ, zero, suc, ◌+◌, Bool, true, false, cond, ◌||◌, eqb, List, [], ◌∷◌, ◌++◌, length, slice_get, slice_set, Option, Some, None, refl, sym, ap, ◌∙◌, arith}
+use Rattle.std.proofs.Common.{◌≡◌, ℕ, zero, suc, ◌+◌, Bool, true, false, cond, ◌||◌, eqb, List, [], ◌∷◌, ◌++◌, length, slice_get}
+use Rattle.std.proofs.Common.{slice_set, Option, Some, None, refl, sym, ap, ◌∙◌, arith}
 use Rattle.std.specs.Prelude.{nat_eq}
 use Rattle.std.specs.List.{list_any}
 use Rattle.std.proofs.lemmas.Option.{same_Some}
@@ -22,7 +23,8 @@ none_left (port ∷ ports) none object = absurd (omega (arith, none))
 
 module _ {M : Type 0} where
   -- where no feed is open no call is barred
-  pub none_barred : (ports : List ℕ) (feeds : List (Option (FeedSide M))) (call : Call M) → HasPorts ports feeds → length ports ≡ 0 → false ≡ is_barred feeds call
+  pub none_barred : (ports : List ℕ) (feeds : List (Option (FeedSide M))) (call : Call M) → HasPorts ports feeds
+      → length ports ≡ 0 → false ≡ is_barred feeds call
   none_barred ports feeds call has none = by_call call
     where
       free : (object : ℕ) → false ≡ is_feeds_port feeds object
@@ -45,16 +47,20 @@ module _ {M : Type 0} where
   }
 
   -- one is ended
-  without_one : (feeds : List (Option (FeedSide M))) (number : ℕ) (from : FeedSide M) (q : ℕ) → slice_get feeds number ≡ Some (Some from) → eqb from.port.0 q ≡ false
+  without_one : (feeds : List (Option (FeedSide M))) (number : ℕ) (from : FeedSide M) (q : ℕ)
+      → slice_get feeds number ≡ Some (Some from) → eqb from.port.0 q ≡ false
       → is_feeds_port (slice_set feeds number None) q ≡ is_feeds_port feeds q
   without_one [] number from q opened apart = refl
   without_one (slot ∷ feeds) zero from q opened apart =
       sym (ap (λ s. has_port q s || is_feeds_port feeds q) (same_Some _ _ opened) ∙ ap (λ b. b || is_feeds_port feeds q) apart)
-  without_one (slot ∷ feeds) (suc number) from q opened apart = ap (λ b. has_port q slot || b) (without_one feeds number from q opened apart)
+  without_one (slot ∷ feeds) (suc number) from q opened apart =
+      ap (λ b. has_port q slot || b) (without_one feeds number from q opened apart)
 
-  pub ports_less : (ports news : List ℕ) (feeds : List (Option (FeedSide M))) (number : ℕ) (from : FeedSide M) → slice_get feeds number ≡ Some (Some from)
+  pub ports_less : (ports news : List ℕ) (feeds : List (Option (FeedSide M))) (number : ℕ) (from : FeedSide M)
+      → slice_get feeds number ≡ Some (Some from)
       → is_feeds_port (slice_set feeds number None) from.port.0 ≡ false → HasPorts ports feeds
-      → ((q : ℕ) → list_any (nat_eq q) news ≡ cond (nat_eq from.port.0 q) false (list_any (nat_eq q) ports)) → length news + 1 ≡ length ports
+      → ((q : ℕ) → list_any (nat_eq q) news ≡ cond (nat_eq from.port.0 q) false (list_any (nat_eq q) ports))
+      → length news + 1 ≡ length ports
       → HasPorts news (slice_set feeds number None)
   ports_less ports news feeds number from opened own has step shorter = record {
     each = λ q. by_test q (eqb from.port.0 q) refl;
@@ -66,17 +72,21 @@ module _ {M : Type 0} where
           step q ∙ ap (λ b. cond b false (list_any (nat_eq q) ports)) same
           ∙ sym (ap (is_feeds_port (slice_set feeds number None)) (sym (eqb-true from.port.0 q same)) ∙ own)
       by_test q false apart =
-          step q ∙ ap (λ b. cond b false (list_any (nat_eq q) ports)) apart ∙ has.each q ∙ sym (without_one feeds number from q opened apart)
+          step q ∙ ap (λ b. cond b false (list_any (nat_eq q) ports)) apart ∙ has.each q
+          ∙ sym (without_one feeds number from q opened apart)
 
   -- one is pumped
-  same_port : (feeds : List (Option (FeedSide M))) (number : ℕ) (from to : FeedSide M) (q : ℕ) → slice_get feeds number ≡ Some (Some from) → to.port ≡ from.port
+  same_port : (feeds : List (Option (FeedSide M))) (number : ℕ) (from to : FeedSide M) (q : ℕ)
+      → slice_get feeds number ≡ Some (Some from) → to.port ≡ from.port
       → is_feeds_port (slice_set feeds number (Some to)) q ≡ is_feeds_port feeds q
   same_port [] number from to q opened same = refl
   same_port (slot ∷ feeds) zero from to q opened same =
       ap (λ port. eqb port.0 q || is_feeds_port feeds q) same ∙ sym (ap (λ s. has_port q s || is_feeds_port feeds q) (same_Some _ _ opened))
-  same_port (slot ∷ feeds) (suc number) from to q opened same = ap (λ b. has_port q slot || b) (same_port feeds number from to q opened same)
+  same_port (slot ∷ feeds) (suc number) from to q opened same =
+      ap (λ b. has_port q slot || b) (same_port feeds number from to q opened same)
 
-  pub same_ports : (ports : List ℕ) (feeds : List (Option (FeedSide M))) (number : ℕ) (from to : FeedSide M) → slice_get feeds number ≡ Some (Some from) → to.port ≡ from.port
+  pub same_ports : (ports : List ℕ) (feeds : List (Option (FeedSide M))) (number : ℕ) (from to : FeedSide M)
+      → slice_get feeds number ≡ Some (Some from) → to.port ≡ from.port
       → HasPorts ports feeds → HasPorts ports (slice_set feeds number (Some to))
   same_ports ports feeds number from to opened same has = record {
     each = λ q. has.each q ∙ sym (same_port feeds number from to q opened same);

@@ -72,6 +72,7 @@ module _ {M : Type 0} where
   -- either way nothing else was done
   pub until_pumps : (chunk : ℕ) (sure : Bool) (number count : ℕ) (stopped : Option Refusal) (old new : Shown M) (from to : FeedSide M)
       → PumpsUntil chunk sure number count stopped old new from to → PumpsRing number count old new from to
-  until_pumps chunk sure number count None old new from to until = record { looked = until.looked; looks = until.looks; pumps = until.pumps }
+  until_pumps chunk sure number count None old new from to until =
+      record { looked = until.looked; looks = until.looks; pumps = until.pumps }
   until_pumps chunk sure number count (Some refusal) old new from to until =
       record { looked = until.looked; looks = until.looks; pumps = balked_pumps until.balks }

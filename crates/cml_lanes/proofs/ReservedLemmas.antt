@@ -1,5 +1,6 @@
 -- What was reserved lasts over a run of a floor's calls.
-use Rattle.std.proofs.Common.{◌≡◌, ℕ, ◌+◌, ◌<◌, ◌≤◌, Bool, true, false, List, [], ◌∷◌, length, slice_get, Some, refl, subst, ap, ◌∙◌, arith, not, Result, Ok, Err}
+use Rattle.std.proofs.Common.{◌≡◌, ℕ, ◌+◌, ◌<◌, ◌≤◌, Bool, true, false, List, [], ◌∷◌, length, slice_get, Some, refl}
+use Rattle.std.proofs.Common.{subst, ap, ◌∙◌, arith, not, Result, Ok, Err}
 use Rattle.std.specs.Prelude.{⊤}
 use Rattle.std.proofs.lemmas.Bool.{and_parts, false≢true}
 use Rattle.cml_board.specs.Prelude.{Call, Name, Entry, Who, Outcome, Refusal, entries_in, Shown, IsSpared, IsAsBefore, Applies}
@@ -13,7 +14,8 @@ use Rattle.cml_lanes.specs.Prelude.{FeedTakesEntryAlone, CutsAFloor, FloorCall, 
 use Rattle.cml_lanes.specs.Prelude.{DropLane, AbandonLane, OpenFeed, Pump, EndFeed, Cut, TakeJournal, AppliesSeat, IsCalled, AreCalled}
 use Rattle.cml_lanes.specs.Prelude.{takes_journal, keeps_journal, Deed, as_it_was, lane_drained, lane_gone, lane_opened, feed_pumped}
 use Rattle.cml_lanes.specs.Prelude.{feed_gone, feed_opened}
-use Rattle.cml_lanes.proofs.DeedsLemmas.{still, reserves, opens_lane, drains, drops, abandons, closes, closes_counted, opens_feed, pumps, ends}
+use Rattle.cml_lanes.proofs.DeedsLemmas.{still, reserves, opens_lane, drains, drops, abandons, closes, closes_counted}
+use Rattle.cml_lanes.proofs.DeedsLemmas.{opens_feed, pumps, ends}
 
 module _ {M : Type 0} where
   pub lane_entries : (number : ℕ) (way : Way) (target : Name) (messages : List M) (history : List (Entry M))
@@ -76,7 +78,8 @@ module _ {M : Type 0} where
   }
 
   -- by a seat's call
-  lasts_applied : (chunk : ℕ) (sure : Bool) (old new : Shown M) (who : Who) (call : Call M) (outcome : Outcome M) → Applies chunk sure old new who call outcome → Lasts old new
+  lasts_applied : (chunk : ℕ) (sure : Bool) (old new : Shown M) (who : Who) (call : Call M) (outcome : Outcome M)
+      → Applies chunk sure old new who call outcome → Lasts old new
   lasts_applied chunk sure old new who call (Refused refusal back) applies = lasts_before old new applies.2
   lasts_applied chunk sure old new who call (WouldWait back) applies = lasts_before old new applies.4
   lasts_applied chunk sure old new who call (Answered answer) applies = record {
@@ -84,13 +87,17 @@ module _ {M : Type 0} where
     kept = omega (arith, ap entries_in applies.5.history, applies.5.reserved);
   }
 
-  lasts_asked : (chunk : ℕ) (sure : Bool) (old new : FloorShown M) (seat : ℕ) (call : Call M) (outcome : Outcome M) (barred : Bool) → is_barred old.feeds call ≡ barred
+  lasts_asked : (chunk : ℕ) (sure : Bool) (old new : FloorShown M) (seat : ℕ) (call : Call M) (outcome : Outcome M) (barred : Bool)
+      → is_barred old.feeds call ≡ barred
       → AppliesSeat chunk sure seat call old new outcome → Lasts old.board new.board
-  lasts_asked chunk sure old new seat call outcome true is applies = lasts_same old.board new.board (ap (λ (f : FloorShown M). f.board) (applies.barred is).1)
-  lasts_asked chunk sure old new seat call outcome false is applies = lasts_applied chunk sure old.board new.board _ call outcome (applies.applied is)
+  lasts_asked chunk sure old new seat call outcome true is applies =
+      lasts_same old.board new.board (ap (λ (f : FloorShown M). f.board) (applies.barred is).1)
+  lasts_asked chunk sure old new seat call outcome false is applies =
+      lasts_applied chunk sure old.board new.board _ call outcome (applies.applied is)
 
   -- by a cut that keeps the journal's memory
-  lasts_cut : (old new : FloorShown M) (result : Result ⊤ Refusal) → CutsAFloor old new result → old.board.reserved ≤ new.board.reserved → Lasts old.board new.board
+  lasts_cut : (old new : FloorShown M) (result : Result ⊤ Refusal) → CutsAFloor old new result
+      → old.board.reserved ≤ new.board.reserved → Lasts old.board new.board
   lasts_cut old new (Ok done) told kept = record {
     grown = omega (arith, ap entries_in told.board.history);
     kept = omega (arith, ap entries_in told.board.history, kept);
@@ -98,36 +105,45 @@ module _ {M : Type 0} where
   lasts_cut old new (Err refusal) told kept = lasts_done old new (still old new told.2)
 
   -- by one call
-  lasts_once : (chunk : ℕ) (sure : Bool) (call : FloorCall M) (old new : FloorShown M) → not (takes_journal call) ≡ true → IsCalled chunk sure call old new → Lasts old.board new.board
-  lasts_once chunk sure (Apply seat call outcome) old new keeps told = lasts_asked chunk sure old new seat call outcome (is_barred old.feeds call) refl told
+  lasts_once : (chunk : ℕ) (sure : Bool) (call : FloorCall M) (old new : FloorShown M) → not (takes_journal call) ≡ true
+      → IsCalled chunk sure call old new → Lasts old.board new.board
+  lasts_once chunk sure (Apply seat call outcome) old new keeps told =
+      lasts_asked chunk sure old new seat call outcome (is_barred old.feeds call) refl told
   lasts_once chunk sure (Reserve n result) old new keeps told = lasts_done old new (reserves old new n result told)
-  lasts_once chunk sure (OpenLane target capacity result) old new keeps told = lasts_done old new (opens_lane old new target capacity result told)
+  lasts_once chunk sure (OpenLane target capacity result) old new keeps told =
+      lasts_done old new (opens_lane old new target capacity result told)
   lasts_once chunk sure (Drain lane result) old new keeps told = lasts_done old new (drains chunk sure lane old new result told)
   lasts_once chunk sure (CloseLane end result) old new keeps told = lasts_done old new (closes chunk sure old new end result told)
-  lasts_once chunk sure (CloseCounted end result) old new keeps told = lasts_done old new (closes_counted chunk sure old new end result told)
+  lasts_once chunk sure (CloseCounted end result) old new keeps told =
+      lasts_done old new (closes_counted chunk sure old new end result told)
   lasts_once chunk sure (DropLane lane result) old new keeps told = lasts_done old new (drops chunk sure lane old new result told)
   lasts_once chunk sure (AbandonLane lane result) old new keeps told = lasts_done old new (abandons lane old new result told)
-  lasts_once chunk sure (OpenFeed channel capacity result) old new keeps told = lasts_done old new (opens_feed chunk sure old new channel capacity result told)
+  lasts_once chunk sure (OpenFeed channel capacity result) old new keeps told =
+      lasts_done old new (opens_feed chunk sure old new channel capacity result told)
   lasts_once chunk sure (Pump feed result) old new keeps told = lasts_done old new (pumps chunk sure feed old new result told)
   lasts_once chunk sure (EndFeed feed result) old new keeps told = lasts_done old new (ends feed old new result told)
   lasts_once chunk sure (Cut result) old new keeps told = lasts_cut old new result told.0 told.1
   lasts_once chunk sure (TakeJournal result) old new keeps told = absurd (false≢true keeps)
 
   -- over a run
-  pub lasts_all : (chunk : ℕ) (sure : Bool) (calls : List (FloorCall M)) (old new : FloorShown M) → AreCalled chunk sure calls old new → keeps_journal calls ≡ true → Lasts old.board new.board
+  pub lasts_all : (chunk : ℕ) (sure : Bool) (calls : List (FloorCall M)) (old new : FloorShown M) → AreCalled chunk sure calls old new
+      → keeps_journal calls ≡ true → Lasts old.board new.board
   lasts_all chunk sure [] old new same keeps = lasts_same old.board new.board (ap (λ (f : FloorShown M). f.board) same)
   lasts_all chunk sure (call ∷ later) old new run keeps =
       let both = and_parts (not (takes_journal call)) (keeps_journal later) keeps in
-      lasts_on old.board run.0.board new.board (lasts_once chunk sure call old run.0 both.0 run.1) (lasts_all chunk sure later run.0 new run.2 both.1)
+      lasts_on old.board run.0.board new.board (lasts_once chunk sure call old run.0 both.0 run.1)
+      (lasts_all chunk sure later run.0 new run.2 both.1)
 
-  pub reserved_lasts : (chunk : ℕ) (sure : Bool) (calls : List (FloorCall M)) (old new : FloorShown M) → AreCalled chunk sure calls old new → keeps_journal calls ≡ true
+  pub reserved_lasts : (chunk : ℕ) (sure : Bool) (calls : List (FloorCall M)) (old new : FloorShown M)
+      → AreCalled chunk sure calls old new → keeps_journal calls ≡ true
       → old.board.reserved ≤ new.board.reserved + added_since old.board new.board
   reserved_lasts chunk sure calls old new run keeps =
       let all = lasts_all chunk sure calls old new run keeps in
       omega (arith, all.grown, all.kept)
 
   -- a call that takes its entry alone is spared while fewer entries were added than reserved
-  pub spared : (chunk : ℕ) (sure : Bool) (old at new : Shown M) (call : Call M) → Lasts old at → new.history ≡ at.history → added_since old new < old.reserved
+  pub spared : (chunk : ℕ) (sure : Bool) (old at new : Shown M) (call : Call M) → Lasts old at → new.history ≡ at.history
+      → added_since old new < old.reserved
       → TakesEntryAlone chunk sure new.history call → IsSpared chunk sure at call
   spared chunk sure old at new call lasts same fewer takes =
       let here : TakesEntryAlone chunk sure at.history call = subst (λ h. TakesEntryAlone chunk sure h call) same takes in
@@ -138,7 +154,8 @@ module _ {M : Type 0} where
         shares_none = here.shares_none;
       }
 
-  seat_served : (chunk : ℕ) (sure : Bool) (old : Shown M) (new after : FloorShown M) (seat : ℕ) (call back : Call M) (barred : Bool) → is_barred new.feeds call ≡ barred
+  seat_served : (chunk : ℕ) (sure : Bool) (old : Shown M) (new after : FloorShown M) (seat : ℕ) (call back : Call M) (barred : Bool)
+      → is_barred new.feeds call ≡ barred
       → Lasts old new.board → added_since old new.board < old.reserved → TakesEntryAlone chunk sure new.board.history call
       → ¬ (AppliesSeat chunk sure seat call new after (Refused NoMemory back))
   seat_served chunk sure old new after seat call back true is lasts fewer takes = λ applies.
@@ -147,35 +164,49 @@ module _ {M : Type 0} where
   seat_served chunk sure old new after seat call back false is lasts fewer takes = λ applies.
       (applies.applied is).0.3 (spared chunk sure old new.board new.board call lasts refl fewer takes)
 
-  pub seats_served : (chunk : ℕ) (sure : Bool) (calls : List (FloorCall M)) (old new after : FloorShown M) (seat : ℕ) (call back : Call M) → AreCalled chunk sure calls old new → keeps_journal calls ≡ true
+  pub seats_served : (chunk : ℕ) (sure : Bool) (calls : List (FloorCall M)) (old new after : FloorShown M) (seat : ℕ) (call back : Call M)
+      → AreCalled chunk sure calls old new → keeps_journal calls ≡ true
       → added_since old.board new.board < old.board.reserved → TakesEntryAlone chunk sure new.board.history call
       → ¬ (AppliesSeat chunk sure seat call new after (Refused NoMemory back))
   seats_served chunk sure calls old new after seat call back run keeps =
-      seat_served chunk sure old.board new after seat call back (is_barred new.feeds call) refl (lasts_all chunk sure calls old new run keeps)
+      seat_served chunk sure old.board new after seat call back (is_barred new.feeds call) refl
+      (lasts_all chunk sure calls old new run keeps)
 
   -- nor does want of memory stop a lane or a feed
   pub lane_served : (chunk : ℕ) (sure : Bool) (old : Shown M) (new after : FloorShown M) (lane count : ℕ) → Lasts old new.board
-      → added_since old after.board < old.reserved → LaneTakesEntryAlone chunk sure after lane → ¬ (HoldsUp chunk sure lane count new after NoMemory)
+      → added_since old after.board < old.reserved → LaneTakesEntryAlone chunk sure after lane
+      → ¬ (HoldsUp chunk sure lane count new after NoMemory)
   lane_served chunk sure old new after lane count lasts fewer takes = λ held.
       let to = held.place.to in
       let stops = held.place.does.stops in
-      let stays : slice_get after.lanes lane ≡ Some (Some to) = ap (λ slots. slice_get slots lane) held.place.places ∙ slice_get-set_same new.lanes lane (Some held.place.from) (Some to) held.place.opened in
+      let stays : slice_get after.lanes lane ≡ Some (Some to) = ap (λ slots. slice_get slots lane) held.place.places
+      ∙ slice_get-set_same new.lanes lane (Some held.place.from) (Some to) held.place.opened in
       let now = lasts_on old new.board stops.at lasts (lasts_moved lane count new.board stops.at held.place.does.looked to stops.moves) in
-      stops.refused.3 (spared chunk sure old stops.at after.board (way_call to.way to.target stops.message) now stops.after.history fewer (takes to stops.message stays stops.next))
+      stops.refused.3 (spared chunk sure old stops.at after.board (way_call to.way to.target stops.message) now stops.after.history fewer
+      (takes to stops.message stays stops.next))
 
-  pub lanes_served : (chunk : ℕ) (sure : Bool) (calls : List (FloorCall M)) (old new after : FloorShown M) (lane count : ℕ) → AreCalled chunk sure calls old new → keeps_journal calls ≡ true
-      → added_since old.board after.board < old.board.reserved → LaneTakesEntryAlone chunk sure after lane → ¬ (HoldsUp chunk sure lane count new after NoMemory)
-  lanes_served chunk sure calls old new after lane count run keeps = lane_served chunk sure old.board new after lane count (lasts_all chunk sure calls old new run keeps)
+  pub lanes_served : (chunk : ℕ) (sure : Bool) (calls : List (FloorCall M)) (old new after : FloorShown M) (lane count : ℕ)
+      → AreCalled chunk sure calls old new → keeps_journal calls ≡ true
+      → added_since old.board after.board < old.board.reserved → LaneTakesEntryAlone chunk sure after lane
+      → ¬ (HoldsUp chunk sure lane count new after NoMemory)
+  lanes_served chunk sure calls old new after lane count run keeps =
+      lane_served chunk sure old.board new after lane count (lasts_all chunk sure calls old new run keeps)
 
   pub feed_served : (chunk : ℕ) (sure : Bool) (old : Shown M) (new after : FloorShown M) (feed count : ℕ) → Lasts old new.board
-      → added_since old after.board < old.reserved → FeedTakesEntryAlone chunk sure after feed → ¬ (Starves chunk sure feed count new after NoMemory)
+      → added_since old after.board < old.reserved → FeedTakesEntryAlone chunk sure after feed
+      → ¬ (Starves chunk sure feed count new after NoMemory)
   feed_served chunk sure old new after feed count lasts fewer takes = λ starved.
       let to = starved.place.to in
       let balks = starved.place.does.balks in
-      let stays : slice_get after.feeds feed ≡ Some (Some to) = ap (λ slots. slice_get slots feed) starved.place.places ∙ slice_get-set_same new.feeds feed (Some starved.place.from) (Some to) starved.place.opened in
-      let now = lasts_on old new.board balks.at lasts (lasts_pumped feed count new.board balks.at starved.place.does.looked to balks.pumps) in
+      let stays : slice_get after.feeds feed ≡ Some (Some to) = ap (λ slots. slice_get slots feed) starved.place.places
+      ∙ slice_get-set_same new.feeds feed (Some starved.place.from) (Some to) starved.place.opened in
+      let now =
+      lasts_on old new.board balks.at lasts (lasts_pumped feed count new.board balks.at starved.place.does.looked to balks.pumps) in
       balks.refused.3 (spared chunk sure old balks.at after.board (Recv to.port) now balks.after.history fewer (takes to stays))
 
-  pub feeds_served : (chunk : ℕ) (sure : Bool) (calls : List (FloorCall M)) (old new after : FloorShown M) (feed count : ℕ) → AreCalled chunk sure calls old new → keeps_journal calls ≡ true
-      → added_since old.board after.board < old.board.reserved → FeedTakesEntryAlone chunk sure after feed → ¬ (Starves chunk sure feed count new after NoMemory)
-  feeds_served chunk sure calls old new after feed count run keeps = feed_served chunk sure old.board new after feed count (lasts_all chunk sure calls old new run keeps)
+  pub feeds_served : (chunk : ℕ) (sure : Bool) (calls : List (FloorCall M)) (old new after : FloorShown M) (feed count : ℕ)
+      → AreCalled chunk sure calls old new → keeps_journal calls ≡ true
+      → added_since old.board after.board < old.board.reserved → FeedTakesEntryAlone chunk sure after feed
+      → ¬ (Starves chunk sure feed count new after NoMemory)
+  feeds_served chunk sure calls old new after feed count run keeps =
+      feed_served chunk sure old.board new after feed count (lasts_all chunk sure calls old new run keeps)

@@ -1,5 +1,6 @@
 -- What a floor keeps whose lanes and feeds are those of its board's history, and are no longer open.
-use Rattle.std.proofs.Common.{◌≡◌, ℕ, zero, suc, ◌-◌, ◌^◌, ◌<◌, ◌≤◌, false, cond, List, [], ◌∷◌, slice_get, replicate, Option, Some, None, is_some, count_by, refl, sym, subst, ◌∙◌, arith}
+use Rattle.std.proofs.Common.{◌≡◌, ℕ, zero, suc, ◌-◌, ◌^◌, ◌<◌, ◌≤◌, false, cond, List, [], ◌∷◌, slice_get, replicate, Option}
+use Rattle.std.proofs.Common.{Some, None, is_some, count_by, refl, sym, subst, ◌∙◌, arith}
 use Rattle.std.proofs.lemmas.Option.{same_Some, none-some}
 use Rattle.std.proofs.lemmas.Bool.{ne_eqb}
 use Rattle.std.proofs.lemmas.List.{length-replicate}
@@ -54,32 +55,40 @@ module _ {M : Type 0} where
       fed_other entry before number (another_feed entry.who number (omega (arith, past)))
       ∙ none_fed_behind before number (omega (arith, past))
 
-  pub keeps_closed_lanes : (history : List (Entry M)) (lanes : List (Option (LaneSide M))) (count : ℕ) → lanes ≡ replicate count None → count ≡ lanes_of history
+  pub keeps_closed_lanes : (history : List (Entry M)) (lanes : List (Option (LaneSide M))) (count : ℕ)
+      → lanes ≡ replicate count None → count ≡ lanes_of history
       → KeepsLanes history lanes
   keeps_closed_lanes history lanes count closed all =
       subst (λ ls. KeepsLanes history ls) (sym closed) (record {
         lane = λ number side found. absurd (none_there count number side found);
-        no_lane = λ number past. none_laned history number (omega (arith, past, all, length-replicate {A = Option (LaneSide M)} count None));
+        no_lane =
+            λ number past. none_laned history number (omega (arith, past, all, length-replicate {A = Option (LaneSide M)} count None));
       })
 
-  pub keeps_closed_feeds : (history : List (Entry M)) (feeds : List (Option (FeedSide M))) (count : ℕ) → feeds ≡ replicate count None → count ≡ feeds_of history
+  pub keeps_closed_feeds : (history : List (Entry M)) (feeds : List (Option (FeedSide M))) (count : ℕ)
+      → feeds ≡ replicate count None → count ≡ feeds_of history
       → KeepsFeeds history feeds
   keeps_closed_feeds history feeds count closed all =
       subst (λ fs. KeepsFeeds history fs) (sym closed) (record {
         feed = λ number side found. absurd (none_there count number side found);
-        no_feed = λ number past. none_fed_behind history number (omega (arith, past, all, length-replicate {A = Option (FeedSide M)} count None));
+        no_feed =
+            λ number past. none_fed_behind history number (omega (arith, past, all, length-replicate {A = Option (FeedSide M)} count None));
         apart = λ one two a b first second ports. absurd (none_there count one a first);
       })
 
-  pub closed_ports : (ports : List ℕ) (feeds : List (Option (FeedSide M))) (count : ℕ) → ports ≡ [] → feeds ≡ replicate count None → HasPorts ports feeds
-  closed_ports ports feeds count none closed = subst (λ (ps : List ℕ). HasPorts ps feeds) (sym none) (subst (λ fs. HasPorts [] fs) (sym closed) (record {
-    each = λ object. sym (no_ports M count object);
-    count = sym (none_open (FeedSide M) count);
-  }))
+  pub closed_ports : (ports : List ℕ) (feeds : List (Option (FeedSide M))) (count : ℕ) → ports ≡ []
+      → feeds ≡ replicate count None → HasPorts ports feeds
+  closed_ports ports feeds count none closed =
+      subst (λ (ps : List ℕ). HasPorts ps feeds) (sym none) (subst (λ fs. HasPorts [] fs) (sym closed) (record {
+        each = λ object. sym (no_ports M count object);
+        count = sym (none_open (FeedSide M) count);
+      }))
 
   -- all of this, of a board and its makers
-  pub restored_keeps : (board was : Shown M) (makers : Makers) (lanes : List (Option (LaneSide M))) (feeds : List (Option (FeedSide M))) → board ≡ was
-      → AreMakers was.history makers → lanes ≡ replicate makers.lanes None → makers.lanes < 2 ^ 64 - 1 → feeds ≡ replicate makers.feeds None → makers.feeds < 2 ^ 64 - 1
+  pub restored_keeps : (board was : Shown M) (makers : Makers) (lanes : List (Option (LaneSide M)))
+      (feeds : List (Option (FeedSide M))) → board ≡ was
+      → AreMakers was.history makers → lanes ≡ replicate makers.lanes None → makers.lanes < 2 ^ 64 - 1
+      → feeds ≡ replicate makers.feeds None → makers.feeds < 2 ^ 64 - 1
       → KeepsLanes board.history lanes × KeepsFeeds board.history feeds
   restored_keeps board was makers lanes feeds same are no_lanes few_lanes no_feeds few_feeds =
       subst (λ (b : Shown M). KeepsLanes b.history lanes × KeepsFeeds b.history feeds) (sym same) (

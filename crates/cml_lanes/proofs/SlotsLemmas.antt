@@ -1,5 +1,6 @@
 -- Places in a list of slots.
-use Rattle.std.proofs.Common.{◌≡◌, ◌≢◌, ℕ, zero, suc, ◌+◌, ◌<◌, ◌⊎◌, inl, inr, Bool, true, false, cond, eqb, List, [], ◌∷◌, ◌++◌, length, get_or, slice_get, slice_set, Option, Some, None, is_some, count_by, refl, sym, ap, ◌∙◌, arith}
+use Rattle.std.proofs.Common.{◌≡◌, ◌≢◌, ℕ, zero, suc, ◌+◌, ◌<◌, ◌⊎◌, inl, inr, Bool, true, false, cond, eqb, List, [], ◌∷◌, ◌++◌, length}
+use Rattle.std.proofs.Common.{get_or, slice_get, slice_set, Option, Some, None, is_some, count_by, refl, sym, ap, ◌∙◌, arith}
 use Rattle.std.proofs.lemmas.Option.{same_Some, none-some}
 use Rattle.std.proofs.lemmas.List.Recursion.{is_count_by}
 use Rattle.std.proofs.lemmas.Bool.{eqb-true, eq-eqb, false≢true}
@@ -16,23 +17,27 @@ this_or_other k n = by_cases (eqb k n) refl
 
 -- what was in each slot that is taken now, where none was written
 pub same_places : {Side P : Type 0} (told : Side → P) (olds news : List (Option Side)) → news ≡ olds
-    → (k : ℕ) (side : Side) → slice_get news k ≡ Some (Some side) → (was : Side) × (slice_get olds k ≡ Some (Some was)) × (told side ≡ told was)
+    → (k : ℕ) (side : Side) → slice_get news k ≡ Some (Some side)
+    → (was : Side) × (slice_get olds k ≡ Some (Some was)) × (told side ≡ told was)
 same_places told olds news same = λ k side found. (side, ap (λ slots. slice_get slots k) (sym same) ∙ found, refl)
 
 -- and where one was
 pub set_places : {Side P : Type 0} (told : Side → P) (number : ℕ) (olds news : List (Option Side)) (from : Side) (to : Option Side)
     → slice_get olds number ≡ Some (Some from) → news ≡ slice_set olds number to → ((side : Side) → to ≡ Some side → told side ≡ told from)
-    → (k : ℕ) (side : Side) → slice_get news k ≡ Some (Some side) → (was : Side) × (slice_get olds k ≡ Some (Some was)) × (told side ≡ told was)
+    → (k : ℕ) (side : Side) → slice_get news k ≡ Some (Some side)
+    → (was : Side) × (slice_get olds k ≡ Some (Some was)) × (told side ≡ told was)
 set_places told number olds news from to opened written same = λ k side found. elim (this_or_other k number) [
   | inl here ↦
-      let is : slice_get news k ≡ Some to = ap (λ slots. slice_get slots k) written ∙ ap (slice_get (slice_set olds number to)) here ∙ slice_get-set_same olds number (Some from) to opened in
+      let is : slice_get news k ≡ Some to = ap (λ slots. slice_get slots k) written ∙ ap (slice_get (slice_set olds number to)) here
+      ∙ slice_get-set_same olds number (Some from) to opened in
       (from, ap (slice_get olds) here ∙ opened, same side (same_Some _ _ (sym is ∙ found)))
   | inr apart ↦ (side, sym (ap (λ slots. slice_get slots k) written ∙ slice_get-set_other olds number k to apart) ∙ found, refl)
 ]
 
 module _ {X : Type 0} where
   -- the slot that an index gave
-  pub slot_at : (slots : List (Option X)) (i : ℕ) (slot : Option X) → is_taken (slice_get slots i) ≡ true → slot ≡ get_or slots i slot → slice_get slots i ≡ Some slot
+  pub slot_at : (slots : List (Option X)) (i : ℕ) (slot : Option X) → is_taken (slice_get slots i) ≡ true
+      → slot ≡ get_or slots i slot → slice_get slots i ≡ Some slot
   slot_at [] i slot taken is = absurd (false≢true taken)
   slot_at (s ∷ slots) zero slot taken is = ap Some (sym is)
   slot_at (s ∷ slots) (suc i) slot taken is = slot_at slots i slot taken is
@@ -77,11 +82,13 @@ module _ {X : Type 0} where
   unfolding taken_in
   counted slots = is_count_by taken_in is_some refl by_first slots
     where
-      by_first : (slot : Option X) (rest : List (Option X)) → taken_in (slot ∷ rest) ≡ cond (is_some slot) (1 + taken_in rest) (taken_in rest)
+      by_first : (slot : Option X) (rest : List (Option X))
+          → taken_in (slot ∷ rest) ≡ cond (is_some slot) (1 + taken_in rest) (taken_in rest)
       by_first None rest = refl
       by_first (Some x) rest = omega arith
 
-  as_many : (slots : List (Option X)) (i : ℕ) (a b : X) → slice_get slots i ≡ Some (Some a) → taken_in (slice_set slots i (Some b)) ≡ taken_in slots
+  as_many : (slots : List (Option X)) (i : ℕ) (a b : X) → slice_get slots i ≡ Some (Some a)
+      → taken_in (slice_set slots i (Some b)) ≡ taken_in slots
   unfolding taken_in
   as_many [] i a b found = refl
   as_many (None ∷ slots) zero a b found = absurd (none-some a (same_Some _ _ found))
@@ -89,7 +96,8 @@ module _ {X : Type 0} where
   as_many (None ∷ slots) (suc i) a b found = as_many slots i a b found
   as_many (Some x ∷ slots) (suc i) a b found = ap suc (as_many slots i a b found)
 
-  one_less : (slots : List (Option X)) (i : ℕ) (a : X) → slice_get slots i ≡ Some (Some a) → taken_in slots ≡ suc (taken_in (slice_set slots i None))
+  one_less : (slots : List (Option X)) (i : ℕ) (a : X) → slice_get slots i ≡ Some (Some a)
+      → taken_in slots ≡ suc (taken_in (slice_set slots i None))
   unfolding taken_in
   one_less [] i a found = absurd (none-some (Some a) found)
   one_less (None ∷ slots) zero a found = absurd (none-some a (same_Some _ _ found))
@@ -104,10 +112,12 @@ module _ {X : Type 0} where
   one_more (Some x ∷ slots) a = ap suc (one_more slots a)
 
   -- how many are taken, where one stays taken, is let go, or comes
-  pub as_many_taken : (slots : List (Option X)) (i : ℕ) (a b : X) → slice_get slots i ≡ Some (Some a) → count_by is_some (slice_set slots i (Some b)) ≡ count_by is_some slots
+  pub as_many_taken : (slots : List (Option X)) (i : ℕ) (a b : X) → slice_get slots i ≡ Some (Some a)
+      → count_by is_some (slice_set slots i (Some b)) ≡ count_by is_some slots
   as_many_taken slots i a b found = sym (counted (slice_set slots i (Some b))) ∙ as_many slots i a b found ∙ counted slots
 
-  pub one_taken_less : (slots : List (Option X)) (i : ℕ) (a : X) → slice_get slots i ≡ Some (Some a) → count_by is_some slots ≡ suc (count_by is_some (slice_set slots i None))
+  pub one_taken_less : (slots : List (Option X)) (i : ℕ) (a : X) → slice_get slots i ≡ Some (Some a)
+      → count_by is_some slots ≡ suc (count_by is_some (slice_set slots i None))
   one_taken_less slots i a found = sym (counted slots) ∙ one_less slots i a found ∙ ap suc (counted (slice_set slots i None))
 
   pub one_taken_more : (slots : List (Option X)) (a : X) → count_by is_some (slots ++ Some a ∷ []) ≡ suc (count_by is_some slots)

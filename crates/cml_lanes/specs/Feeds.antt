@@ -1,5 +1,6 @@
 -- What the calls on feeds do to a floor.
-use Rattle.std.specs.Prelude.{ℕ, ◌≡◌, ◌<◌, ◌⊎◌, Bool, [], ◌∷◌, ◌++◌, length, slice_get, slice_set, Option, Some, None, Result, Ok, Err, IfSome}
+use Rattle.std.specs.Prelude.{ℕ, ◌≡◌, ◌<◌, ◌⊎◌, Bool, [], ◌∷◌, ◌++◌, length, slice_get, slice_set, Option, Some, None}
+use Rattle.std.specs.Prelude.{Result, Ok, Err, IfSome}
 use Rattle.cml_board.specs.Prelude.{Name, Refusal, Fits, answer, Shown, HasRoom, AddsEntry, IsAsBefore, Refuses}
 use Rattle.cml_board.specs.declared.call.Call.TheVariants.{NewPort}
 use Rattle.cml_board.specs.declared.entry.Who.TheVariants.{Feed}
@@ -24,7 +25,8 @@ module _ {M : Type 0} where
     pub next : number ≡ length old.feeds
     pub end : feed ≡ record { ring = feed.ring; number = number; port = feed.port; taken = [] }
     pub port : MakesPort number old.board new.board channel feed.port
-    pub feeds : new.feeds ≡ old.feeds ++ Some (record { ring = feed.ring; port = feed.port; capacity = capacity; pushed = []; free = capacity }) ∷ []
+    pub feeds : new.feeds ≡ old.feeds
+        ++ Some (record { ring = feed.ring; port = feed.port; capacity = capacity; pushed = []; free = capacity }) ∷ []
     pub lanes : new.lanes ≡ old.lanes
 
   -- no feed is opened, for the reason for which the board would make no port; only memory may have been reserved

@@ -36,7 +36,8 @@ abbrev pub goes : {Side : Type 0} → Side → Option Side
 goes side = None
 
 -- this is done to the lane or the feed in one place, which then stays or goes; and nothing to another
-pub record OnPlace {Side : Type 0} (left : Side → Option Side) (number : ℕ) (old new : List (Option Side)) (Does : Side → Side → Type 0) : Type 0 where
+pub record OnPlace {Side : Type 0} (left : Side → Option Side) (number : ℕ) (old new : List (Option Side))
+    (Does : Side → Side → Type 0) : Type 0 where
   pub from : Side
   pub to : Side
   pub opened : slice_get old number ≡ Some (Some from)
@@ -97,14 +98,17 @@ module _ {M : Type 0} where
 
   -- what the journal has of an open lane, followed by what is seen in its ring, is all that was sent on it
   abbrev pub GivesAll : ℕ → FloorShown M → Ended M → Type 0
-  GivesAll number floor end = (side : LaneSide M) → slice_get floor.lanes number ≡ Some (Some side) → laned floor.board.history number ++ side.seen ≡ end.sent
+  GivesAll number floor end = (side : LaneSide M) → slice_get floor.lanes number ≡ Some (Some side)
+      → laned floor.board.history number ++ side.seen ≡ end.sent
 
   -- this is done to an open lane, which then stays or goes; and nothing to another, nor to a feed
-  pub record OnLane (left : LaneSide M → Option (LaneSide M)) (number : ℕ) (old new : FloorShown M) (Does : LaneSide M → LaneSide M → Type 0) : Type 0 where
+  pub record OnLane (left : LaneSide M → Option (LaneSide M)) (number : ℕ) (old new : FloorShown M)
+      (Does : LaneSide M → LaneSide M → Type 0) : Type 0 where
     pub place : OnPlace left number old.lanes new.lanes Does
     pub feeds : new.feeds ≡ old.feeds
 
   -- this is done to an open feed, which then stays or goes; and nothing to another, nor to a lane
-  pub record OnFeed (left : FeedSide M → Option (FeedSide M)) (number : ℕ) (old new : FloorShown M) (Does : FeedSide M → FeedSide M → Type 0) : Type 0 where
+  pub record OnFeed (left : FeedSide M → Option (FeedSide M)) (number : ℕ) (old new : FloorShown M)
+      (Does : FeedSide M → FeedSide M → Type 0) : Type 0 where
     pub place : OnPlace left number old.feeds new.feeds Does
     pub lanes : new.lanes ≡ old.lanes

@@ -1,5 +1,6 @@
 -- What the calls on lanes do to a floor.
-use Rattle.std.specs.Prelude.{ℕ, ◌≡◌, ◌≢◌, ◌<◌, ◌⊎◌, Bool, true, false, [], ◌∷◌, ◌++◌, length, slice_set, Option, Some, None, Result, Ok, Err, ⊤}
+use Rattle.std.specs.Prelude.{ℕ, ◌≡◌, ◌≢◌, ◌<◌, ◌⊎◌, Bool, true, false, [], ◌∷◌, ◌++◌, length, slice_set, Option}
+use Rattle.std.specs.Prelude.{Some, None, Result, Ok, Err, ⊤}
 use Rattle.cml_board.specs.Prelude.{Name, Refusal, kind_of}
 use Rattle.cml_calls.specs.Prelude.{Kind}
 use Rattle.cml_board.specs.declared.outcome.Refusal.TheVariants.{NoSuch, WrongKind, NoMemory, Unseen}
@@ -18,7 +19,8 @@ module _ {M : Type 0} where
     pub end : lane ≡ record { ring = lane.ring; number = number; capacity = capacity; accepted = [] }
     pub way : Way
     pub kind : kind_of old.board.history target.0 ≡ Some (way_kind way)
-    pub lanes : new.lanes ≡ old.lanes ++ Some (record { ring = lane.ring; target = target; way = way; capacity = capacity; received = []; seen = [] }) ∷ []
+    pub lanes : new.lanes ≡ old.lanes
+        ++ Some (record { ring = lane.ring; target = target; way = way; capacity = capacity; received = []; seen = [] }) ∷ []
     pub board : new.board ≡ old.board
     pub feeds : new.feeds ≡ old.feeds
 
@@ -86,7 +88,8 @@ module _ {M : Type 0} where
   Closes chunk sure old new end (Ok done) = ClosesLane end.number old new × (laned new.board.history end.number ≡ end.sent)
   Closes chunk sure old new end (Err back) =
       (back.0 ≡ end)
-      × NoSuchOr (FindsNoLane end.number old new) (λ refusal. HoldsUpSome chunk sure end.number old new refusal × GivesAll end.number new end) back.1
+      × NoSuchOr (FindsNoLane end.number old new)
+      (λ refusal. HoldsUpSome chunk sure end.number old new refusal × GivesAll end.number new end) back.1
 
   -- all that was seen of an open lane went, and it is not as many as the end says; the lane stays open
   pub record Miscounts (old new : FloorShown M) (end : Ended M) : Type 0 where
@@ -102,6 +105,7 @@ module _ {M : Type 0} where
   -- how closing a lane by count ends: the journal has as many messages of it as its end says; or the same end is returned,
   -- and no open lane has its number, or they are not as many, or one message was refused
   abbrev pub ClosesCounted : ℕ → Bool → FloorShown M → FloorShown M → Ended M → Result ⊤ (Ended M × Refusal) → Type 0
-  ClosesCounted chunk sure old new end (Ok done) = ClosesLane end.number old new × (length (laned new.board.history end.number) ≡ length end.sent)
+  ClosesCounted chunk sure old new end (Ok done) = ClosesLane end.number old new
+      × (length (laned new.board.history end.number) ≡ length end.sent)
   ClosesCounted chunk sure old new end (Err back) =
       (back.0 ≡ end) × NoSuchOr (FindsNoLane end.number old new) (CountRefused chunk sure old new end) back.1

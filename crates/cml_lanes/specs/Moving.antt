@@ -33,7 +33,8 @@ module _ {M : Type 0} where
     pub seen : from.seen ≡ moved ++ to.seen
 
   -- `count` went out, and then the call of the next, which is still in the ring, was refused
-  pub record Stops (chunk : ℕ) (sure : Bool) (number count : ℕ) (old new : Shown M) (from to : LaneSide M) (refusal : Refusal) : Type 0 where
+  pub record Stops (chunk : ℕ) (sure : Bool) (number count : ℕ) (old new : Shown M) (from to : LaneSide M)
+      (refusal : Refusal) : Type 0 where
     pub at : Shown M
     pub moves : MovesOut number count old at from to
     pub after : IsAsBefore at new
@@ -61,7 +62,8 @@ module _ {M : Type 0} where
     pub none : to.seen ≡ []
 
   -- the floor looked into the ring, and `count` messages went out until one was refused, fewer than the ring has room for
-  pub record IsHeld (chunk : ℕ) (sure : Bool) (number count : ℕ) (old new : Shown M) (from to : LaneSide M) (refusal : Refusal) : Type 0 where
+  pub record IsHeld (chunk : ℕ) (sure : Bool) (number count : ℕ) (old new : Shown M) (from to : LaneSide M)
+      (refusal : Refusal) : Type 0 where
     pub looked : LaneSide M
     pub looks : Looks from looked
     pub stops : Stops chunk sure number count old new looked to refusal

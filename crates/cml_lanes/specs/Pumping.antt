@@ -30,7 +30,8 @@ module _ {M : Type 0} where
     pub free : from.free ≡ to.free + count
 
   -- so many were pumped, and then the call for the next, which the port is still owed, was refused; a slot was free for it
-  pub record Balks (chunk : ℕ) (sure : Bool) (number count : ℕ) (old new : Shown M) (from to : FeedSide M) (refusal : Refusal) : Type 0 where
+  pub record Balks (chunk : ℕ) (sure : Bool) (number count : ℕ) (old new : Shown M) (from to : FeedSide M)
+      (refusal : Refusal) : Type 0 where
     pub at : Shown M
     pub pumps : PumpsIn number count old at from to
     pub after : IsAsBefore at new
@@ -67,7 +68,8 @@ module _ {M : Type 0} where
 
   -- the floor looked how many slots are free, and so many messages were pumped until one was refused, which are fewer than
   -- the ring has room for
-  pub record IsStarved (chunk : ℕ) (sure : Bool) (number count : ℕ) (old new : Shown M) (from to : FeedSide M) (refusal : Refusal) : Type 0 where
+  pub record IsStarved (chunk : ℕ) (sure : Bool) (number count : ℕ) (old new : Shown M) (from to : FeedSide M)
+      (refusal : Refusal) : Type 0 where
     pub looked : FeedSide M
     pub looks : LearnsFree from looked
     pub balks : Balks chunk sure number count old new looked to refusal

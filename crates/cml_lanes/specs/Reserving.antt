@@ -38,4 +38,5 @@ module _ {M : Type 0} where
   -- so does the call that receives the next message of an open feed's port
   abbrev pub FeedTakesEntryAlone : ℕ → Bool → FloorShown M → ℕ → Type 0
   FeedTakesEntryAlone chunk sure floor number =
-      (side : FeedSide M) → slice_get floor.feeds number ≡ Some (Some side) → TakesEntryAlone chunk sure floor.board.history (Recv side.port)
+      (side : FeedSide M) → slice_get floor.feeds number ≡ Some (Some side)
+      → TakesEntryAlone chunk sure floor.board.history (Recv side.port)

@@ -65,4 +65,5 @@ module _ {M : Type 0} where
   -- the calls were made in turn, and this became of the floor
   abbrev pub AreCalled : ℕ → Bool → List (FloorCall M) → FloorShown M → FloorShown M → Type 0
   AreCalled chunk sure [] old new = new ≡ old
-  AreCalled chunk sure (call ∷ later) old new = (between : FloorShown M) × IsCalled chunk sure call old between × AreCalled chunk sure later between new
+  AreCalled chunk sure (call ∷ later) old new = (between : FloorShown M) × IsCalled chunk sure call old between
+      × AreCalled chunk sure later between new

@@ -1,4 +1,5 @@
-ghost use Rattle.std.specs.Prelude.{◌≡◌, ◌<◌, ◌-◌, ◌^◌, ◌∷◌, ◌++◌, [], true, false, length, slice_get, slice_set, replicate, Some, None, is_some, count_by, IsSome, IfSome, IfOk, OnOk};
+ghost use Rattle.std.specs.Prelude.{◌≡◌, ◌<◌, ◌-◌, ◌^◌, ◌∷◌, ◌++◌, [], true, false, length, slice_get, slice_set, replicate};
+ghost use Rattle.std.specs.Prelude.{Some, None, is_some, count_by, IsSome, IfSome, IfOk, OnOk};
 ghost use Rattle.cml_lanes.specs.Prelude.{FeedSide, is_taken, stays, OnPlace, KeepsFeed, PumpsUntil, is_feeds_port, is_barred};
 
 use crate::feed::FeedEnd;
@@ -130,7 +131,8 @@ impl<M: Message> FeedSlots<M> {
     ) -> (usize, Option<Refusal>)
         requires opened { is_taken (slice_get self.old.feeds number) ≡ true }
         requires kept { (side : FeedSide M) → slice_get self.old.feeds number ≡ Some (Some side) → KeepsFeed board.old.history number side }
-        ensures { OnPlace stays number self.old.feeds self.new.feeds (PumpsUntil L.CHUNK M.SURE number result.0 result.1 board.old board.new) }
+        ensures { OnPlace stays number self.old.feeds self.new.feeds
+            (PumpsUntil L.CHUNK M.SURE number result.0 result.1 board.old board.new) }
     {
         pump_slot(board, &mut self.slots[number as usize], number)
     }

@@ -1,4 +1,5 @@
-ghost use Rattle.std.specs.Prelude.{◌≡◌, ◌≤◌, true, false, [], ◌++◌, length, reverse, replicate, slice_set, None, count_by, is_some, MatchBool, MatchResult, IfOk};
+ghost use Rattle.std.specs.Prelude.{◌≡◌, ◌≤◌, true, false, [], ◌++◌, length, reverse, replicate, slice_set, None, count_by};
+ghost use Rattle.std.specs.Prelude.{is_some, MatchBool, MatchResult, IfOk};
 ghost use Rattle.cml_board.specs.declared.entry.Who.TheVariants.{Seat};
 ghost use Rattle.cml_board.specs.declared.outcome.Outcome.TheVariants.{Refused};
 ghost use Rattle.cml_board.specs.declared.outcome.Refusal.TheVariants.{WrongKind};
@@ -186,7 +187,8 @@ impl<M: Message, L: MessageLog<M>> Floor<M, L> {
     /// Moves the messages seen on an open lane until one is refused. Returns how many it moved, and the refusal.
     fn drain_open(&mut self, lane: u64) -> (usize, Option<Refusal>)
         requires { is_open_lane self.old lane ≡ true }
-        ensures until { OnLane stays lane self.old self.new (DrainsUntil L.CHUNK M.SURE lane result.0 result.1 self.old.board self.new.board) }
+        ensures until { OnLane stays lane self.old self.new
+            (DrainsUntil L.CHUNK M.SURE lane result.0 result.1 self.old.board self.new.board) }
         ensures rings { KeepsRings self.old self.new }
     {
         self.lanes.drain(self.alloc, &mut self.board, lane)
@@ -197,7 +199,8 @@ impl<M: Message, L: MessageLog<M>> Floor<M, L> {
         requires opened { is_open_lane self.old lane ≡ true }
         requires ring { IsOfRing lane self.old end.old }
         ensures end { end.new ≡ end.old }
-        ensures until { OnLane stays lane self.old self.new (DrainsUntil L.CHUNK M.SURE lane result.0 result.1 self.old.board self.new.board) }
+        ensures until { OnLane stays lane self.old self.new
+            (DrainsUntil L.CHUNK M.SURE lane result.0 result.1 self.old.board self.new.board) }
         ensures all { GivesAll lane self.new end.old }
         ensures rings { KeepsRings self.old self.new }
     {

@@ -22,13 +22,25 @@ impl<M> Model for InnerFeed<M> {
     ghost use Rattle.rtrb.specs.Ring.{sent, known_free, producer_capacity};
     ghost use Rattle.cml_lanes.specs.Ring.{ring_of};
 
-    ghost view = { λ f. record { ring = ring_of f.producer.end; port = f.port; capacity = producer_capacity f.producer; pushed = sent f.producer; free = known_free f.producer } };
+    ghost view = { λ f. record {
+      ring = ring_of f.producer.end;
+      port = f.port;
+      capacity = producer_capacity f.producer;
+      pushed = sent f.producer;
+      free = known_free f.producer;
+    } };
 }
 
 impl<M> InnerFeed<M> {
     pub fn new(producer: Producer<M>, port: Name) -> InnerFeed<M>
         requires { sent producer ≡ [] }
-        ensures { result ≡ record { ring = ring_of producer.end; port = port; capacity = producer_capacity producer; pushed = []; free = known_free producer } }
+        ensures { result ≡ record {
+          ring = ring_of producer.end;
+          port = port;
+          capacity = producer_capacity producer;
+          pushed = [];
+          free = known_free producer;
+        } }
     {
         InnerFeed { producer, port }
     }

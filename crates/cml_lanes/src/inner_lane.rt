@@ -26,7 +26,14 @@ impl<M> Model for InnerLane<M> {
     ghost use Rattle.rtrb.specs.Ring.{received, known_items, consumer_capacity};
     ghost use Rattle.cml_lanes.specs.Ring.{ring_of};
 
-    ghost view = { λ l. record { ring = ring_of l.consumer.end; target = l.target; way = l.way; capacity = consumer_capacity l.consumer; received = received l.consumer; seen = known_items l.consumer } };
+    ghost view = { λ l. record {
+      ring = ring_of l.consumer.end;
+      target = l.target;
+      way = l.way;
+      capacity = consumer_capacity l.consumer;
+      received = received l.consumer;
+      seen = known_items l.consumer;
+    } };
 
     ghost invariant = { λ l. l.count ≡ length (received l.consumer) };
 }
@@ -34,7 +41,14 @@ impl<M> Model for InnerLane<M> {
 impl<M> InnerLane<M> {
     pub fn new(consumer: Consumer<M>, target: Name, way: Way) -> InnerLane<M>
         requires { received consumer ≡ [] }
-        ensures { result ≡ record { ring = ring_of consumer.end; target = target; way = way; capacity = consumer_capacity consumer; received = []; seen = known_items consumer } }
+        ensures { result ≡ record {
+          ring = ring_of consumer.end;
+          target = target;
+          way = way;
+          capacity = consumer_capacity consumer;
+          received = [];
+          seen = known_items consumer;
+        } }
     {
         InnerLane {
             consumer,

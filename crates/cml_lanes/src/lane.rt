@@ -22,9 +22,11 @@ impl<M> Model for Lane<M> {
     ghost use Rattle.rtrb.specs.Ring.{sent, known_free, producer_capacity};
     ghost use Rattle.cml_lanes.specs.Ring.{ring_of};
 
-    ghost view = { λ l. record { ring = ring_of l.producer.end; number = l.number; capacity = producer_capacity l.producer; accepted = sent l.producer } };
+    ghost view = { λ l.
+        record { ring = ring_of l.producer.end; number = l.number; capacity = producer_capacity l.producer; accepted = sent l.producer } };
 
-    ghost invariant = { λ l. (l.accepted ≡ length (sent l.producer)) × (producer_capacity l.producer ≤ length (sent l.producer) + known_free l.producer) };
+    ghost invariant = { λ l. (l.accepted ≡ length (sent l.producer))
+        × (producer_capacity l.producer ≤ length (sent l.producer) + known_free l.producer) };
 }
 
 impl<M> Lane<M> {

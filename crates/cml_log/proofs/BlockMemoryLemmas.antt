@@ -20,17 +20,23 @@ module _ (R : RattleType) where
 
   module _ {M : Type 1} {𝓤 : Ura M} (𝓛 : Logic 𝓤) where
     pub block_cut : (kept : List Slot) (n : ℕ)
-        → ent 𝓤 (sem 𝓛 (blocks_own R kept)) (sep 𝓤 (sem 𝓛 (block_owns R (slice_index_or kept n None))) (sem 𝓛 (blocks_own R (slice_set kept n None))))
+        → ent 𝓤 (sem 𝓛 (blocks_own R kept))
+        (sep 𝓤 (sem 𝓛 (block_owns R (slice_index_or kept n None))) (sem 𝓛 (blocks_own R (slice_set kept n None))))
     block_cut [] n = qed 𝓛 (‵ (fits R) ∷ []) ∵ nothing ! $ done !
-    block_cut (slot ∷ rest) zero = qed 𝓛 (‵ (blocks_own R (slot ∷ rest)) ∷ []) ∵ fsplit ! $ move ! (1 ∷ []) $ nothing ! $ fjoin ! $ move ! (1 ∷ 0 ∷ []) $ done !
+    block_cut (slot ∷ rest) zero = qed 𝓛 (‵ (blocks_own R (slot ∷ rest)) ∷ []) ∵ fsplit ! $ move ! (1 ∷ []) $ nothing ! $
+        fjoin ! $ move ! (1 ∷ 0 ∷ []) $ done !
     block_cut (slot ∷ rest) (suc n) = qed 𝓛 (‵ (blocks_own R (slot ∷ rest)) ∷ []) ∵ fsplit ! $ move ! (1 ∷ []) $
-        use1 𝓛 (‵ (block_owns R (slice_index_or rest n None)) ⊛ ‵ (blocks_own R (slice_set rest n None))) (block_cut rest n) $ split ! $ move ! (2 ∷ 1 ∷ []) $ fjoin ! $ move ! (1 ∷ 0 ∷ []) $ done !
+        use1 𝓛 (‵ (block_owns R (slice_index_or rest n None)) ⊛ ‵ (blocks_own R (slice_set rest n None))) (block_cut rest n) $ split ! $
+        move ! (2 ∷ 1 ∷ []) $ fjoin ! $ move ! (1 ∷ 0 ∷ []) $ done !
 
     pub block_glue : (kept : List Slot) (n : ℕ) (slot : Slot)
-        → ent 𝓤 (sep 𝓤 (sem 𝓛 (block_owns R slot)) (sem 𝓛 (blocks_own R (slice_set kept n None)))) (sem 𝓛 (blocks_own R (slice_set kept n slot)))
+        → ent 𝓤 (sep 𝓤 (sem 𝓛 (block_owns R slot)) (sem 𝓛 (blocks_own R (slice_set kept n None))))
+        (sem 𝓛 (blocks_own R (slice_set kept n slot)))
     block_glue [] n slot = qed 𝓛 (‵ (block_owns R slot) ∷ ‵ (fits R) ∷ []) ∵ drop ! $ done !
-    block_glue (_ ∷ rest) zero slot = qed 𝓛 (‵ (block_owns R slot) ∷ ‵ (blocks_own R (None ∷ rest)) ∷ []) ∵ move ! (1 ∷ []) $ fsplit ! $ drop ! $ move ! (1 ∷ 0 ∷ []) $ fjoin ! $ done !
-    block_glue (first ∷ rest) (suc n) slot = qed 𝓛 (‵ (block_owns R slot) ∷ ‵ (blocks_own R (first ∷ slice_set rest n None)) ∷ []) ∵ move ! (1 ∷ []) $ fsplit ! $ move ! (2 ∷ 1 ∷ []) $
+    block_glue (_ ∷ rest) zero slot = qed 𝓛 (‵ (block_owns R slot) ∷ ‵ (blocks_own R (None ∷ rest)) ∷ []) ∵ move ! (1 ∷ []) $ fsplit ! $
+        drop ! $ move ! (1 ∷ 0 ∷ []) $ fjoin ! $ done !
+    block_glue (first ∷ rest) (suc n) slot = qed 𝓛 (‵ (block_owns R slot) ∷ ‵ (blocks_own R (first ∷ slice_set rest n None)) ∷ []) ∵
+        move ! (1 ∷ []) $ fsplit ! $ move ! (2 ∷ 1 ∷ []) $
         use2 𝓛 (‵ (blocks_own R (slice_set rest n slot))) (block_glue rest n slot) $ move ! (1 ∷ 0 ∷ []) $ fjoin ! $ done !
 
     pub block_push : (kept : List Slot) (slot : Slot)
@@ -39,7 +45,8 @@ module _ (R : RattleType) where
     block_push (first ∷ rest) slot = qed 𝓛 (‵ (blocks_own R (first ∷ rest)) ∷ ‵ (block_owns R slot) ∷ []) ∵ fsplit ! $ move ! (1 ∷ 2 ∷ []) $
         use2 𝓛 (‵ (blocks_own R (rest ++ slot ∷ []))) (block_push rest slot) $ move ! (1 ∷ 0 ∷ []) $ fjoin ! $ done !
 
-    pub block_seen : (κ : Lft) (kept : List Slot) (n : ℕ) → ent 𝓤 (sem 𝓛 (blocks_lent R kept κ)) (sem 𝓛 (block_lent R (slice_index_or kept n None) κ))
+    pub block_seen : (κ : Lft) (kept : List Slot) (n : ℕ)
+        → ent 𝓤 (sem 𝓛 (blocks_lent R kept κ)) (sem 𝓛 (block_lent R (slice_index_or kept n None) κ))
     block_seen κ [] n = qed 𝓛 (‵ (blocks_lent R [] κ) ∷ []) ∵ drop ! $ nothing ! $ done !
     block_seen κ (slot ∷ rest) zero = qed 𝓛 (‵ (blocks_lent R (slot ∷ rest) κ) ∷ []) ∵ fsplit ! $ keep ! (0 ∷ []) $ done !
     block_seen κ (slot ∷ rest) (suc n) = qed 𝓛 (‵ (blocks_lent R (slot ∷ rest) κ) ∷ []) ∵ fsplit ! $ drop ! $ by ! (block_seen κ rest n)

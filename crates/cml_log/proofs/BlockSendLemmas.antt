@@ -28,8 +28,10 @@ module _ (R : RattleType) (s : IsSend R) where
 
   pub right_send : IsSend (Right.the_row R)
   right_send = let O = Right.the_type R in let all : AllSend (fields O) = (search sendable, tt) in
-      owning_send O all (λ right. right-Keyless right.at right.content) (λ k. quiet (to O) (exits_of k (fields O)) ((struct_send (shape O) all).leaving k))
+      owning_send O all (λ right. right-Keyless right.at right.content)
+      (λ k. quiet (to O) (exits_of k (fields O)) ((struct_send (shape O) all).leaving k))
 
   pub blocks_send : IsSend (Blocks.the_row R)
   blocks_send = let O = Blocks.the_type R in let all : AllSend (fields O) = (search sendable, tt) in
-      owning_send O all (λ blocks. blocks-Keyless blocks.kept) (λ k. quiet (to O) (exits_of k (fields O)) ((struct_send (shape O) all).leaving k))
+      owning_send O all (λ blocks. blocks-Keyless blocks.kept)
+      (λ k. quiet (to O) (exits_of k (fields O)) ((struct_send (shape O) all).leaving k))

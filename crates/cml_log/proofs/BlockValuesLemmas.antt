@@ -25,14 +25,16 @@ both v w = vstruct (vcons v (vcons w vnil))
 
 pub address_made : {M : Type 1} {𝓤 : Ura M} (𝓛 : Logic 𝓤) (at : Ptr) (number : ℕ) → number < 2 ^ 64
     → ent 𝓤 (emp 𝓤) (sem 𝓛 (address.the_row.own_val (record { at = at; number = number }) (both (ptr_val at) (vint w64 number) ∷ [])))
-address_made 𝓛 at number fits = makes_shadow 𝓛 (address.the_row.own_val (record { at = at; number = number }) (both (ptr_val at) (vint w64 number) ∷ []))
+address_made 𝓛 at number fits =
+    makes_shadow 𝓛 (address.the_row.own_val (record { at = at; number = number }) (both (ptr_val at) (vint w64 number) ∷ []))
     (λ vss. (tt, (tt, ((tt, tt), tt)))) ((ptr_val at ∷ [], (vint w64 number ∷ [], tt)), (refl, (refl, ((refl, fits), tt))))
 
 abbrev pub Counting : RattleType
 Counting = Struct (shape counter.the_type)
 
 pub count_made : {M : Type 1} {𝓤 : Ura M} (𝓛 : Logic 𝓤) → ent 𝓤 (emp 𝓤) (sem 𝓛 (Counting.own_val (tt, tt) (mark ∷ [])))
-count_made 𝓛 = makes_shadow 𝓛 (Counting.own_val (tt, tt) (mark ∷ [])) (λ vss. (tt, ((λ uss. (tt, tt)), tt))) ((vstruct vnil ∷ [], tt), (refl, ((tt, (refl, tt)), tt)))
+count_made 𝓛 = makes_shadow 𝓛 (Counting.own_val (tt, tt) (mark ∷ [])) (λ vss. (tt, ((λ uss. (tt, tt)), tt)))
+    ((vstruct vnil ∷ [], tt), (refl, ((tt, (refl, tt)), tt)))
 
 module _ (R : RattleType) where
   abbrev pub Marking : RattleType
@@ -43,7 +45,9 @@ module _ (R : RattleType) where
 
   module _ {M : Type 1} {𝓤 : Ura M} (𝓛 : Logic 𝓤) where
     pub marking_made : ent 𝓤 (emp 𝓤) (sem 𝓛 (Marking.own_val (tt, tt) (mark ∷ [])))
-    marking_made = makes_shadow 𝓛 (Marking.own_val (tt, tt) (mark ∷ [])) (λ vss. (tt, ((λ uss. (tt, tt)), tt))) ((vstruct vnil ∷ [], tt), (refl, ((tt, (refl, tt)), tt)))
+    marking_made = makes_shadow 𝓛 (Marking.own_val (tt, tt) (mark ∷ [])) (λ vss. (tt, ((λ uss. (tt, tt)), tt)))
+        ((vstruct vnil ∷ [], tt), (refl, ((tt, (refl, tt)), tt)))
 
     pub pointing_made : (at : Ptr) → ent 𝓤 (emp 𝓤) (sem 𝓛 (Pointing.own_val (at, tt) (word at ∷ [])))
-    pointing_made at = makes_shadow 𝓛 (Pointing.own_val (at, tt) (word at ∷ [])) (λ vss. (tt, (tt, tt))) ((ptr_val at ∷ [], tt), (refl, (refl, tt)))
+    pointing_made at =
+        makes_shadow 𝓛 (Pointing.own_val (at, tt) (word at ∷ [])) (λ vss. (tt, (tt, tt))) ((ptr_val at ∷ [], tt), (refl, (refl, tt)))

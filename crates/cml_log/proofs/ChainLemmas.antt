@@ -1,17 +1,20 @@
 -- Lemmas on a chain of chunks, and on what the log sees of it.
-use Rattle.std.proofs.Common.{◌≡◌, ℕ, zero, suc, ◌+◌, ◌-◌, ◌*◌, ◌/◌, ◌%◌, ◌<◌, ◌≤◌, List, [], ◌∷◌, ◌++◌, length, set, map, take, drop, Option, Some, None, refl, sym, ap, subst, ◌∙◌, inl, inr, arith}
+use Rattle.std.proofs.Common.{◌≡◌, ℕ, zero, suc, ◌+◌, ◌-◌, ◌*◌, ◌/◌, ◌%◌, ◌<◌, ◌≤◌, List, [], ◌∷◌, ◌++◌, length, set, map, take}
+use Rattle.std.proofs.Common.{drop, Option, Some, None, refl, sym, ap, subst, ◌∙◌, inl, inr, arith}
 use Rattle.std.specs.List.{slice_get}
 use Rattle.std.proofs.Math.Nat.{zero-div, mul-add, mul-one, mul-zero, mul-div-le, mod-lt}
 use Rattle.std.proofs.Math.Seq.{drop-nil, map-set_same, get_or-append_seam}
 use Rattle.std.proofs.lemmas.Bool.{cases_eq, cases_lt}
 use Rattle.std.proofs.lemmas.Nat.{div-mul-add, div-add-mod'}
-use Rattle.std.proofs.lemmas.List.{get_or_past, get_or_append_left, length-set, length-append, length-drop, take_all, set-append_left, map-set, map-append}
+use Rattle.std.proofs.lemmas.List.{get_or_past, get_or_append_left, length-set, length-append, length-drop, take_all}
+use Rattle.std.proofs.lemmas.List.{set-append_left, map-set, map-append}
 use denote.RawPtr.{Ptr}
 use Rattle.cml_log.specs.Prelude.{Address, Chunk, block_at, IsKept, row_of, cell_of, row_at, link_at, items_of, Rewrites, with_row}
 use Rattle.cml_log.specs.Prelude.{with_link, with_cursors, Chunks, cell_at, count_of, count_at, LiesAt, end_of, passed, with_count, Pushed}
 use Rattle.cml_log.specs.Prelude.{IsLinked, IsChain}
 use Rattle.cml_log.proofs.BlockLemmas.{lies_where_kept, block_at-here, block_at-other, items_of-same}
-use Rattle.cml_log.proofs.LinkedLemmas.{product-next, IsLinked-recounted, items_of-written, IsLinked-written, items_of-joined, IsLinked-joined, items_of-without, IsLinked-without}
+use Rattle.cml_log.proofs.LinkedLemmas.{product-next, IsLinked-recounted, items_of-written, IsLinked-written, items_of-joined}
+use Rattle.cml_log.proofs.LinkedLemmas.{IsLinked-joined, items_of-without, IsLinked-without}
 
 -- the first items, looked up among all
 slice_get-take : {X : Type 0} (n : ℕ) (xs : List X) (i : ℕ) → i < n → slice_get (take n xs) i ≡ slice_get xs i
@@ -30,7 +33,8 @@ module _ {T : Type 0} {N : ℕ} where
   pub shown-at : (kept : List (Option (Ptr × Chunk T N))) (made given followed made' given' followed' : ℕ)
       → made' ≡ made → given' ≡ given → followed' ≡ followed → shown kept made' given' followed' ≡ shown kept made given followed
   shown-at kept made given followed made' given' followed' same_made same_given same_followed =
-      ap (λ n. shown kept n given' followed') same_made ∙ ap (λ n. shown kept made n followed') same_given ∙ ap (shown kept made given) same_followed
+      ap (λ n. shown kept n given' followed') same_made ∙ ap (λ n. shown kept made n followed') same_given
+      ∙ ap (shown kept made given) same_followed
 
   pub IsChain-at : (kept : List (Option (Ptr × Chunk T N))) (head tail : Address) (next made given made' given' : ℕ)
       → IsChain kept head tail next made given → made' ≡ made → given' ≡ given → IsChain kept head tail next made' given'
@@ -53,7 +57,8 @@ module _ {T : Type 0} {N : ℕ} where
   pub IsChain-one : (kept : List (Option (Ptr × Chunk T N))) (head : Address) (made given : ℕ) → kept ≡ Some (head.at, bare) ∷ []
       → 0 < N → N ≤ 1024 → head.number ≡ 0 → made ≡ 1 → given ≡ 0 → IsChain kept head head 0 made given
   IsChain-one kept head made given alone one small first counted none =
-      let there : block_at (Some (head.at, bare) ∷ []) head.number ≡ Some (head.at, bare) = ap (block_at (Some (head.at, bare) ∷ [])) first in
+      let there : block_at (Some (head.at, bare) ∷ []) head.number ≡ Some (head.at, bare) =
+      ap (block_at (Some (head.at, bare) ∷ [])) first in
       subst (λ k. IsChain k head head 0 made given) (sym alone)
       record {
         holds_one = one;
@@ -78,7 +83,8 @@ module _ {T : Type 0} {N : ℕ} where
       row_one zero = refl
       row_one (suc number) = refl
 
-  module _ (kept : List (Option (Ptr × Chunk T N))) (head tail : Address) (next made given : ℕ) (chain : IsChain kept head tail next made given) where
+  module _ (kept : List (Option (Ptr × Chunk T N))) (head tail : Address) (next made given : ℕ)
+      (chain : IsChain kept head tail next made given) where
     pub end_shown : (followed : ℕ) → end_of N (shown kept made given followed) ≡ next
     end_shown followed = ap (λ n. N * n + length (items_of kept)) chain.given_is ∙ sym chain.ends
 
@@ -114,27 +120,32 @@ module _ {T : Type 0} {N : ℕ} where
     slot_is =
         let part = length-drop (N * (tail.number - head.number)) (items_of kept) in
         let size : length (drop (N * (tail.number - head.number)) (items_of kept)) ≡ next % N = omega (arith, part, written_in_tail) in
-        sym (ap length (chain.linked.rows tail.number chain.linked.order ∙ take_all N (drop (N * (tail.number - head.number)) (items_of kept)) (omega (arith, size, within))) ∙ size)
+        sym (ap length (chain.linked.rows tail.number chain.linked.order
+        ∙ take_all N (drop (N * (tail.number - head.number)) (items_of kept)) (omega (arith, size, within))) ∙ size)
 
     -- an item more in the tail
-    module _ (after : List (Option (Ptr × Chunk T N))) (item : T) (writes : Rewrites kept after tail.number tail.at (with_row (row_at kept tail.number ++ item ∷ []))) where
+    module _ (after : List (Option (Ptr × Chunk T N))) (item : T)
+        (writes : Rewrites kept after tail.number tail.at (with_row (row_at kept tail.number ++ item ∷ []))) where
       row_more : row_at kept tail.number ++ item ∷ [] ≡ writes.chunk.row ++ item ∷ []
       row_more = ap (λ b. row_of b ++ item ∷ []) writes.found
 
       pub linked-pushed : IsLinked after head tail
       linked-pushed =
           subst (λ k. IsLinked k head tail) (sym writes.kept)
-          (IsLinked-written kept head tail writes.chunk (with_row (row_at kept tail.number ++ item ∷ []) writes.chunk) item chain.linked writes.found row_more refl begins ends)
+          (IsLinked-written kept head tail writes.chunk
+          (with_row (row_at kept tail.number ++ item ∷ []) writes.chunk) item chain.linked writes.found row_more refl begins ends)
 
       pub items-pushed : items_of after ≡ items_of kept ++ item ∷ []
       items-pushed =
           ap items_of writes.kept
-          ∙ items_of-written kept head tail writes.chunk (with_row (row_at kept tail.number ++ item ∷ []) writes.chunk) item chain.linked writes.found row_more refl
+          ∙ items_of-written kept head tail writes.chunk
+          (with_row (row_at kept tail.number ++ item ∷ []) writes.chunk) item chain.linked writes.found row_more refl
 
       pub cells-pushed : map cell_of after ≡ map cell_of kept
       cells-pushed =
           ap (map cell_of) writes.kept
-          ∙ map-set_same cell_of kept tail.number (Some (tail.at, with_row (row_at kept tail.number ++ item ∷ []) writes.chunk)) None (sym (ap cell_of writes.found))
+          ∙ map-set_same cell_of kept tail.number (Some (tail.at, with_row (row_at kept tail.number ++ item ∷ []) writes.chunk)) None
+          (sym (ap cell_of writes.found))
 
       size-pushed : length (items_of after) ≡ length (items_of kept) + 1
       size-pushed = ap length items-pushed ∙ length-append (items_of kept) (item ∷ [])
@@ -148,7 +159,8 @@ module _ {T : Type 0} {N : ℕ} where
             ends = omega (arith, chain.ends, size-pushed);
             in_tail = ap (λ n. n / N) (sym (omega_next parted)) ∙ div-mul-add tail.number N (next % N + 1) room;
             bounded = omega (arith, below);
-            made_is = chain.made_is ∙ sym (ap length writes.kept ∙ length-set kept tail.number (Some (tail.at, with_row (row_at kept tail.number ++ item ∷ []) writes.chunk)));
+            made_is = chain.made_is ∙ sym (ap length writes.kept
+                ∙ length-set kept tail.number (Some (tail.at, with_row (row_at kept tail.number ++ item ∷ []) writes.chunk)));
             given_is = chain.given_is;
           }
         where
@@ -166,7 +178,8 @@ module _ {T : Type 0} {N : ℕ} where
           }
 
       -- the tail lies where it lay while one more is put behind it
-      pub tail_put : (tailed : List (Option (Ptr × Chunk T N))) (slot : Option (Ptr × Chunk T N)) → tailed ≡ after ++ slot ∷ [] → IsKept tailed tail.number tail.at
+      pub tail_put : (tailed : List (Option (Ptr × Chunk T N))) (slot : Option (Ptr × Chunk T N)) → tailed ≡ after ++ slot ∷ []
+          → IsKept tailed tail.number tail.at
       tail_put tailed slot puts = (
         linked-pushed.finishes.0,
         ap (λ k. block_at k tail.number) puts
@@ -175,7 +188,10 @@ module _ {T : Type 0} {N : ℕ} where
       )
 
       -- and a chunk more behind it
-      module _ (tailed joined : List (Option (Ptr × Chunk T N))) (more : Address) (fresh : Chunk T N) (puts : tailed ≡ after ++ Some (more.at, fresh) ∷ []) (numbered : more.number ≡ tail.number + 1) (empty : fresh ≡ record { row = []; link = None; cursors = 0 }) (links : Rewrites tailed joined tail.number tail.at (with_link (Some more))) (last : next % N + 1 ≡ N) where
+      module _ (tailed joined : List (Option (Ptr × Chunk T N))) (more : Address) (fresh : Chunk T N)
+          (puts : tailed ≡ after ++ Some (more.at, fresh) ∷ []) (numbered : more.number ≡ tail.number + 1)
+          (empty : fresh ≡ record { row = []; link = None; cursors = 0 })
+          (links : Rewrites tailed joined tail.number tail.at (with_link (Some more))) (last : next % N + 1 ≡ N) where
         tail_found : block_at after tail.number ≡ Some (tail.at, links.chunk)
         tail_found =
             sym (get_or_append_left after (Some (more.at, fresh) ∷ []) None tail.number (omega (arith, linked-pushed.last)))
@@ -189,12 +205,14 @@ module _ {T : Type 0} {N : ℕ} where
 
         items-joined : items_of joined ≡ items_of after
         items-joined =
-            ap items_of joined_is ∙ items_of-joined after head tail links.chunk fresh more linked-pushed tail_found numbered (ap (λ c. c.row) empty) full
+            ap items_of joined_is
+            ∙ items_of-joined after head tail links.chunk fresh more linked-pushed tail_found numbered (ap (λ c. c.row) empty) full
 
         cells-joined : map cell_of joined ≡ map cell_of kept ++ Some (more.at, 0) ∷ []
         cells-joined =
             ap (map cell_of) links.kept
-            ∙ map-set_same cell_of tailed tail.number (Some (tail.at, with_link (Some more) links.chunk)) None (sym (ap cell_of links.found))
+            ∙ map-set_same cell_of tailed tail.number (Some (tail.at, with_link (Some more) links.chunk)) None
+            (sym (ap cell_of links.found))
             ∙ ap (map cell_of) puts
             ∙ map-append cell_of after (Some (more.at, fresh) ∷ [])
             ∙ ap (λ cells. cells ++ Some (more.at, fresh.cursors) ∷ []) cells-pushed
@@ -202,13 +220,15 @@ module _ {T : Type 0} {N : ℕ} where
 
         pub IsChain-joined : (made' : ℕ) → made' ≡ made + 1 → next < 18446744073709551614 → IsChain joined head more (next + 1) made' given
         IsChain-joined made' counted below =
-            let linked = subst (λ k. IsLinked k head more) (sym joined_is) (IsLinked-joined after head tail links.chunk fresh more linked-pushed tail_found numbered (ap (λ c. c.row) empty) full) in
+            let linked = subst (λ k. IsLinked k head more) (sym joined_is)
+            (IsLinked-joined after head tail links.chunk fresh more linked-pushed tail_found numbered (ap (λ c. c.row) empty) full) in
             record {
               holds_one = chain.holds_one;
               small = chain.small;
               linked = linked;
               ends = omega (arith, chain.ends, ap length items-joined, size-pushed);
-              in_tail = ap (λ n. n / N) (sym (whole parted (mul-suc' tail.number))) ∙ div-mul-add (tail.number + 1) N 0 chain.holds_one ∙ sym numbered;
+              in_tail = ap (λ n. n / N) (sym (whole parted (mul-suc' tail.number)))
+                  ∙ div-mul-add (tail.number + 1) N 0 chain.holds_one ∙ sym numbered;
               bounded = omega (arith, below);
               made_is = omega (arith, counted, chain.made_is, chain.linked.last, linked.last, numbered);
               given_is = chain.given_is;
@@ -227,11 +247,13 @@ module _ {T : Type 0} {N : ℕ} where
               items = items-joined ∙ items-pushed;
               followed = refl;
               lies = λ number count at there.
-                  ap (λ cells. cell_at cells number) cells-joined ∙ get_or_append_left (map cell_of kept) (Some (more.at, 0) ∷ []) None number (cell_within number count at there) ∙ there;
+                  ap (λ cells. cell_at cells number) cells-joined
+                  ∙ get_or_append_left (map cell_of kept) (Some (more.at, 0) ∷ []) None number (cell_within number count at there) ∙ there;
               counts = λ number. ap (λ cells. count_at cells number) cells-joined ∙ counted number;
             }
           where
-            cell_within : (number count : ℕ) (at : Ptr) → cell_at (map cell_of kept) number ≡ Some (at, count) → number < length (map cell_of kept)
+            cell_within : (number count : ℕ) (at : Ptr) → cell_at (map cell_of kept) number ≡ Some (at, count)
+                → number < length (map cell_of kept)
             cell_within number count at there = elim (cases_lt number (length (map cell_of kept))) [
               | inl before ↦ before
               | inr past ↦ absurd (let none = get_or_past (map cell_of kept) number None past in cc)
@@ -242,19 +264,23 @@ module _ {T : Type 0} {N : ℕ} where
               | inl before ↦ ap count_of (get_or_append_left (map cell_of kept) (Some (more.at, 0) ∷ []) None number before)
               | inr past ↦ elim (cases_eq number (length (map cell_of kept))) [
                 | inl equal ↦
-                    ap (count_at (map cell_of kept ++ Some (more.at, 0) ∷ [])) equal ∙ ap count_of (get_or-append_seam (map cell_of kept) (Some (more.at, 0)) [] None)
+                    ap (count_at (map cell_of kept ++ Some (more.at, 0) ∷ [])) equal
+                    ∙ ap count_of (get_or-append_seam (map cell_of kept) (Some (more.at, 0)) [] None)
                     ∙ sym (ap count_of (get_or_past (map cell_of kept) number None past))
                 | inr differs ↦
-                    ap count_of (get_or_past (map cell_of kept ++ Some (more.at, 0) ∷ []) number None (omega (arith, length-append (map cell_of kept) (Some (more.at, 0) ∷ []), past, differs)))
+                    ap count_of (get_or_past (map cell_of kept ++ Some (more.at, 0) ∷ []) number None
+                    (omega (arith, length-append (map cell_of kept) (Some (more.at, 0) ∷ []), past, differs)))
                     ∙ sym (ap count_of (get_or_past (map cell_of kept) number None past))
               ]
             ]
 
     -- a chunk is put behind, and then the tail is written and linked to it
-    module _ (grown written joined : List (Option (Ptr × Chunk T N))) (more : Address) (fresh : Chunk T N) (item : T) (puts : grown ≡ kept ++ Some (more.at, fresh) ∷ []) where
+    module _ (grown written joined : List (Option (Ptr × Chunk T N))) (more : Address) (fresh : Chunk T N) (item : T)
+        (puts : grown ≡ kept ++ Some (more.at, fresh) ∷ []) where
       tail_before : block_at grown tail.number ≡ block_at kept tail.number
       tail_before =
-          ap (λ k. block_at k tail.number) puts ∙ get_or_append_left kept (Some (more.at, fresh) ∷ []) None tail.number (omega (arith, chain.linked.last))
+          ap (λ k. block_at k tail.number) puts
+          ∙ get_or_append_left kept (Some (more.at, fresh) ∷ []) None tail.number (omega (arith, chain.linked.last))
 
       pub tail_grown : IsKept grown tail.number tail.at
       tail_grown = (chain.linked.finishes.0, tail_before ∙ chain.linked.finishes.1)
@@ -273,13 +299,16 @@ module _ {T : Type 0} {N : ℕ} where
         written_is =
             writes.kept
             ∙ ap (λ k. set k tail.number (Some (tail.at, with_row (row_at grown tail.number ++ item ∷ []) writes.chunk))) puts
-            ∙ ap (λ b. set (kept ++ Some (more.at, fresh) ∷ []) tail.number (Some (tail.at, with_row (row_of b ++ item ∷ []) writes.chunk))) tail_before
-            ∙ set-append_left kept (Some (more.at, fresh) ∷ []) tail.number (Some (tail.at, with_row (row_at kept tail.number ++ item ∷ []) writes.chunk)) (omega (arith, chain.linked.last))
+            ∙ ap (λ b. set (kept ++ Some (more.at, fresh) ∷ []) tail.number (Some (tail.at, with_row (row_of b ++ item ∷ []) writes.chunk)))
+            tail_before
+            ∙ set-append_left kept (Some (more.at, fresh) ∷ []) tail.number
+            (Some (tail.at, with_row (row_at kept tail.number ++ item ∷ []) writes.chunk)) (omega (arith, chain.linked.last))
 
         pub tail_written : IsKept written tail.number tail.at
         tail_written = tail_put after item after_writes written (Some (more.at, fresh)) written_is
 
-        module _ (numbered : more.number ≡ tail.number + 1) (empty : fresh ≡ record { row = []; link = None; cursors = 0 }) (links : Rewrites written joined tail.number tail.at (with_link (Some more))) (last : next % N + 1 ≡ N) where
+        module _ (numbered : more.number ≡ tail.number + 1) (empty : fresh ≡ record { row = []; link = None; cursors = 0 })
+            (links : Rewrites written joined tail.number tail.at (with_link (Some more))) (last : next % N + 1 ≡ N) where
           pub IsChain-grown : (made' : ℕ) → made' ≡ made + 1 → next < 18446744073709551614 → IsChain joined head more (next + 1) made' given
           IsChain-grown = IsChain-joined after item after_writes written joined more fresh written_is numbered empty links last
 
@@ -287,16 +316,19 @@ module _ {T : Type 0} {N : ℕ} where
           Pushed-grown = Pushed-joined after item after_writes written joined more fresh written_is numbered empty links last
 
     -- another number of cursors in a chunk
-    module _ (after : List (Option (Ptr × Chunk T N))) (number : ℕ) (at : Ptr) (count : ℕ) (counts : Rewrites kept after number at (with_cursors count)) where
+    module _ (after : List (Option (Ptr × Chunk T N))) (number : ℕ) (at : Ptr) (count : ℕ)
+        (counts : Rewrites kept after number at (with_cursors count)) where
       items-recounted : items_of after ≡ items_of kept
-      items-recounted = ap items_of counts.kept ∙ items_of-same kept number (at, counts.chunk) (Some (at, with_cursors count counts.chunk)) counts.found refl
+      items-recounted = ap items_of counts.kept
+          ∙ items_of-same kept number (at, counts.chunk) (Some (at, with_cursors count counts.chunk)) counts.found refl
 
       pub IsChain-recounted : IsChain after head tail next made given
       IsChain-recounted =
           record {
             holds_one = chain.holds_one;
             small = chain.small;
-            linked = subst (λ k. IsLinked k head tail) (sym counts.kept) (IsLinked-recounted kept head tail number at counts.chunk (with_cursors count counts.chunk) chain.linked counts.found refl refl);
+            linked = subst (λ k. IsLinked k head tail) (sym counts.kept) (IsLinked-recounted kept head tail number at counts.chunk
+                (with_cursors count counts.chunk) chain.linked counts.found refl refl);
             ends = omega (arith, chain.ends, ap length items-recounted);
             in_tail = chain.in_tail;
             bounded = chain.bounded;
@@ -311,7 +343,8 @@ module _ {T : Type 0} {N : ℕ} where
           (ap (map cell_of) counts.kept ∙ map-set cell_of kept number (Some (at, with_cursors count counts.chunk)))
 
     -- without the head
-    module _ (further : Address) (before : head.number < tail.number) (numbered : further.number ≡ head.number + 1) (lies : IsKept kept further.number further.at) where
+    module _ (further : Address) (before : head.number < tail.number) (numbered : further.number ≡ head.number + 1)
+        (lies : IsKept kept further.number further.at) where
       whole_head : N ≤ length (items_of kept)
       whole_head = omega (arith, begins, product_one (tail.number - head.number) (omega (arith, before)))
         where
@@ -324,17 +357,35 @@ module _ {T : Type 0} {N : ℕ} where
             holds_one = chain.holds_one;
             small = chain.small;
             linked = IsLinked-without kept head tail further chain.linked before numbered lies whole_head;
-            ends = omega (arith, chain.ends, ap length (items_of-without kept head tail further chain.linked before numbered lies whole_head), length-drop N (items_of kept), whole_head, ap (λ n. N * n) numbered, mul-add N head.number 1, mul-one N);
+            ends = omega (
+              arith,
+              chain.ends,
+              ap length (items_of-without kept head tail further chain.linked before numbered lies whole_head),
+              length-drop N (items_of kept),
+              whole_head,
+              ap (λ n. N * n) numbered,
+              mul-add N head.number 1,
+              mul-one N,
+            );
             in_tail = chain.in_tail;
             bounded = chain.bounded;
             made_is = chain.made_is ∙ sym (length-set kept head.number None);
             given_is = counted ∙ ap (λ n. n + 1) chain.given_is ∙ sym numbered;
           }
 
-      pub shown-without : (given' followed : ℕ) → given' ≡ given + 1 → shown (set kept head.number None) made given' followed ≡ passed N (shown kept made given followed)
+      pub shown-without : (given' followed : ℕ) → given' ≡ given + 1
+          → shown (set kept head.number None) made given' followed ≡ passed N (shown kept made given followed)
       shown-without given' followed counted =
-          ap (λ n. record { given = n; items = items_of (set kept head.number None); cells = map cell_of (set kept head.number None); made = made; followed = followed }) counted
-          ∙ ap (λ items. record { given = given + 1; items = items; cells = map cell_of (set kept head.number None); made = made; followed = followed }) (items_of-without kept head tail further chain.linked before numbered lies whole_head)
+          ap (λ n. record {
+            given = n;
+            items = items_of (set kept head.number None);
+            cells = map cell_of (set kept head.number None);
+            made = made;
+            followed = followed;
+          }) counted
+          ∙ ap (λ items.
+          record { given = given + 1; items = items; cells = map cell_of (set kept head.number None); made = made; followed = followed })
+          (items_of-without kept head tail further chain.linked before numbered lies whole_head)
           ∙ ap (λ cells. record { given = given + 1; items = drop N (items_of kept); cells = cells; made = made; followed = followed })
           (map-set cell_of kept head.number None ∙ ap (λ n. set (map cell_of kept) n None) (sym chain.given_is))
 
@@ -346,7 +397,8 @@ module _ {T : Type 0} {N : ℕ} where
     ]
 
     -- what a chunk holds at a slot
-    pub item_shown : (number : ℕ) (at : Ptr) (slot : ℕ) → slot < N → IsKept kept number at → slice_get (row_at kept number) slot ≡ slice_get (drop (N * (number - given)) (items_of kept)) slot
+    pub item_shown : (number : ℕ) (at : Ptr) (slot : ℕ) → slot < N → IsKept kept number at
+        → slice_get (row_at kept number) slot ≡ slice_get (drop (N * (number - given)) (items_of kept)) slot
     item_shown number at slot inside there =
         ap (λ row. slice_get row slot) (chain.linked.rows number (head_before number at there))
         ∙ slice_get-take N (drop (N * (number - head.number)) (items_of kept)) slot inside
@@ -355,7 +407,8 @@ module _ {T : Type 0} {N : ℕ} where
     -- where the head is the tail, nothing is kept without it
     pub gone_with_head : tail.number ≤ head.number → (number : ℕ) → block_at (set kept head.number None) number ≡ None
     gone_with_head last number = elim (cases_eq number head.number) [
-      | inl equal ↦ ap (block_at (set kept head.number None)) equal ∙ block_at-here kept head.number (head.at, chain.linked.starts.0) None chain.linked.starts.1
+      | inl equal ↦ ap (block_at (set kept head.number None)) equal
+          ∙ block_at-here kept head.number (head.at, chain.linked.starts.0) None chain.linked.starts.1
       | inr differs ↦ block_at-other kept head.number number None differs ∙ elim (cases_lt number head.number) [
         | inl before ↦ chain.linked.gone number before
         | inr past ↦ get_or_past kept number None (omega (arith, past, differs, last, chain.linked.last))
@@ -363,7 +416,8 @@ module _ {T : Type 0} {N : ℕ} where
     ]
 
     -- where a chunk's link leads, and that the next one lies there
-    pub link_leads : (number : ℕ) (at : Ptr) → IsKept kept number at → number < next / N → (to : Address) × (link_at kept number ≡ Some to) × (to.number ≡ number + 1) × LiesAt (map cell_of kept) to.number to.at
+    pub link_leads : (number : ℕ) (at : Ptr) → IsKept kept number at → number < next / N
+        → (to : Address) × (link_at kept number ≡ Some to) × (to.number ≡ number + 1) × LiesAt (map cell_of kept) to.number to.at
     link_leads number at there before =
         let after = chain.linked.links number (head_before number at there) (omega (arith, before, chain.in_tail)) in
         (after.0, after.2, after.3, lies_where_kept kept after.0.number after.0.at (after.1, after.4))

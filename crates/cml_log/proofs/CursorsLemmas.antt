@@ -1,5 +1,6 @@
 -- Lemmas on cursors that hold their chunk, and on the log that is shown.
-use Rattle.std.proofs.Common.{◌≡◌, ◌≢◌, ◌⊎◌, ℕ, zero, suc, ◌+◌, ◌-◌, ◌*◌, ◌/◌, ◌%◌, ◌<◌, ◌≤◌, ◌&&◌, ◌==◌, true, false, List, [], ◌∷◌, length, get_or, set, map, drop, Option, Some, None, refl, sym, ap, ◌∙◌, inl, inr, arith, unwrap_or}
+use Rattle.std.proofs.Common.{◌≡◌, ◌≢◌, ◌⊎◌, ℕ, zero, suc, ◌+◌, ◌-◌, ◌*◌, ◌/◌, ◌%◌, ◌<◌, ◌≤◌, ◌&&◌, ◌==◌, true, false, List, [], ◌∷◌}
+use Rattle.std.proofs.Common.{length, get_or, set, map, drop, Option, Some, None, refl, sym, ap, ◌∙◌, inl, inr, arith, unwrap_or}
 use Rattle.std.specs.List.{slice_get}
 use Rattle.std.proofs.Math.Nat.{div-add-mod, mul-add, mul-div-le, mul-le-mul_left, mod-lt}
 use Rattle.std.proofs.Math.ListN.{get_or-map}
@@ -45,8 +46,11 @@ module _ (cells : List (Option (Ptr × ℕ))) (number : ℕ) (at : Ptr) (count :
   pub lies-recounted : (other : ℕ) (place : Ptr) → LiesAt cells other place → LiesAt (set cells number (Some (at, count))) other place
   lies-recounted other place found = elim (cases_eq other number) [
     | inl equal ↦
-        let same : Some (at, lies.0) ≡ Some (place, found.0) = sym lies.1 ∙ ap (cell_at cells) (sym equal) ∙ found.1 in
-        (count, ap (cell_at (set cells number (Some (at, count)))) equal ∙ get_or-set_same cells number (Some (at, count)) None there ∙ ap (λ p. Some (p, count)) (ap (pointer_or at) same))
+        let same : Some (at, lies.0) ≡ Some (place, found.0) = sym lies.1 ∙ ap (cell_at cells) (sym equal) ∙ found.1 in (
+          count,
+          ap (cell_at (set cells number (Some (at, count)))) equal ∙ get_or-set_same cells number (Some (at, count)) None there
+              ∙ ap (λ p. Some (p, count)) (ap (pointer_or at) same),
+        )
     | inr differs ↦ (found.0, get_or-set_other cells number other (Some (at, count)) None differs ∙ found.1)
   ]
     where
@@ -63,10 +67,12 @@ key_within slots key cursor found = elim (cases_lt key (length slots)) [
 
 module _ {T : Type 0} where
   -- an open key has a cursor
-  pub cursor_under : (n : ℕ) (c : Chunks T) (slots : List (Option Cursor)) (key place : ℕ) → place_at (log_of n c slots) key ≡ Some place → (cursor : Cursor) × (cursor_at slots key ≡ Some cursor) × (cursor.place ≡ place)
+  pub cursor_under : (n : ℕ) (c : Chunks T) (slots : List (Option Cursor)) (key place : ℕ) → place_at (log_of n c slots) key ≡ Some place
+      → (cursor : Cursor) × (cursor_at slots key ≡ Some cursor) × (cursor.place ≡ place)
   cursor_under n c slots key place found = by_slot (cursor_at slots key) refl (sym (place_shows slots key) ∙ found)
     where
-      by_slot : (slot : Option Cursor) → cursor_at slots key ≡ slot → place_in slot ≡ Some place → (cursor : Cursor) × (cursor_at slots key ≡ Some cursor) × (cursor.place ≡ place)
+      by_slot : (slot : Option Cursor) → cursor_at slots key ≡ slot → place_in slot ≡ Some place
+          → (cursor : Cursor) × (cursor_at slots key ≡ Some cursor) × (cursor.place ≡ place)
       by_slot None is shows = absurd (cc)
       by_slot (Some cursor) is shows = (cursor, is, ap (λ o. unwrap_or o place) shows)
 
@@ -75,7 +81,12 @@ module _ {T : Type 0} where
     pub entered : (key : ℕ) (cursor : Cursor) → cursor_at slots key ≡ Some cursor → 0 < count_at c.cells cursor.at.number
     entered key cursor found =
         let held = ready.held key cursor found in
-        omega (arith, ready.counts cursor.at.number, stands_in n cursor.at.number slots key cursor found, weight-here n cursor.at.number cursor (sym held.number))
+        omega (
+          arith,
+          ready.counts cursor.at.number,
+          stands_in n cursor.at.number slots key cursor found,
+          weight-here n cursor.at.number cursor (sym held.number),
+        )
 
     -- the first kept chunk is no later than that of the end
     pub given-le_end : c.given ≤ end_of n c / n
@@ -115,11 +126,16 @@ module _ {T : Type 0} where
 
         high : (c.given < end_of n c / n) ⊎ (end_of n c / n ≤ c.given) → n * (least (end_of n c) places / n) ≤ n * c.given
         high (inr past) =
-            omega (arith, chunk_start-le n (least (end_of n c) places) (end_of n c) (least-le_end (end_of n c) places), mul-le-mul_left n past)
+            omega (
+              arith,
+              chunk_start-le n (least (end_of n c) places) (end_of n c) (least-le_end (end_of n c) places),
+              mul-le-mul_left n past,
+            )
         high (inl before) = elim (cases_eq (count_at c.cells c.given) 0) [
           | inl bare ↦
               let idle : is_idle n c ≡ true =
-              ap (λ b. b && (count_at c.cells c.given == 0)) (lt-ltb c.given (end_of n c / n) before) ∙ eq-eqb (count_at c.cells c.given) 0 bare in
+              ap (λ b. b && (count_at c.cells c.given == 0)) (lt-ltb c.given (end_of n c / n) before)
+              ∙ eq-eqb (count_at c.cells c.given) 0 bare in
               absurd (let busy = busy in cc)
           | inr some ↦
               let found = standing_found n c.given slots (omega (arith, some, ready.counts c.given)) in
@@ -202,7 +218,8 @@ module _ {T : Type 0} where
                 record {
                   number = held.number;
                   kept = held.kept;
-                  lies = lies-recounted c.cells cursor.at.number cursor.at.at (count_at c.cells cursor.at.number - 1) mine.lies standing_cursor.at.number standing_cursor.at.at held.lies;
+                  lies = lies-recounted c.cells cursor.at.number cursor.at.at
+                      (count_at c.cells cursor.at.number - 1) mine.lies standing_cursor.at.number standing_cursor.at.at held.lies;
                   within = held.within;
                 };
             counts = λ number. counted number (cases_eq number cursor.at.number);
@@ -214,11 +231,14 @@ module _ {T : Type 0} where
           still_there : (other : ℕ) (held : Cursor) → cursor_at (set slots key None) other ≡ Some held → cursor_at slots other ≡ Some held
           still_there other held seen = elim (cases_eq other key) [
             | inl equal ↦
-                absurd (let none = get_or-set_same slots key None None (key_within slots key cursor found) in let here : cursor_at (set slots key None) key ≡ Some held = ap (cursor_at (set slots key None)) (sym equal) ∙ seen in cc)
+                absurd (let none = get_or-set_same slots key None None (key_within slots key cursor found) in
+                let here : cursor_at (set slots key None) key ≡ Some held = ap (cursor_at (set slots key None)) (sym equal) ∙ seen in cc)
             | inr differs ↦ sym (get_or-set_other slots key other None None differs) ∙ seen
           ]
 
-          counted : (number : ℕ) → (number ≡ cursor.at.number) ⊎ (number ≢ cursor.at.number) → count_at (set c.cells cursor.at.number (Some (cursor.at.at, count_at c.cells cursor.at.number - 1))) number ≡ standing n number (set slots key None)
+          counted : (number : ℕ) → (number ≡ cursor.at.number) ⊎ (number ≢ cursor.at.number)
+              → count_at (set c.cells cursor.at.number (Some (cursor.at.at, count_at c.cells cursor.at.number - 1))) number
+              ≡ standing n number (set slots key None)
           counted number (inl equal) =
               let here = count-here c.cells cursor.at.number cursor.at.at (count_at c.cells cursor.at.number - 1) mine.lies in
               let fewer = standing-set n cursor.at.number slots key cursor None found in
@@ -227,20 +247,23 @@ module _ {T : Type 0} where
               ∙ omega (arith, here, fewer, one, ready.counts cursor.at.number)
               ∙ ap (λ m. standing n m (set slots key None)) (sym equal)
           counted number (inr differs) =
-              let other = count-other c.cells cursor.at.number cursor.at.at (count_at c.cells cursor.at.number - 1) mine.lies number differs in
+              let other =
+              count-other c.cells cursor.at.number cursor.at.at (count_at c.cells cursor.at.number - 1) mine.lies number differs in
               let fewer = standing-set n number slots key cursor None found in
               let none = weight-elsewhere n number cursor (λ same. differs (sym same ∙ sym mine.number)) in
               omega (arith, other, fewer, none, ready.counts number)
 
 -- given back chunks show the log trimmed
-pub shown-passed : {T : Type 0} (n : ℕ) (before after : Chunks T) (slots : List (Option Cursor)) → IsHeld n after slots → is_idle n after ≡ false → Passed n before after → log_of n after slots ≡ trimmed n (log_of n before slots)
+pub shown-passed : {T : Type 0} (n : ℕ) (before after : Chunks T) (slots : List (Option Cursor)) → IsHeld n after slots
+    → is_idle n after ≡ false → Passed n before after → log_of n after slots ≡ trimmed n (log_of n before slots)
 shown-passed n before after slots ready busy went =
     let start : n * after.given ≡ chunk_start n (log_of n before slots) =
     trim_first n after slots ready busy ∙ ap (λ e. n * (least e (map place_in slots) / n)) went.end in
     let less : n * (after.given - before.given) ≡ chunk_start n (log_of n before slots) - n * before.given =
     product-less n before.given after.given went.later ∙ ap (λ s. s - n * before.given) start in
     ap (λ f. record { first = f; kept = after.items; places = map place_in slots }) start
-    ∙ ap (λ items. record { first = chunk_start n (log_of n before slots); kept = items; places = map place_in slots }) (went.items ∙ ap (λ m. drop m before.items) less)
+    ∙ ap (λ items. record { first = chunk_start n (log_of n before slots); kept = items; places = map place_in slots })
+    (went.items ∙ ap (λ m. drop m before.items) less)
 
 module _ {T : Type 0} (n : ℕ) (c : Chunks T) (slots : List (Option Cursor)) where
   -- a slot that changes is a place that changes
@@ -252,13 +275,16 @@ module _ {T : Type 0} (n : ℕ) (c : Chunks T) (slots : List (Option Cursor)) wh
   place_shown key cursor found = ap (λ o. unwrap_or o 0) (place_shows slots key ∙ ap place_in found)
 
 -- what a cursor reads is at its place
-pub peeked : {T : Type 0} (n : ℕ) (c : Chunks T) (cursor : Cursor) → HoldsChunk n c cursor → slice_get (drop (n * (cursor.at.number - c.given)) c.items) (cursor.place % n) ≡ slice_get (drop (cursor.place - n * c.given) c.items) 0
+pub peeked : {T : Type 0} (n : ℕ) (c : Chunks T) (cursor : Cursor) → HoldsChunk n c cursor
+    → slice_get (drop (n * (cursor.at.number - c.given)) c.items) (cursor.place % n)
+    ≡ slice_get (drop (cursor.place - n * c.given) c.items) 0
 peeked n c cursor held =
     slice_get-drop (cursor.place % n) (drop (n * (cursor.at.number - c.given)) c.items)
     ∙ ap (λ xs. slice_get xs 0) (drop-drop (cursor.place % n) (n * (cursor.at.number - c.given)) c.items)
     ∙ ap (λ m. slice_get (drop m c.items) 0) (sums (div-add-mod cursor.place n))
   where
-    sums : n * (cursor.place / n) + cursor.place % n ≡ cursor.place → n * (cursor.at.number - c.given) + cursor.place % n ≡ cursor.place - n * c.given
+    sums : n * (cursor.place / n) + cursor.place % n ≡ cursor.place
+        → n * (cursor.at.number - c.given) + cursor.place % n ≡ cursor.place - n * c.given
     sums whole =
         omega (arith, whole, product-less n c.given cursor.at.number held.kept, mul-le-mul_left n held.kept, ap (λ m. n * m) held.number)
 

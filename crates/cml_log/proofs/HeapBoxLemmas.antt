@@ -36,10 +36,12 @@ abbrev pub drops : Symbol → Dict
 drops s = impl (s ∷ []) (tcons (layout Passed) tnil) dnil
 
 abbrev pub on_heap : Symbol → (X : RattleType) → Laws X → Bx
-on_heap s X L = record { row = X; laws = L; al = record { row = Heap; laws = heap_laws.the_row_laws; g = ghosts; d = dict; drops = drops s } }
+on_heap s X L =
+    record { row = X; laws = L; al = record { row = Heap; laws = heap_laws.the_row_laws; g = ghosts; d = dict; drops = drops s } }
 
 module _ {M : Type 1} (𝓤 : Ura M) (𝓛 : Logic 𝓤) (𝓜 : Model 𝓤 𝓛.H) (𝓡 : Running 𝓤 𝓛.H 𝓜) where
-  pub allocates_met : Wired 𝓡.env allocates.code → Wired 𝓡.env deallocates.code → Wired 𝓡.env grows.code → Wired 𝓡.env shrinks.code → allocator.Met 𝓛 𝓜 𝓡 𝓡.env Passed ghosts dict
+  pub allocates_met : Wired 𝓡.env allocates.code → Wired 𝓡.env deallocates.code → Wired 𝓡.env grows.code → Wired 𝓡.env shrinks.code
+      → allocator.Met 𝓛 𝓜 𝓡 𝓡.env Passed ghosts dict
   allocates_met a d g s = passed 𝓡.env a d g s M 𝓤 𝓛 𝓜 𝓡
 
   pub drops_met : (s : Symbol) → Wired 𝓡.env (node ((s, function) ∷ []) [] end) → glue.Met 𝓛 𝓜 𝓡 𝓡.env Passed (drops s)

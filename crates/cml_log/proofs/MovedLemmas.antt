@@ -1,5 +1,6 @@
 -- Lemmas on a cursor that moves, and on one that is opened.
-use Rattle.std.proofs.Common.{◌≡◌, ◌≢◌, ◌⊎◌, ℕ, ◌+◌, ◌-◌, ◌*◌, ◌/◌, ◌%◌, ◌<◌, ◌≤◌, ◌&&◌, ◌==◌, true, false, List, set, Option, Some, None, refl, sym, ap, subst, ◌∙◌, inl, inr, arith}
+use Rattle.std.proofs.Common.{◌≡◌, ◌≢◌, ◌⊎◌, ℕ, ◌+◌, ◌-◌, ◌*◌, ◌/◌, ◌%◌, ◌<◌, ◌≤◌, ◌&&◌, ◌==◌, true, false, List, set, Option}
+use Rattle.std.proofs.Common.{Some, None, refl, sym, ap, subst, ◌∙◌, inl, inr, arith}
 use Rattle.std.proofs.Math.Nat.{mod-lt}
 use Rattle.std.proofs.lemmas.Bool.{cases_eq, lt-ltb, eq-eqb, false_from_ne_true}
 use Rattle.std.proofs.lemmas.Nat.{div-mul-add, mod-mul-add, div-add-mod'}
@@ -15,7 +16,8 @@ use Rattle.cml_log.proofs.CursorsLemmas.{key_within, place_shows, count-here, co
 pub next_in : (n place : ℕ) → 0 < n → (place + 1) % n ≢ 0 → (place + 1) / n ≡ place / n
 next_in n place some within = elim (cases_eq (place % n + 1) n) [
   | inl whole ↦ absurd (within (rest_none whole))
-  | inr part ↦ ap (λ m. m / n) (sym (one_more (div-add-mod' place n))) ∙ div-mul-add (place / n) n (place % n + 1) (omega (arith, mod-lt place some, part))
+  | inr part ↦ ap (λ m. m / n) (sym (one_more (div-add-mod' place n)))
+      ∙ div-mul-add (place / n) n (place % n + 1) (omega (arith, mod-lt place some, part))
 ]
   where
     one_more : place / n * n + place % n ≡ place → place / n * n + (place % n + 1) ≡ place + 1
@@ -35,7 +37,8 @@ next_begins n place some begins = elim (cases_eq (place % n + 1) n) [
   | inl whole ↦ ap (λ m. m / n) (sym (all whole (div-add-mod' place n))) ∙ div-mul-add (place / n + 1) n 0 some
   | inr part ↦
       let inside : place % n + 1 < n = omega (arith, mod-lt place some, part) in
-      let rest : (place + 1) % n ≡ place % n + 1 = ap (λ m. m % n) (sym (one_more (div-add-mod' place n))) ∙ mod-mul-add (place / n) n (place % n + 1) inside in
+      let rest : (place + 1) % n ≡ place % n + 1 = ap (λ m. m % n) (sym (one_more (div-add-mod' place n)))
+      ∙ mod-mul-add (place / n) n (place % n + 1) inside in
       absurd (omega (arith, rest, begins))
 ]
   where
@@ -54,16 +57,19 @@ module _ {T : Type 0} (n : ℕ) where
   busy_entered c some = false_from_ne_true (is_idle n c) (λ idle. omega (arith, some, idle_bare n c idle))
 
   -- nor is it after a cursor entered a chunk, if it wasn't before
-  pub busy_still : (c after : Chunks T) → is_idle n c ≡ false → after.given ≡ c.given → end_of n after ≡ end_of n c → count_at c.cells c.given ≤ count_at after.cells c.given → is_idle n after ≡ false
+  pub busy_still : (c after : Chunks T) → is_idle n c ≡ false → after.given ≡ c.given → end_of n after ≡ end_of n c
+      → count_at c.cells c.given ≤ count_at after.cells c.given → is_idle n after ≡ false
   busy_still c after busy given end more = false_from_ne_true (is_idle n after) (λ idle.
       let bare : count_at after.cells c.given ≡ 0 = ap (count_at after.cells) (sym given) ∙ idle_bare n after idle in
       let none : count_at c.cells c.given ≡ 0 = omega (arith, bare, more) in
       let before : c.given < end_of n c / n = subst (λ e. c.given < e / n) end (omega (arith, idle_before n after idle, given)) in
-      let was : is_idle n c ≡ true = ap (λ b. b && (count_at c.cells c.given == 0)) (lt-ltb c.given (end_of n c / n) before) ∙ eq-eqb (count_at c.cells c.given) 0 none in
+      let was : is_idle n c ≡ true = ap (λ b. b && (count_at c.cells c.given == 0)) (lt-ltb c.given (end_of n c / n) before)
+      ∙ eq-eqb (count_at c.cells c.given) 0 none in
       absurd (let still = busy in cc))
 
   -- how many links were followed says nothing of cursors
-  pub IsHeld-followed : (c : Chunks T) (slots : List (Option Cursor)) (followed : ℕ) → IsHeld n c slots → IsHeld n (record c { followed = followed }) slots
+  pub IsHeld-followed : (c : Chunks T) (slots : List (Option Cursor)) (followed : ℕ) → IsHeld n c slots
+      → IsHeld n (record c { followed = followed }) slots
   IsHeld-followed c slots followed ready =
       record {
         holds_one = ready.holds_one;
@@ -81,10 +87,12 @@ module _ {T : Type 0} (n : ℕ) where
       mine : HoldsChunk n c cursor
       mine = trim.is_held.held key cursor found
 
-      moved_or_still : (to : Cursor) (other : ℕ) (held : Cursor) → cursor_at (set slots key (Some to)) other ≡ Some held → (held ≡ to) ⊎ (cursor_at slots other ≡ Some held)
+      moved_or_still : (to : Cursor) (other : ℕ) (held : Cursor) → cursor_at (set slots key (Some to)) other ≡ Some held
+          → (held ≡ to) ⊎ (cursor_at slots other ≡ Some held)
       moved_or_still to other held seen = elim (cases_eq other key) [
         | inl equal ↦
-            let here : Some to ≡ Some held = sym (get_or-set_same slots key (Some to) None (key_within slots key cursor found)) ∙ ap (cursor_at (set slots key (Some to))) (sym equal) ∙ seen in
+            let here : Some to ≡ Some held = sym (get_or-set_same slots key (Some to) None (key_within slots key cursor found))
+            ∙ ap (cursor_at (set slots key (Some to))) (sym equal) ∙ seen in
             inl (ap (cursor_or held) (sym here))
         | inr differs ↦ inr (sym (get_or-set_other slots key other (Some to) None differs) ∙ seen)
       ]
@@ -93,7 +101,8 @@ module _ {T : Type 0} (n : ℕ) where
           cursor_or default None = default
           cursor_or default (Some held) = held
 
-      pub IsTrim-moved : (cursor.place + 1) % n ≢ 0 → IsTrim n c (set slots key (Some (record { at = cursor.at; place = cursor.place + 1 })))
+      pub IsTrim-moved : (cursor.place + 1) % n ≢ 0
+          → IsTrim n c (set slots key (Some (record { at = cursor.at; place = cursor.place + 1 })))
       IsTrim-moved inside =
           record {
             is_held = record {
@@ -119,7 +128,8 @@ module _ {T : Type 0} (n : ℕ) where
           by_case other held (inl equal) = subst (HoldsChunk n c) (sym equal) stays
           by_case other held (inr before) = trim.is_held.held other held before
 
-          counted : (number : ℕ) → (number ≡ cursor.at.number) ⊎ (number ≢ cursor.at.number) → standing n number slots ≡ standing n number (set slots key (Some to))
+          counted : (number : ℕ) → (number ≡ cursor.at.number) ⊎ (number ≢ cursor.at.number)
+              → standing n number slots ≡ standing n number (set slots key (Some to))
           counted number (inl equal) =
               let was = weight-here n number cursor (sym mine.number ∙ sym equal) in
               let is = weight-here n number to (same_chunk ∙ sym mine.number ∙ sym equal) in
@@ -130,7 +140,8 @@ module _ {T : Type 0} (n : ℕ) where
               omega (arith, standing-set n number slots key cursor (Some to) found, was, is)
 
       -- or into the next
-      module _ (next : Address) (begins : (cursor.place + 1) % n ≡ 0) (numbered : next.number ≡ cursor.at.number + 1) (lies : LiesAt c.cells next.number next.at) where
+      module _ (next : Address) (begins : (cursor.place + 1) % n ≡ 0) (numbered : next.number ≡ cursor.at.number + 1)
+          (lies : LiesAt c.cells next.number next.at) where
         abbrev pub stepped : Cursor
         stepped = record { at = next; place = cursor.place + 1 }
 
@@ -141,7 +152,8 @@ module _ {T : Type 0} (n : ℕ) where
         stood = with_count left next.number next.at (count_at left.cells next.number + 1)
 
         pub lies_left : LiesAt left.cells next.number next.at
-        lies_left = lies-recounted c.cells cursor.at.number cursor.at.at (count_at c.cells cursor.at.number - 1) mine.lies next.number next.at lies
+        lies_left =
+            lies-recounted c.cells cursor.at.number cursor.at.at (count_at c.cells cursor.at.number - 1) mine.lies next.number next.at lies
 
         apart : next.number ≢ cursor.at.number
         apart equal = omega (arith, equal, numbered)
@@ -167,12 +179,18 @@ module _ {T : Type 0} (n : ℕ) where
             by_case : (other : ℕ) (held : Cursor) → (held ≡ stepped) ⊎ (cursor_at slots other ≡ Some held) → HoldsChunk n stood held
             by_case other held (inl equal) =
                 subst (HoldsChunk n stood) (sym equal)
-                (record { number = sym in_next; kept = omega (arith, mine.kept, numbered); lies = still next.number next.at lies; within = below })
+                (record {
+                  number = sym in_next;
+                  kept = omega (arith, mine.kept, numbered);
+                  lies = still next.number next.at lies;
+                  within = below;
+                })
             by_case other held (inr before) =
                 let was = trim.is_held.held other held before in
                 record { number = was.number; kept = was.kept; lies = still held.at.number held.at.at was.lies; within = was.within }
 
-            counted : (number : ℕ) → (number ≡ cursor.at.number) ⊎ (number ≢ cursor.at.number) → (number ≡ next.number) ⊎ (number ≢ next.number) → count_at stood.cells number ≡ standing n number (set slots key (Some stepped))
+            counted : (number : ℕ) → (number ≡ cursor.at.number) ⊎ (number ≢ cursor.at.number) → (number ≡ next.number)
+                ⊎ (number ≢ next.number) → count_at stood.cells number ≡ standing n number (set slots key (Some stepped))
             counted number (inl old) (inl new) = absurd (apart (sym new ∙ old))
             counted number (inl old) (inr other) =
                 let there = count-other left.cells next.number next.at (count_at left.cells next.number + 1) lies_left number other in
@@ -185,7 +203,8 @@ module _ {T : Type 0} (n : ℕ) where
                 omega (arith, there, here, was, is, before, same, counted_old, standing-set n number slots key cursor (Some stepped) found)
             counted number (inr other) (inl new) =
                 let here = count-here left.cells next.number next.at (count_at left.cells next.number + 1) lies_left in
-                let there = count-other c.cells cursor.at.number cursor.at.at (count_at c.cells cursor.at.number - 1) mine.lies next.number apart in
+                let there =
+                count-other c.cells cursor.at.number cursor.at.at (count_at c.cells cursor.at.number - 1) mine.lies next.number apart in
                 let was = weight-elsewhere n number cursor (λ same. other (sym same ∙ sym mine.number)) in
                 let is = weight-here n number stepped (in_next ∙ sym new) in
                 let before = trim.is_held.counts number in
@@ -194,7 +213,8 @@ module _ {T : Type 0} (n : ℕ) where
                 omega (arith, here, there, was, is, before, same, counted_old, standing-set n number slots key cursor (Some stepped) found)
             counted number (inr other) (inr further) =
                 let there = count-other left.cells next.number next.at (count_at left.cells next.number + 1) lies_left number further in
-                let here = count-other c.cells cursor.at.number cursor.at.at (count_at c.cells cursor.at.number - 1) mine.lies number other in
+                let here =
+                count-other c.cells cursor.at.number cursor.at.at (count_at c.cells cursor.at.number - 1) mine.lies number other in
                 let was = weight-elsewhere n number cursor (λ same. other (sym same ∙ sym mine.number)) in
                 let is = weight-elsewhere n number stepped (λ same. further (sym same ∙ in_next)) in
                 omega (arith, there, here, was, is, trim.is_held.counts number, standing-set n number slots key cursor (Some stepped) found)
@@ -206,7 +226,8 @@ module _ {T : Type 0} (n : ℕ) where
           | inr other ↦
               let further : c.given ≢ next.number = λ equal. omega (arith, equal, numbered, mine.kept) in
               let there = count-other left.cells next.number next.at (count_at left.cells next.number + 1) lies_left c.given further in
-              let here = count-other c.cells cursor.at.number cursor.at.at (count_at c.cells cursor.at.number - 1) mine.lies c.given other in
+              let here =
+              count-other c.cells cursor.at.number cursor.at.at (count_at c.cells cursor.at.number - 1) mine.lies c.given other in
               let busy = busy_still c stood trim.trim refl refl (omega (arith, there, here)) in
               absurd (let still = idle in cc)
         ]
@@ -219,8 +240,10 @@ module _ {T : Type 0} (n : ℕ) where
 
         pub IsTrim-given : is_idle n stood ≡ true → IsTrim n (passed n stood) (set slots key (Some stepped))
         IsTrim-given idle =
-            let held = IsHeld-followed given_on (set slots key (Some stepped)) stood.followed (IsHeld-passed n stood (set slots key (Some stepped)) IsHeld-stepped given_on (Passed-stepped idle)) in
-            let some = entered n (passed n stood) (set slots key (Some stepped)) held key stepped (get_or-set_same slots key (Some stepped) None (key_within slots key cursor found)) in
+            let held = IsHeld-followed given_on (set slots key (Some stepped)) stood.followed
+            (IsHeld-passed n stood (set slots key (Some stepped)) IsHeld-stepped given_on (Passed-stepped idle)) in
+            let some = entered n (passed n stood) (set slots key (Some stepped)) held key stepped
+            (get_or-set_same slots key (Some stepped) None (key_within slots key cursor found)) in
             let head : next.number ≡ stood.given + 1 = omega (arith, numbered, idle_left idle) in
             record {
               is_held = held;
@@ -228,7 +251,8 @@ module _ {T : Type 0} (n : ℕ) where
             }
 
     -- a cursor is opened in its chunk
-    module _ (new : List (Option Cursor)) (key : ℕ) (cursor : Cursor) (holds : HoldsChunk n c cursor) (vacant : cursor_at slots key ≡ None) (opened : cursor_at new key ≡ Some cursor) (others : (other : ℕ) → other ≢ key → cursor_at new other ≡ cursor_at slots other) where
+    module _ (new : List (Option Cursor)) (key : ℕ) (cursor : Cursor) (holds : HoldsChunk n c cursor) (vacant : cursor_at slots key ≡ None)
+        (opened : cursor_at new key ≡ Some cursor) (others : (other : ℕ) → other ≢ key → cursor_at new other ≡ cursor_at slots other) where
       abbrev pub joined : Chunks T
       joined = with_count c cursor.at.number cursor.at.at (count_at c.cells cursor.at.number + 1)
 
@@ -245,7 +269,8 @@ module _ {T : Type 0} (n : ℕ) where
                     subst (HoldsChunk n joined) (ap (cursor_or held) here) (widened cursor holds)
                 | inr differs ↦ widened held (trim.is_held.held other held (sym (others other differs) ∙ seen))
               ];
-              counts = λ number. counted number (cases_eq number cursor.at.number) ∙ sym (standing-opened n number slots new key cursor vacant opened others);
+              counts = λ number. counted number (cases_eq number cursor.at.number)
+                  ∙ sym (standing-opened n number slots new key cursor vacant opened others);
             };
             trim = busy_still c joined trim.trim refl refl (grown (cases_eq c.given cursor.at.number));
           }
@@ -256,15 +281,23 @@ module _ {T : Type 0} (n : ℕ) where
 
           widened : (held : Cursor) → HoldsChunk n c held → HoldsChunk n joined held
           widened held was =
-              record { number = was.number; kept = was.kept; lies = lies-recounted c.cells cursor.at.number cursor.at.at (count_at c.cells cursor.at.number + 1) holds.lies held.at.number held.at.at was.lies; within = was.within }
+              record {
+                number = was.number;
+                kept = was.kept;
+                lies = lies-recounted c.cells cursor.at.number cursor.at.at
+                    (count_at c.cells cursor.at.number + 1) holds.lies held.at.number held.at.at was.lies;
+                within = was.within;
+              }
 
-          counted : (number : ℕ) → (number ≡ cursor.at.number) ⊎ (number ≢ cursor.at.number) → count_at joined.cells number ≡ standing n number slots + weight n number (Some cursor)
+          counted : (number : ℕ) → (number ≡ cursor.at.number) ⊎ (number ≢ cursor.at.number)
+              → count_at joined.cells number ≡ standing n number slots + weight n number (Some cursor)
           counted number (inl equal) =
               let here = count-here c.cells cursor.at.number cursor.at.at (count_at c.cells cursor.at.number + 1) holds.lies in
               let one = weight-here n number cursor (sym holds.number ∙ sym equal) in
               omega (arith, ap (count_at joined.cells) equal, here, one, trim.is_held.counts number, ap (count_at c.cells) equal)
           counted number (inr differs) =
-              let other = count-other c.cells cursor.at.number cursor.at.at (count_at c.cells cursor.at.number + 1) holds.lies number differs in
+              let other =
+              count-other c.cells cursor.at.number cursor.at.at (count_at c.cells cursor.at.number + 1) holds.lies number differs in
               let none = weight-elsewhere n number cursor (λ same. differs (sym same ∙ sym holds.number)) in
               omega (arith, other, none, trim.is_held.counts number)
 
@@ -273,7 +306,10 @@ module _ {T : Type 0} (n : ℕ) where
               let here = count-here c.cells cursor.at.number cursor.at.at (count_at c.cells cursor.at.number + 1) holds.lies in
               omega (arith, here, ap (count_at joined.cells) equal, ap (count_at c.cells) equal)
           grown (inr differs) =
-              omega (arith, count-other c.cells cursor.at.number cursor.at.at (count_at c.cells cursor.at.number + 1) holds.lies c.given differs)
+              omega (
+                arith,
+                count-other c.cells cursor.at.number cursor.at.at (count_at c.cells cursor.at.number + 1) holds.lies c.given differs,
+              )
 
       pub Opens-shown : Opens (log_of n c slots) (log_of n joined new) key cursor.place
       Opens-shown =

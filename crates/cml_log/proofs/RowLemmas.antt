@@ -1,5 +1,6 @@
 -- Lemmas on the places of a row.
-use Rattle.std.proofs.Common.{◌≡◌, ℕ, zero, suc, ◌<◌, List, [], ◌∷◌, ◌++◌, length, set, get_or, Option, Some, None, refl, sym, ap, ◌∙◌, subst, arith}
+use Rattle.std.proofs.Common.{◌≡◌, ℕ, zero, suc, ◌<◌, List, [], ◌∷◌, ◌++◌, length, set, get_or, Option, Some, None}
+use Rattle.std.proofs.Common.{refl, sym, ap, ◌∙◌, subst, arith}
 use Rattle.std.specs.List.{slice_get}
 use Rattle.std.proofs.lemmas.List.{length-set}
 use Rattle.cml_log.specs.Prelude.{written, IsBlank, IsFilled, IsRow}
@@ -21,10 +22,13 @@ module _ {T : Type 0} where
   written-blank (None ∷ rest) blank = refl
   written-blank (Some item ∷ rest) blank = absurd blank
 
-  pub IsRow-none : (count : ℕ) (places : List (Option T)) → length places ≡ count → ((slot : ℕ) → slot < count → get_or places slot None ≡ None) → IsRow count places
-  IsRow-none count places long none = (long, IsFilled-blank places (IsBlank-from places (λ slot inside. none slot (omega (arith, inside, long)))))
+  pub IsRow-none : (count : ℕ) (places : List (Option T)) → length places ≡ count
+      → ((slot : ℕ) → slot < count → get_or places slot None ≡ None) → IsRow count places
+  IsRow-none count places long none =
+      (long, IsFilled-blank places (IsBlank-from places (λ slot inside. none slot (omega (arith, inside, long)))))
 
-  pub written-none : (count : ℕ) (places : List (Option T)) → length places ≡ count → ((slot : ℕ) → slot < count → get_or places slot None ≡ None) → written places ≡ []
+  pub written-none : (count : ℕ) (places : List (Option T)) → length places ≡ count
+      → ((slot : ℕ) → slot < count → get_or places slot None ≡ None) → written places ≡ []
   written-none count places long none = written-blank places (IsBlank-from places (λ slot inside. none slot (omega (arith, inside, long))))
 
   -- the first place that isn't written is
@@ -32,20 +36,24 @@ module _ {T : Type 0} where
       → written (set places (length (written places)) (Some item)) ≡ written places ++ item ∷ []
   written-first [] item inside filled = absurd (omega (arith, inside))
   written-first (None ∷ rest) item inside filled = ap (λ items. item ∷ items) (written-blank rest filled)
-  written-first (Some first ∷ rest) item inside filled = ap (λ items. first ∷ items) (written-first rest item (omega (arith, inside)) filled)
+  written-first (Some first ∷ rest) item inside filled =
+      ap (λ items. first ∷ items) (written-first rest item (omega (arith, inside)) filled)
 
   IsFilled-first : (places : List (Option T)) (item : T) → IsFilled places → IsFilled (set places (length (written places)) (Some item))
   IsFilled-first [] item filled = tt
   IsFilled-first (None ∷ rest) item filled = IsFilled-blank rest filled
   IsFilled-first (Some first ∷ rest) item filled = IsFilled-first rest item filled
 
-  pub written-next : (count slot : ℕ) (places : List (Option T)) (items : List T) (item : T) → IsRow count places → written places ≡ items → slot ≡ length items → slot < count
+  pub written-next : (count slot : ℕ) (places : List (Option T)) (items : List T) (item : T) → IsRow count places → written places ≡ items
+      → slot ≡ length items → slot < count
       → written (set places slot (Some item)) ≡ items ++ item ∷ []
   written-next count slot places items item row shown next within =
       let here : slot ≡ length (written places) = next ∙ ap length (sym shown) in
-      ap (λ n. written (set places n (Some item))) here ∙ written-first places item (omega (arith, here, within, row.0)) row.1 ∙ ap (λ xs. xs ++ item ∷ []) shown
+      ap (λ n. written (set places n (Some item))) here ∙ written-first places item (omega (arith, here, within, row.0)) row.1
+      ∙ ap (λ xs. xs ++ item ∷ []) shown
 
-  pub IsRow-next : (count slot : ℕ) (places : List (Option T)) (items : List T) (item : T) → IsRow count places → written places ≡ items → slot ≡ length items
+  pub IsRow-next : (count slot : ℕ) (places : List (Option T)) (items : List T) (item : T) → IsRow count places
+      → written places ≡ items → slot ≡ length items
       → IsRow count (set places slot (Some item))
   IsRow-next count slot places items item row shown next =
       let here : length (written places) ≡ slot = ap length shown ∙ sym next in

@@ -1,5 +1,6 @@
 -- Lemmas on how many cursors are in a chunk.
-use Rattle.std.proofs.Common.{◌≡◌, ◌≢◌, ℕ, zero, suc, ◌+◌, ◌/◌, ◌<◌, ◌≤◌, ◌==◌, cond, Bool, true, false, List, [], ◌∷◌, set, count_by, is_some, Option, Some, None, refl, ap, arith}
+use Rattle.std.proofs.Common.{◌≡◌, ◌≢◌, ℕ, zero, suc, ◌+◌, ◌/◌, ◌<◌, ◌≤◌, ◌==◌, cond, Bool, true, false, List, [], ◌∷◌, set}
+use Rattle.std.proofs.Common.{count_by, is_some, Option, Some, None, refl, ap, arith}
 use Rattle.std.proofs.lemmas.Bool.{eqb-true, eq-eqb, ne_eqb}
 use Rattle.std.proofs.lemmas.List.Recursion.{is_count_by}
 use Rattle.cml_log.specs.Prelude.{Cursor, cursor_at, weight, standing}
@@ -13,7 +14,8 @@ open_count (Some cursor ∷ rest) = 1 + open_count rest
 open_count-is : (slots : List (Option Cursor)) → open_count slots ≡ count_by is_some slots
 open_count-is = is_count_by open_count is_some refl counts
   where
-    counts : (slot : Option Cursor) (rest : List (Option Cursor)) → open_count (slot ∷ rest) ≡ cond (is_some slot) (1 + open_count rest) (open_count rest)
+    counts : (slot : Option Cursor) (rest : List (Option Cursor))
+        → open_count (slot ∷ rest) ≡ cond (is_some slot) (1 + open_count rest) (open_count rest)
     counts None rest = refl
     counts (Some cursor) rest = refl
 
@@ -27,33 +29,40 @@ module _ (chunk number : ℕ) where
       by false = omega arith
 
   -- a cursor is counted in its chunk
-  pub stands_in : (slots : List (Option Cursor)) (key : ℕ) (cursor : Cursor) → cursor_at slots key ≡ Some cursor → weight chunk number (Some cursor) ≤ standing chunk number slots
+  pub stands_in : (slots : List (Option Cursor)) (key : ℕ) (cursor : Cursor) → cursor_at slots key ≡ Some cursor
+      → weight chunk number (Some cursor) ≤ standing chunk number slots
   stands_in [] key cursor found = absurd (cc)
   stands_in (slot ∷ rest) zero cursor found =
       omega (arith, ap (weight chunk number) found)
   stands_in (slot ∷ rest) (suc key) cursor found = omega (arith, stands_in rest key cursor found)
 
   -- where a chunk counts a cursor there is one
-  pub standing_found : (slots : List (Option Cursor)) → 0 < standing chunk number slots → (key : ℕ) × (cursor : Cursor) × (cursor_at slots key ≡ Some cursor) × (cursor.place / chunk ≡ number)
+  pub standing_found : (slots : List (Option Cursor)) → 0 < standing chunk number slots
+      → (key : ℕ) × (cursor : Cursor) × (cursor_at slots key ≡ Some cursor) × (cursor.place / chunk ≡ number)
   standing_found [] some = absurd (omega (arith, some))
   standing_found (None ∷ rest) some =
       let found = standing_found rest (omega (arith, some)) in (suc found.0, found.1, found.2, found.3)
   standing_found (Some cursor ∷ rest) some = by (cursor.place / chunk == number) refl (standing_found rest)
     where
-      by : (test : Bool) → (cursor.place / chunk == number) ≡ test → (0 < standing chunk number rest → (key : ℕ) × (held : Cursor) × (cursor_at rest key ≡ Some held) × (held.place / chunk ≡ number)) → (key : ℕ) × (held : Cursor) × (cursor_at (Some cursor ∷ rest) key ≡ Some held) × (held.place / chunk ≡ number)
+      by : (test : Bool) → (cursor.place / chunk == number) ≡ test → (0 < standing chunk number rest
+          → (key : ℕ) × (held : Cursor) × (cursor_at rest key ≡ Some held) × (held.place / chunk ≡ number))
+          → (key : ℕ) × (held : Cursor) × (cursor_at (Some cursor ∷ rest) key ≡ Some held) × (held.place / chunk ≡ number)
       by true is later = (0, cursor, refl, eqb-true (cursor.place / chunk) number is)
       by false is later =
           let none : weight chunk number (Some cursor) ≡ 0 = ap {B = ℕ} (λ b. cond b 1 0) is in
           let found = later (omega (arith, some, none)) in (suc found.0, found.1, found.2, found.3)
 
   -- changing a slot changes the count by the two weights
-  pub standing-set : (slots : List (Option Cursor)) (key : ℕ) (cursor : Cursor) (slot : Option Cursor) → cursor_at slots key ≡ Some cursor → standing chunk number (set slots key slot) + weight chunk number (Some cursor) ≡ standing chunk number slots + weight chunk number slot
+  pub standing-set : (slots : List (Option Cursor)) (key : ℕ) (cursor : Cursor) (slot : Option Cursor) → cursor_at slots key ≡ Some cursor
+      → standing chunk number (set slots key slot) + weight chunk number (Some cursor)
+      ≡ standing chunk number slots + weight chunk number slot
   standing-set [] key cursor slot found = absurd (cc)
   standing-set (here ∷ rest) zero cursor slot found = omega (arith, ap (weight chunk number) found)
   standing-set (here ∷ rest) (suc key) cursor slot found = omega (arith, standing-set rest key cursor slot found)
 
   -- slots that show the same under each key count the same
-  pub standing-same : (some other : List (Option Cursor)) → ((key : ℕ) → cursor_at some key ≡ cursor_at other key) → standing chunk number some ≡ standing chunk number other
+  pub standing-same : (some other : List (Option Cursor)) → ((key : ℕ) → cursor_at some key ≡ cursor_at other key)
+      → standing chunk number some ≡ standing chunk number other
   standing-same [] [] same = refl
   standing-same [] (slot ∷ rest) same =
       omega (arith, ap (weight chunk number) (same 0), standing-same [] rest (λ key. same (suc key)))
@@ -63,16 +72,31 @@ module _ (chunk number : ℕ) where
       omega (arith, ap (weight chunk number) (same 0), standing-same rest others (λ key. same (suc key)))
 
   -- one cursor more is counted once more
-  pub standing-opened : (old new : List (Option Cursor)) (key : ℕ) (cursor : Cursor) → cursor_at old key ≡ None → cursor_at new key ≡ Some cursor → ((other : ℕ) → other ≢ key → cursor_at new other ≡ cursor_at old other) → standing chunk number new ≡ standing chunk number old + weight chunk number (Some cursor)
+  pub standing-opened : (old new : List (Option Cursor)) (key : ℕ) (cursor : Cursor) → cursor_at old key ≡ None
+      → cursor_at new key ≡ Some cursor → ((other : ℕ) → other ≢ key → cursor_at new other ≡ cursor_at old other)
+      → standing chunk number new ≡ standing chunk number old + weight chunk number (Some cursor)
   standing-opened old [] key cursor vacant opened others = absurd (cc)
   standing-opened [] (slot ∷ rest) zero cursor vacant opened others =
       omega (arith, ap (weight chunk number) opened, standing-same rest [] (λ key. others (suc key) (λ e. omega (arith, e))))
   standing-opened (was ∷ before) (slot ∷ rest) zero cursor vacant opened others =
-      omega (arith, ap (weight chunk number) opened, ap (weight chunk number) vacant, standing-same rest before (λ key. others (suc key) (λ e. omega (arith, e))))
+      omega (
+        arith,
+        ap (weight chunk number) opened,
+        ap (weight chunk number) vacant,
+        standing-same rest before (λ key. others (suc key) (λ e. omega (arith, e))),
+      )
   standing-opened [] (slot ∷ rest) (suc key) cursor vacant opened others =
-      omega (arith, ap (weight chunk number) (others 0 (λ e. omega (arith, e))), standing-opened [] rest key cursor vacant opened (λ other differs. others (suc other) (λ e. differs (omega (arith, e)))))
+      omega (
+        arith,
+        ap (weight chunk number) (others 0 (λ e. omega (arith, e))),
+        standing-opened [] rest key cursor vacant opened (λ other differs. others (suc other) (λ e. differs (omega (arith, e)))),
+      )
   standing-opened (was ∷ before) (slot ∷ rest) (suc key) cursor vacant opened others =
-      omega (arith, ap (weight chunk number) (others 0 (λ e. omega (arith, e))), standing-opened before rest key cursor vacant opened (λ other differs. others (suc other) (λ e. differs (omega (arith, e)))))
+      omega (
+        arith,
+        ap (weight chunk number) (others 0 (λ e. omega (arith, e))),
+        standing-opened before rest key cursor vacant opened (λ other differs. others (suc other) (λ e. differs (omega (arith, e)))),
+      )
 
   -- a chunk counts no more cursors than there are
   pub standing-le : (slots : List (Option Cursor)) → standing chunk number slots ≤ count_by is_some slots
@@ -84,7 +108,8 @@ module _ (chunk number : ℕ) where
       below (Some cursor ∷ rest) = omega (arith, below rest, weight-le (Some cursor))
 
   -- and fewer where one is elsewhere
-  pub standing-lt : (slots : List (Option Cursor)) (key : ℕ) (cursor : Cursor) → cursor_at slots key ≡ Some cursor → weight chunk number (Some cursor) ≡ 0 → standing chunk number slots + 1 ≤ count_by is_some slots
+  pub standing-lt : (slots : List (Option Cursor)) (key : ℕ) (cursor : Cursor) → cursor_at slots key ≡ Some cursor
+      → weight chunk number (Some cursor) ≡ 0 → standing chunk number slots + 1 ≤ count_by is_some slots
   standing-lt slots key cursor found none = omega (arith, below slots key found, open_count-is slots)
     where
       at_most : (slots : List (Option Cursor)) → standing chunk number slots ≤ open_count slots
@@ -92,7 +117,8 @@ module _ (chunk number : ℕ) where
       at_most (None ∷ rest) = omega (arith, at_most rest)
       at_most (Some other ∷ rest) = omega (arith, at_most rest, weight-le (Some other))
 
-      below : (slots : List (Option Cursor)) (key : ℕ) → cursor_at slots key ≡ Some cursor → standing chunk number slots + 1 ≤ open_count slots
+      below : (slots : List (Option Cursor)) (key : ℕ) → cursor_at slots key ≡ Some cursor
+          → standing chunk number slots + 1 ≤ open_count slots
       below [] key found = absurd (cc)
       below (None ∷ rest) zero found = absurd (cc)
       below (Some other ∷ rest) zero found = omega (arith, at_most rest, ap (weight chunk number) found, none)

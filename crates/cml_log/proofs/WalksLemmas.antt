@@ -11,9 +11,11 @@ pub use base.Logic.{SProp, ent, sep, emp, never, id⊢, fst∗}
 pub use base.Fml.{GName, Fml, ftrue, fsep, fat, flft}
 pub use prog.Wp.{WpFn}
 pub use types.Logic.{Logic, sem}
-pub use types.Kit.{‵, raw, ◌⊛◌, some, later, at_ret, ◌$◌, ◌∵◌, !, qed, by, move, keep, drop, split, split3, join, group, fsplit, fsplit3, fjoin, fjoin3, fpick, fpack, pick, use0, use1, use2, await, rewrite, feq_i, feq_l, flt_i, suffices, done}
+pub use types.Kit.{‵, raw, ◌⊛◌, some, later, at_ret, ◌$◌, ◌∵◌, !, qed, by, move, keep, drop, split, split3, join, group, fsplit, fsplit3}
+pub use types.Kit.{fjoin, fjoin3, fpick, fpack, pick, use0, use1, use2, await, rewrite, feq_i, feq_l, flt_i, suffices, done}
 pub use types.Run.{stop, fld, addr, unit_lit, of_opd, no_more, and_then, first, blocks, exec, returns, enter}
-pub use types.ByLocal.{alloc_all, pass_all, free_all, look_at, get, get_in, through, sets, sets_last, lands_as, lands_last, take_at, give_at, env}
+pub use types.ByLocal.{alloc_all, pass_all, free_all, look_at, get, get_in, through, sets, sets_last, lands_as}
+pub use types.ByLocal.{lands_last, take_at, give_at, env}
 pub use types.Part.{agg, sub, whole}
 pub use contract.Running.{tables}
 pub use contract.Monad.{fact, fact_i}

@@ -1,5 +1,6 @@
 -- What a contract sees of a log in chunks, and what holds of its fields.
-use Rattle.std.specs.Prelude.{◌≡◌, ℕ, ◌+◌, ◌*◌, ◌/◌, ◌<◌, ◌≤◌, ◌==◌, cond, false, List, [], ◌∷◌, map, Option, Some, None, slice_index_or, refl}
+use Rattle.std.specs.Prelude.{◌≡◌, ℕ, ◌+◌, ◌*◌, ◌/◌, ◌<◌, ◌≤◌, ◌==◌, cond, false, List, [], ◌∷◌, map, Option, Some}
+use Rattle.std.specs.Prelude.{None, slice_index_or, refl}
 use Rattle.std.specs.Coded.{Coded, code_by, coded×, coded_ℕ}
 use Rattle.cml_log.specs.declared.chunk_log.Cursor.{Cursor}
 use Rattle.cml_log.specs.Log.{Log, log_code}

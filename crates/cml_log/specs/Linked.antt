@@ -14,7 +14,8 @@ module _ {T : Type 0} {N : ℕ} where
     pub starts : (chunk : Chunk T N) × (block_at kept head.number ≡ Some (head.at, chunk))
     pub finishes : (chunk : Chunk T N) × (block_at kept tail.number ≡ Some (tail.at, chunk))
     pub gone : (number : ℕ) → number < head.number → block_at kept number ≡ None
-    pub links : (number : ℕ) → head.number ≤ number → number < tail.number → (next : Address) × (chunk : Chunk T N) × (link_at kept number ≡ Some next) × (next.number ≡ number + 1) × (block_at kept next.number ≡ Some (next.at, chunk))
+    pub links : (number : ℕ) → head.number ≤ number → number < tail.number → (next : Address) × (chunk : Chunk T N)
+        × (link_at kept number ≡ Some next) × (next.number ≡ number + 1) × (block_at kept next.number ≡ Some (next.at, chunk))
     pub rows : (number : ℕ) → head.number ≤ number → row_at kept number ≡ take N (drop (N * (number - head.number)) (items_of kept))
 
   -- the chain ends at the tail, in the chunk of the next place, and the counts are those of its chunks

@@ -1,4 +1,5 @@
-ghost use Rattle.std.specs.Prelude.{◌≡◌, ℕ, ◌+◌, ◌-◌, ◌%◌, ◌<◌, ◌≤◌, ◌↔◌, Some, None, IsTrue, OnOk, OnErr, IfOk, IfErr, length, slice_get, slice_set, option_copied};
+ghost use Rattle.std.specs.Prelude.{◌≡◌, ℕ, ◌+◌, ◌-◌, ◌%◌, ◌<◌, ◌≤◌, ◌↔◌, Some, None, IsTrue, OnOk, OnErr, IfOk, IfErr};
+ghost use Rattle.std.specs.Prelude.{length, slice_get, slice_set, option_copied};
 ghost use Rattle.std.proofs.Common.{rules};
 ghost use Rattle.slab.specs.Slab.{ContainsKey};
 ghost use Rattle.cml_log.specs.Prelude.{chunk_of};

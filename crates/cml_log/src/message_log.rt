@@ -1,4 +1,5 @@
-ghost use Rattle.std.specs.Prelude.{◌≡◌, ℕ, ◌+◌, ◌-◌, ◌%◌, ◌<◌, ◌≤◌, ◌↔◌, Some, None, length, IsTrue, OnOk, OnErr, IfOk, IfErr, option_copied, slice_get};
+ghost use Rattle.std.specs.Prelude.{◌≡◌, ℕ, ◌+◌, ◌-◌, ◌%◌, ◌<◌, ◌≤◌, ◌↔◌, Some, None, length, IsTrue, OnOk, OnErr, IfOk};
+ghost use Rattle.std.specs.Prelude.{IfErr, option_copied, slice_get};
 ghost use Rattle.cml_log.specs.Prelude.{Log, empty_log, next_of, IsOpen, place_of, owed_items, cursor_count, chunk_count, chunk_start};
 ghost use Rattle.cml_log.specs.Prelude.{trimmed, with_item, with_place, Opens};
 

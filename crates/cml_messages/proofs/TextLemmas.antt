@@ -31,7 +31,8 @@ digits_are_bytes [] h = refl
 digits_are_bytes (b ∷ bs) h =
     let parts = and_parts (is_ascii_digit b) (all_ascii_digits bs) h in
     let digit = and_parts (nat_le 48 b) (nat_le b 57) parts.0 in
-    and_from _ _ (and_from _ _ (le-leb 33 b (omega (arith, leb-true 48 b digit.0))) (le-leb b 126 (omega (arith, leb-true b 57 digit.1)))) (digits_are_bytes bs parts.1)
+    and_from _ _ (and_from _ _ (le-leb 33 b (omega (arith, leb-true 48 b digit.0))) (le-leb b 126 (omega (arith, leb-true b 57 digit.1))))
+    (digits_are_bytes bs parts.1)
 
 pub number_is_text : (n : ℕ) → n < 2 ^ 64 → is_text (decimal n) ≡ true
 number_is_text n small =

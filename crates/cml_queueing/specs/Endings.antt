@@ -1,7 +1,8 @@
 -- How a simulation ends: its exit status, and whether standard error says so.
 use Rattle.std.specs.Prelude.{ℕ, Bool, true, false}
 use Rattle.cml_queueing.specs.declared.ending.Ending.{Ending}
-use Rattle.cml_queueing.specs.declared.ending.Ending.TheVariants.{Done, NoLoad, NoDecimal, Overload, TooLong, Refused, Unserved, WriteFault, NoMemory}
+use Rattle.cml_queueing.specs.declared.ending.Ending.TheVariants.{Done, NoLoad, NoDecimal, Overload, TooLong, Refused, Unserved}
+use Rattle.cml_queueing.specs.declared.ending.Ending.TheVariants.{WriteFault, NoMemory}
 
 abbrev pub status : Ending → ℕ
 status Done = 0

@@ -43,7 +43,8 @@ pub record ServesInOrder (place : Place) (served : ℕ) : Type 0 where
 
 -- this server received this customer from the line, and nothing else was called
 abbrev pub Receives : ℕ → Place → Place → ℕ → Type 0
-Receives server old new customer = new ≡ record old { history = (record { who = Seat server; call = Recv (record { 0 = 0 }); reply = Got customer }) ∷ old.history }
+Receives server old new customer =
+    new ≡ record old { history = (record { who = Seat server; call = Recv (record { 0 = 0 }); reply = Got customer }) ∷ old.history }
 
 -- the call was answered so
 abbrev pub IsAnsweredBy : Reply ℕ → Outcome ℕ → Type 0

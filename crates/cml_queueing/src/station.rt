@@ -124,7 +124,8 @@ impl Station {
 #[tactic(auto, using(crate::proofs::StationLemmas::begun, crate::proofs::StationLemmas::kept))]
 fn add_mailbox(servers: u64, board: &mut Board<u64, BoardLog<u64>>) -> Result<(), Ending>
     ensures first { board.old.history ≡ no_entries → OnOk result (IsStation (record { servers = servers; history = board.new.history })) }
-    ensures later { IsStation (record { servers = servers; history = board.old.history }) → IsStation (record { servers = servers; history = board.new.history }) }
+    ensures later { IsStation (record { servers = servers; history = board.old.history })
+        → IsStation (record { servers = servers; history = board.new.history }) }
 {
     match board.apply(DOOR, Call::NewMailbox) {
         Outcome::Answered(_) => Ok(()),

@@ -1,5 +1,6 @@
 -- Chains of links, as a link changes.
-use Rattle.std.proofs.Common.{◌≡◌, ◌≢◌, ℕ, zero, suc, ◌<◌, ◌≤◌, ◌||◌, eqb, true, false, List, [], ◌∷◌, ◌++◌, length, slice_get, slice_set, Option, Some, None, refl, sym, ap, subst, inl, inr, ◌∙◌, arith, eq-eqb, ne_eqb}
+use Rattle.std.proofs.Common.{◌≡◌, ◌≢◌, ℕ, zero, suc, ◌<◌, ◌≤◌, ◌||◌, eqb, true, false, List, [], ◌∷◌, ◌++◌, length, slice_get}
+use Rattle.std.proofs.Common.{slice_set, Option, Some, None, refl, sym, ap, subst, inl, inr, ◌∙◌, arith, eq-eqb, ne_eqb}
 use Rattle.std.proofs.lemmas.Option.{none-some, same_Some, slice_get_within}
 use Rattle.std.proofs.lemmas.Bool.{true≢false, or_parts, or_from, or_left, or_right, cases_eq}
 use Rattle.std.proofs.lemmas.List.Folds.{list_any-append}
@@ -57,7 +58,8 @@ end_kept end set x [] = refl
 end_kept end set x (y ∷ xs) = end_kept end set y xs
 
 module _ (links links' : List Link) where
-  pub chain_kept : (before : Option ℕ) (ks : List ℕ) (rest : Option ℕ) → ((k : ℕ) → has ks k ≡ true → slice_get links' k ≡ slice_get links k)
+  pub chain_kept : (before : Option ℕ) (ks : List ℕ) (rest : Option ℕ)
+      → ((k : ℕ) → has ks k ≡ true → slice_get links' k ≡ slice_get links k)
       → IsChain links before ks rest → IsChain links' before ks rest
   chain_kept before [] rest kept chain = tt
   chain_kept before (k ∷ ks) rest kept chain = (
@@ -68,22 +70,27 @@ module _ (links links' : List Link) where
 module _ (links : List Link) where
   pub next_set_other : (at next : Option ℕ) (k : ℕ) → at ≢ Some k → slice_get (next_set links at next) k ≡ slice_get links k
   next_set_other None next k other = refl
-  next_set_other (Some j) next k other = set_other links j k (link_of (previous_in (slice_get links j)) next) (λ same. other (ap Some (sym same)))
+  next_set_other (Some j) next k other =
+      set_other links j k (link_of (previous_in (slice_get links j)) next) (λ same. other (ap Some (sym same)))
 
   pub previous_set_other : (at previous : Option ℕ) (k : ℕ) → at ≢ Some k → slice_get (previous_set links at previous) k ≡ slice_get links k
   previous_set_other None previous k other = refl
-  previous_set_other (Some j) previous k other = set_other links j k (link_of previous (next_in (slice_get links j))) (λ same. other (ap Some (sym same)))
+  previous_set_other (Some j) previous k other =
+      set_other links j k (link_of previous (next_in (slice_get links j))) (λ same. other (ap Some (sym same)))
 
-  pub chain_within : (before : Option ℕ) (ks : List ℕ) (rest : Option ℕ) → IsChain links before ks rest → (k : ℕ) → has ks k ≡ true → k < length links
+  pub chain_within : (before : Option ℕ) (ks : List ℕ) (rest : Option ℕ) → IsChain links before ks rest → (k : ℕ)
+      → has ks k ≡ true → k < length links
   chain_within before [] rest chain k is = absurd (true≢false (sym is))
   chain_within before (j ∷ ks) rest chain k is =
       elim (cases_eq k j) [
-        | inl same ↦ let P : ℕ → Type 0 = λ n. n < length links in subst P (sym same) (slice_get_within links j (link_of before (head_or ks rest)) chain.0)
+        | inl same ↦ let P : ℕ → Type 0 = λ n. n < length links in
+            subst P (sym same) (slice_get_within links j (link_of before (head_or ks rest)) chain.0)
         | inr other ↦ chain_within (Some j) ks rest chain.1 k (sym (ap (λ b. b || has ks k) (ne_eqb k j other)) ∙ is)
       ]
 
   -- what the last of a chain leads to is set
-  pub chain_next : (before : Option ℕ) (xs : List ℕ) (rest next : Option ℕ) → IsChain links before xs rest → IsApart xs → IsChain (next_set links (last_or before xs) next) before xs next
+  pub chain_next : (before : Option ℕ) (xs : List ℕ) (rest next : Option ℕ) → IsChain links before xs rest → IsApart xs
+      → IsChain (next_set links (last_or before xs) next) before xs next
   chain_next before [] rest next chain apart = tt
   chain_next before (k ∷ []) rest next chain apart = (
     set_same links k (link_of (previous_in (slice_get links k)) next) (slice_get_within links k (link_of before rest) chain.0)
@@ -96,7 +103,8 @@ module _ (links : List Link) where
   )
 
   -- what the first of a chain comes after is set
-  pub chain_previous : (before : Option ℕ) (ys : List ℕ) (rest previous : Option ℕ) → IsChain links before ys rest → IsApart ys → IsChain (previous_set links (head_or ys None) previous) previous ys rest
+  pub chain_previous : (before : Option ℕ) (ys : List ℕ) (rest previous : Option ℕ) → IsChain links before ys rest → IsApart ys
+      → IsChain (previous_set links (head_or ys None) previous) previous ys rest
   chain_previous before [] rest previous chain apart = tt
   chain_previous before (k ∷ ks) rest previous chain apart = (
     set_same links k (link_of previous (next_in (slice_get links k))) (slice_get_within links k (link_of before (head_or ks rest)) chain.0)
@@ -105,13 +113,16 @@ module _ (links : List Link) where
         (λ j is. previous_set_other (Some k) previous j (λ same. differs ks j k is apart.0 (sym (same_Some k j same)))) chain.1,
   )
 
-  pub chain_split : (before : Option ℕ) (xs ys : List ℕ) (rest : Option ℕ) → IsChain links before (xs ++ ys) rest → IsChain links before xs (head_or ys rest) × IsChain links (last_or before xs) ys rest
+  pub chain_split : (before : Option ℕ) (xs ys : List ℕ) (rest : Option ℕ) → IsChain links before (xs ++ ys) rest
+      → IsChain links before xs (head_or ys rest) × IsChain links (last_or before xs) ys rest
   chain_split before [] ys rest chain = (tt, chain)
   chain_split before (x ∷ xs) ys rest chain =
-      let split : IsChain links (Some x) xs (head_or ys rest) × IsChain links (last_or (Some x) xs) ys rest = chain_split (Some x) xs ys rest chain.1 in
+      let split : IsChain links (Some x) xs (head_or ys rest) × IsChain links (last_or (Some x) xs) ys rest =
+      chain_split (Some x) xs ys rest chain.1 in
       ((chain.0 ∙ ap (λ (o : Option ℕ). Some (link_of before o)) (head_append xs ys rest), split.0), split.1)
 
-  pub chain_joined : (before : Option ℕ) (xs ys : List ℕ) (rest : Option ℕ) → IsChain links before xs (head_or ys rest) → IsChain links (last_or before xs) ys rest → IsChain links before (xs ++ ys) rest
+  pub chain_joined : (before : Option ℕ) (xs ys : List ℕ) (rest : Option ℕ) → IsChain links before xs (head_or ys rest)
+      → IsChain links (last_or before xs) ys rest → IsChain links before (xs ++ ys) rest
   chain_joined before [] ys rest one other = other
   chain_joined before (x ∷ xs) ys rest one other = (
     one.0 ∙ ap (λ (o : Option ℕ). Some (link_of before o)) (sym (head_append xs ys rest)),
@@ -151,19 +162,23 @@ distinct [] apart = tt
 distinct (k ∷ ks) apart = (none_is k ks apart.0, distinct ks apart.1)
 
 -- a walk along a chain passes its members
-pub walked : (links : List Link) (before : Option ℕ) (ks : List ℕ) (steps : ℕ) → length ks ≤ steps → IsChain links before ks None → walk steps links (head_or ks None) ≡ ks
+pub walked : (links : List Link) (before : Option ℕ) (ks : List ℕ) (steps : ℕ) → length ks ≤ steps → IsChain links before ks None
+    → walk steps links (head_or ks None) ≡ ks
 walked links before [] zero short chain = refl
 walked links before [] (suc steps) short chain = refl
 walked links before (k ∷ ks) zero short chain = absurd (omega arith)
 walked links before (k ∷ ks) (suc steps) short chain =
-    ap (λ (o : Option Link). k ∷ walk steps links (next_in o)) chain.0 ∙ ap (λ l. k ∷ l) (walked links (Some k) ks steps (omega arith) chain.1)
+    ap (λ (o : Option Link). k ∷ walk steps links (next_in o)) chain.0
+    ∙ ap (λ l. k ∷ l) (walked links (Some k) ks steps (omega arith) chain.1)
 
 pub queue_is : (links : List Link) (ends : Ends) (ks : List ℕ) → IsQueue links ends ks → queue_from links ends ≡ ks
 queue_is links ends ks queue =
-    let short : length ks ≤ length links = length-le_from_distinct_below ks (length links) (distinct ks queue.apart) (chain_within links None ks None queue.chain) in
+    let short : length ks ≤ length links =
+    length-le_from_distinct_below ks (length links) (distinct ks queue.apart) (chain_within links None ks None queue.chain) in
     ap (walk (length links) links) queue.first ∙ walked links None ks (length links) short queue.chain
 
-pub queue_kept : (links links' : List Link) (ends : Ends) (ks : List ℕ) → ((k : ℕ) → has ks k ≡ true → slice_get links' k ≡ slice_get links k) → IsQueue links ends ks → IsQueue links' ends ks
+pub queue_kept : (links links' : List Link) (ends : Ends) (ks : List ℕ)
+    → ((k : ℕ) → has ks k ≡ true → slice_get links' k ≡ slice_get links k) → IsQueue links ends ks → IsQueue links' ends ks
 queue_kept links links' ends ks kept queue = record {
   first = queue.first;
   last = queue.last;
@@ -173,4 +188,5 @@ queue_kept links links' ends ks kept queue = record {
 
 -- a queue has no more members than there are numbers
 pub queue_short : (links : List Link) (ends : Ends) (ks : List ℕ) → IsQueue links ends ks → length ks ≤ length links
-queue_short links ends ks queue = length-le_from_distinct_below ks (length links) (distinct ks queue.apart) (chain_within links None ks None queue.chain)
+queue_short links ends ks queue =
+    length-le_from_distinct_below ks (length links) (distinct ks queue.apart) (chain_within links None ks None queue.chain)

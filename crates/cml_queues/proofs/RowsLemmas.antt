@@ -1,12 +1,15 @@
 -- All queues, as one of them changes.
-use Rattle.std.proofs.Common.{◌≡◌, ◌≢◌, ℕ, zero, suc, ◌<◌, true, false, List, [], ◌∷◌, ◌++◌, length, map, unwrap_or, slice_get, slice_set, Option, Some, None, IfSome, refl, sym, ap, subst, ◌∙◌, ◌⊎◌, inl, inr, arith}
+use Rattle.std.proofs.Common.{◌≡◌, ◌≢◌, ℕ, zero, suc, ◌<◌, true, false, List, [], ◌∷◌, ◌++◌, length, map, unwrap_or, slice_get}
+use Rattle.std.proofs.Common.{slice_set, Option, Some, None, IfSome, refl, sym, ap, subst, ◌∙◌, ◌⊎◌, inl, inr, arith}
 use Rattle.std.proofs.lemmas.Option.{same_Some, slice_get_within}
 use Rattle.std.proofs.lemmas.Bool.{true≢false, or_from, or_left, or_right, cases_eq}
 use Rattle.std.proofs.lemmas.List.{length-set}
 use Rattle.cml_queues.specs.Prelude.{Link, Ends, has, next_in, previous_in, head_or, last_or, link_of, IsQueue, row_of, AreQueues}
 use Rattle.cml_queues.specs.Prelude.{AreLinked, queue_from, appended, ends_appended, joined, ends_joined}
-use Rattle.cml_queues.proofs.ChainsLemmas.{set_same, set_other, differs, has_head, has_tail, last_has, head_has, has_append, queue_is, queue_kept, chain_within}
-use Rattle.cml_queues.proofs.ChangesLemmas.{LeadWithin, not_true, if_some, only, length-appended, length-joined, appended_other, joined_other, appended_within, joined_within, queue_appended, queue_joined, link_is, still}
+use Rattle.cml_queues.proofs.ChainsLemmas.{set_same, set_other, differs, has_head, has_tail, last_has, head_has, has_append}
+use Rattle.cml_queues.proofs.ChainsLemmas.{queue_is, queue_kept, chain_within}
+use Rattle.cml_queues.proofs.ChangesLemmas.{LeadWithin, not_true, if_some, only, length-appended, length-joined, appended_other}
+use Rattle.cml_queues.proofs.ChangesLemmas.{joined_other, appended_within, joined_within, queue_appended, queue_joined, link_is, still}
 
 rows_are : (f : Ends → List ℕ) (ends : List Ends) (lists : List (List ℕ)) → length lists ≡ length ends
     → ((row : ℕ) (between : Ends) → slice_get ends row ≡ Some between → f between ≡ row_of lists row) → map f ends ≡ lists
@@ -17,9 +20,11 @@ rows_are f (e ∷ ends) (l ∷ lists) rows each =
     ap (λ k. k ∷ map f ends) (each zero e refl) ∙ ap (λ k. l ∷ k) (rows_are f ends lists (omega arith) (λ row. each (suc row)))
 
 -- what walks along the links pass are these lists
-pub shown_is : (links : List Link) (ends : List Ends) (lists : List (List ℕ)) → AreQueues links ends lists → map (queue_from links) ends ≡ lists
+pub shown_is : (links : List Link) (ends : List Ends) (lists : List (List ℕ)) → AreQueues links ends lists
+    → map (queue_from links) ends ≡ lists
 shown_is links ends lists are =
-    rows_are (queue_from links) ends lists are.rows (λ row between found. queue_is links between (row_of lists row) (are.each row between found))
+    rows_are (queue_from links) ends lists are.rows
+    (λ row between found. queue_is links between (row_of lists row) (are.each row between found))
 
 pub linked : (links : List Link) (ends : List Ends) (lists : List (List ℕ)) → AreQueues links ends lists → AreLinked links ends
 linked links ends lists are = subst (AreQueues links ends) (sym (shown_is links ends lists are)) are
@@ -27,7 +32,8 @@ linked links ends lists are = subst (AreQueues links ends) (sym (shown_is links 
 pub row_same : (lists : List (List ℕ)) (row : ℕ) (ks : List ℕ) → row < length lists → row_of (slice_set lists row ks) row ≡ ks
 row_same lists row ks within = ap (λ (o : Option (List ℕ)). unwrap_or o []) (set_same lists row ks within)
 
-pub row_other : (lists : List (List ℕ)) (row other : ℕ) (ks : List ℕ) → other ≢ row → row_of (slice_set lists row ks) other ≡ row_of lists other
+pub row_other : (lists : List (List ℕ)) (row other : ℕ) (ks : List ℕ) → other ≢ row
+    → row_of (slice_set lists row ks) other ≡ row_of lists other
 row_other lists row other ks apart = ap (λ (o : Option (List ℕ)). unwrap_or o []) (set_other lists row other ks apart)
 
 module _ (links links' : List Link) (ends : List Ends) (lists : List (List ℕ)) (row : ℕ) (between : Ends) (ks : List ℕ) where
@@ -50,8 +56,10 @@ module _ (links links' : List Link) (ends : List Ends) (lists : List (List ℕ))
         rows = length-set lists row ks ∙ are.rows ∙ sym (length-set ends row between);
         each = λ other e found. elim (cases_eq other row) [
           | inl same ↦
-              let e_is : between ≡ e = same_Some between e (sym (set_same ends row between within) ∙ ap (slice_get (slice_set ends row between)) (sym same) ∙ found) in
-              let row_is : ks ≡ row_of (slice_set lists row ks) other = sym (ap (row_of (slice_set lists row ks)) same ∙ row_same lists row ks in_lists) in
+              let e_is : between ≡ e = same_Some between e
+              (sym (set_same ends row between within) ∙ ap (slice_get (slice_set ends row between)) (sym same) ∙ found) in
+              let row_is : ks ≡ row_of (slice_set lists row ks) other =
+              sym (ap (row_of (slice_set lists row ks)) same ∙ row_same lists row ks in_lists) in
               let P : Ends → Type 0 = λ b. IsQueue links' b ks in
               subst (IsQueue links' e) row_is (subst P e_is queue)
           | inr other_row ↦
@@ -81,19 +89,22 @@ module _ (links : List Link) (ends : List Ends) (lists : List (List ℕ)) (row :
       (λ k is. chain_within links None (row_of lists row) None queue.chain k (last_has (row_of lists row) k (sym queue.last ∙ is)))
 
   pub queues_appended : number < length links → ((row : ℕ) → has (row_of lists row) number ≡ false)
-      → AreQueues (appended links between number) (slice_set ends row (ends_appended between number)) (slice_set lists row (row_of lists row ++ number ∷ []))
+      → AreQueues (appended links between number) (slice_set ends row (ends_appended between number))
+      (slice_set lists row (row_of lists row ++ number ∷ []))
   queues_appended within nowhere =
       let queue = are.each row between found in
       let isnt : (other k : ℕ) → other ≢ row → has (row_of lists other) k ≡ true → has (row_of lists row) k ≡ false = λ other k apart is.
       not_true (has (row_of lists row) k) (λ here. apart (are.once other row k is here)) in
-      let differ : (other k : ℕ) → has (row_of lists other) k ≡ true → k ≢ number = λ other k is. differs (row_of lists other) k number is (nowhere other) in
+      let differ : (other k : ℕ) → has (row_of lists other) k ≡ true → k ≢ number =
+      λ other k is. differs (row_of lists other) k number is (nowhere other) in
       queues_set links (appended links between number) ends lists row (ends_appended between number) (row_of lists row ++ number ∷ [])
       (slice_get_within ends row between found) are
       (queue_appended links between (row_of lists row) number within (nowhere row) queue)
       (length-appended links between number)
       (λ other k apart is. appended_other links between number k (differ other k is)
       (λ same. true≢false (sym (last_has (row_of lists row) k (sym queue.last ∙ same)) ∙ isnt other k apart is)))
-      (λ other k apart is. has_append (row_of lists row) (number ∷ []) k ∙ or_from (has (row_of lists row) k) (has (number ∷ []) k) (isnt other k apart is) (only k number (differ other k is)))
+      (λ other k apart is. has_append (row_of lists row) (number ∷ []) k
+      ∙ or_from (has (row_of lists row) k) (has (number ∷ []) k) (isnt other k apart is) (only k number (differ other k is)))
       (appended_within (length links) links between number are.within within)
 
   module _ (xs ys : List ℕ) (parts : row_of lists row ≡ xs ++ number ∷ ys) where
@@ -107,15 +118,18 @@ module _ (links : List Link) (ends : List Ends) (lists : List (List ℕ)) (row :
     has_before k is = ap (λ l. has l k) parts ∙ has_append xs (number ∷ ys) k ∙ or_left (has xs k) (has (number ∷ ys) k) is
 
     has_behind : (k : ℕ) → has ys k ≡ true → has (row_of lists row) k ≡ true
-    has_behind k is = ap (λ l. has l k) parts ∙ has_append xs (number ∷ ys) k ∙ or_right (has xs k) (has (number ∷ ys) k) (has_tail number k ys is)
+    has_behind k is = ap (λ l. has l k) parts ∙ has_append xs (number ∷ ys) k
+        ∙ or_right (has xs k) (has (number ∷ ys) k) (has_tail number k ys is)
 
     pub previous_within : IfSome (previous_in (slice_get links number)) (λ previous. previous < length links)
     previous_within =
         let queue = are.each row between found in
         if_some (previous_in (slice_get links number)) (λ previous. previous < length links)
-        (λ k is. chain_within links None (row_of lists row) None queue.chain k (has_before k (last_has xs k (sym (ap previous_in member_link) ∙ is))))
+        (λ k is. chain_within links None (row_of lists row) None queue.chain k
+        (has_before k (last_has xs k (sym (ap previous_in member_link) ∙ is))))
 
-    pub queues_joined : AreQueues (joined links (slice_get links number)) (slice_set ends row (ends_joined between (slice_get links number))) (slice_set lists row (xs ++ ys))
+    pub queues_joined : AreQueues (joined links (slice_get links number))
+        (slice_set ends row (ends_joined between (slice_get links number))) (slice_set lists row (xs ++ ys))
     queues_joined =
         let queue = are.each row between found in
         let isnt : (other k : ℕ) → other ≢ row → has (row_of lists other) k ≡ true → has (row_of lists row) k ≡ false = λ other k apart is.

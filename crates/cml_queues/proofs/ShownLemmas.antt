@@ -1,6 +1,9 @@
 -- What the queues show, as they are made, and as one of them or the number of links changes.
-use Rattle.std.proofs.Common.{◌≡◌, ◌≢◌, ℕ, zero, suc, ◌<◌, ◌≤◌, true, false, List, [], ◌∷◌, ◌++◌, length, take, drop, get_or, map, replicate, unwrap_or, slice_get, slice_set, Option, Some, None, IfSome, refl, sym, ap, subst, ◌∙◌, ◌⊎◌, inl, inr, arith, length-append}
-use Rattle.std.proofs.lemmas.Option.{none-some, same_Some, slice_get_within, slice_get_past, slice_get_read, slice_get-get_or, get_or_from_slice_get, IfSome_then}
+use Rattle.std.proofs.Common.{◌≡◌, ◌≢◌, ℕ, zero, suc, ◌<◌, ◌≤◌, true, false, List, [], ◌∷◌, ◌++◌, length, take, drop, get_or}
+use Rattle.std.proofs.Common.{map, replicate, unwrap_or, slice_get, slice_set, Option, Some, None, IfSome, refl, sym, ap}
+use Rattle.std.proofs.Common.{subst, ◌∙◌, ◌⊎◌, inl, inr, arith, length-append}
+use Rattle.std.proofs.lemmas.Option.{none-some, same_Some, slice_get_within, slice_get_past, slice_get_read, slice_get-get_or}
+use Rattle.std.proofs.lemmas.Option.{get_or_from_slice_get, IfSome_then}
 use Rattle.std.proofs.lemmas.Bool.{true≢false, cases_lt, cases_eq}
 use Rattle.std.proofs.lemmas.List.{length-map, length-replicate, get_or-replicate}
 use Rattle.std.proofs.Math.Seq.{take-append_seam}
@@ -9,7 +12,8 @@ use Rattle.cml_queues.specs.Prelude.{IsApart, IsQueue, row_of, AreQueues, AreLin
 use Rattle.cml_queues.specs.Prelude.{ends_joined}
 use Rattle.cml_queues.proofs.ChainsLemmas.{has_head, has_append, queue_kept, queue_short, chain_within}
 use Rattle.cml_queues.proofs.ChangesLemmas.{length-appended, length-joined, gone, not_true}
-use Rattle.cml_queues.proofs.RowsLemmas.{shown_is, row_same, row_other, last_within, queues_appended, member_link, previous_within, queues_joined}
+use Rattle.cml_queues.proofs.RowsLemmas.{shown_is, row_same, row_other, last_within, queues_appended, member_link}
+use Rattle.cml_queues.proofs.RowsLemmas.{previous_within, queues_joined}
 use Rattle.std.proofs.lemmas.Bool.{or_right}
 
 -- a queue with a member is one of the queues
@@ -21,23 +25,30 @@ is_row lists row number is =
     ]
 
 -- what is written over the whole of a list is then the list
-pub written : {X : Type 0} (new old : List X) (len : ℕ) → len ≡ length old → length new ≡ length old → take len (new ++ drop (length new) old) ≡ new
+pub written : {X : Type 0} (new old : List X) (len : ℕ) → len ≡ length old → length new ≡ length old
+    → take len (new ++ drop (length new) old) ≡ new
 written new old len ok long =
     let same : len ≡ length new = ok ∙ sym long in
     ap (λ n. take n (new ++ drop (length new) old)) same ∙ take-append_seam new (drop (length new) old)
 
-pub member_of : (lists : List (List ℕ)) (row number : ℕ) (xs ys : List ℕ) → row_of lists row ≡ xs ++ number ∷ ys → has (row_of lists row) number ≡ true
+pub member_of : (lists : List (List ℕ)) (row number : ℕ) (xs ys : List ℕ) → row_of lists row ≡ xs ++ number ∷ ys
+    → has (row_of lists row) number ≡ true
 member_of lists row number xs ys parts =
-    ap (λ l. has l number) parts ∙ has_append xs (number ∷ ys) number ∙ or_right (has xs number) (has (number ∷ ys) number) (has_head number ys)
+    ap (λ l. has l number) parts ∙ has_append xs (number ∷ ys) number
+    ∙ or_right (has xs number) (has (number ∷ ys) number) (has_head number ys)
 
 -- what the queues show after one of them changed
-pub here_is : (links : List Link) (ends : List Ends) (lists : List (List ℕ)) (row : ℕ) (ks : List ℕ) → AreQueues links ends (slice_set lists row ks) → row < length lists
+pub here_is : (links : List Link) (ends : List Ends) (lists : List (List ℕ)) (row : ℕ) (ks : List ℕ)
+    → AreQueues links ends (slice_set lists row ks) → row < length lists
     → row_of (map (queue_from links) ends) row ≡ ks
-here_is links ends lists row ks are within = ap (λ l. row_of l row) (shown_is links ends (slice_set lists row ks) are) ∙ row_same lists row ks within
+here_is links ends lists row ks are within =
+    ap (λ l. row_of l row) (shown_is links ends (slice_set lists row ks) are) ∙ row_same lists row ks within
 
-pub others_are : (links : List Link) (ends : List Ends) (lists : List (List ℕ)) (row : ℕ) (ks : List ℕ) → AreQueues links ends (slice_set lists row ks)
+pub others_are : (links : List Link) (ends : List Ends) (lists : List (List ℕ)) (row : ℕ) (ks : List ℕ)
+    → AreQueues links ends (slice_set lists row ks)
     → (other : ℕ) → other ≢ row → row_of (map (queue_from links) ends) other ≡ row_of lists other
-others_are links ends lists row ks are other apart = ap (λ l. row_of l other) (shown_is links ends (slice_set lists row ks) are) ∙ row_other lists row other ks apart
+others_are links ends lists row ks are other apart = ap (λ l. row_of l other) (shown_is links ends (slice_set lists row ks) are)
+    ∙ row_other lists row other ks apart
 
 module _ (links : List Link) (ends : List Ends) (old : QueuesShown) (is : shown_by links ends ≡ old) (are : AreLinked links ends) where
   pub queues_are : AreQueues links ends old.queues
@@ -66,7 +77,8 @@ module _ (links : List Link) (ends : List Ends) (old : QueuesShown) (is : shown_
   bound_is = ap (λ (s : QueuesShown). s.bound) (sym is)
 
   -- the link of a member leads to those beside it
-  pub link_of_member : (row number : ℕ) (xs ys : List ℕ) → queue_of old row ≡ xs ++ number ∷ ys → slice_get links number ≡ Some (link_of (last_or None xs) (head_or ys None))
+  pub link_of_member : (row number : ℕ) (xs ys : List ℕ) → queue_of old row ≡ xs ++ number ∷ ys
+      → slice_get links number ≡ Some (link_of (last_or None xs) (head_or ys None))
   link_of_member row number xs ys parts =
       let at = read row (is_row old.queues row number (member_of old.queues row number xs ys parts)) in
       member_link links ends old.queues row at.0 number at.1 queues_are xs ys parts
@@ -78,13 +90,15 @@ module _ (links : List Link) (ends : List Ends) (old : QueuesShown) (is : shown_
 
   -- what left its queue is in none
   pub left_nowhere : (links' : List Link) (ends' : List Ends) (row number : ℕ) (xs ys : List ℕ) → queue_of old row ≡ xs ++ number ∷ ys
-      → AreQueues links' ends' (slice_set old.queues row (xs ++ ys)) → (any : ℕ) → has (row_of (map (queue_from links') ends') any) number ≡ false
+      → AreQueues links' ends' (slice_set old.queues row (xs ++ ys)) → (any : ℕ)
+      → has (row_of (map (queue_from links') ends') any) number ≡ false
   left_nowhere links' ends' row number xs ys parts left any =
       let member : has (row_of old.queues row) number ≡ true = member_of old.queues row number xs ys parts in
       let within : row < length old.queues = is_row old.queues row number member in
       elim (cases_eq any row) [
         | inl same ↦ ap (λ r. has (row_of (map (queue_from links') ends') r) number) same
-            ∙ ap (λ (l : List ℕ). has l number) (here_is links' ends' old.queues row (xs ++ ys) left within) ∙ gone xs ys number (apart_in row number xs ys parts)
+            ∙ ap (λ (l : List ℕ). has l number) (here_is links' ends' old.queues row (xs ++ ys) left within)
+            ∙ gone xs ys number (apart_in row number xs ys parts)
         | inr other ↦ ap (λ (l : List ℕ). has l number) (others_are links' ends' old.queues row (xs ++ ys) left any other)
             ∙ not_true (has (row_of old.queues any) number) (λ is. other (queues_are.once any row number is member))
       ]
@@ -94,22 +108,26 @@ module _ (links : List Link) (ends : List Ends) (old : QueuesShown) (is : shown_
       let at = read row (is_row old.queues row number member) in
       chain_within links None (queue_of old row) None (queues_are.each row at.0 at.1).chain number member
 
-  module _ (row number : ℕ) (between : Ends) (lent : List Link) (lends : lent ≡ links) (is_between : between ≡ get_or ends row between) where
+  module _ (row number : ℕ) (between : Ends) (lent : List Link) (lends : lent ≡ links)
+      (is_between : between ≡ get_or ends row between) where
     pub append_last : row < length old.queues → IfSome between.last (λ last. last < length lent)
     append_last within =
         let P : List Link → Type 0 = λ l. IfSome between.last (λ last. last < length l) in
         subst P (sym lends) (last_within links ends old.queues row between number (found row between within is_between) queues_are)
 
-    pub unlink_previous : (xs ys : List ℕ) → queue_of old row ≡ xs ++ number ∷ ys → IfSome (previous_in (slice_get lent number)) (λ previous. previous < length lent)
+    pub unlink_previous : (xs ys : List ℕ) → queue_of old row ≡ xs ++ number ∷ ys
+        → IfSome (previous_in (slice_get lent number)) (λ previous. previous < length lent)
     unlink_previous xs ys parts =
         let within : row < length old.queues = is_row old.queues row number (member_of old.queues row number xs ys parts) in
         let P : List Link → Type 0 = λ l. IfSome (previous_in (slice_get l number)) (λ previous. previous < length l) in
-        subst P (sym lends) (previous_within links ends old.queues row between number (found row between within is_between) queues_are xs ys parts)
+        subst P (sym lends) (previous_within links ends old.queues row between number
+        (found row between within is_between) queues_are xs ys parts)
 
     module _ (len : ℕ) (between' : Ends) (set : List Link) (ok : len ≡ length links) where
       pub pushes : set ≡ appended lent between number → between' ≡ ends_appended between number
           → row < length old.queues → number < old.bound → ((row : ℕ) → is_in old row number ≡ false)
-          → AreQueues (take len (set ++ drop (length set) links)) (slice_set ends row between') (slice_set old.queues row (queue_of old row ++ number ∷ []))
+          → AreQueues (take len (set ++ drop (length set) links)) (slice_set ends row between')
+          (slice_set old.queues row (queue_of old row ++ number ∷ []))
       pushes set_is ends_is within number_within nowhere =
           let set_is' : set ≡ appended links between number = set_is ∙ ap (λ l. appended l between number) lends in
           let long : length set ≡ length links = ap length set_is' ∙ length-appended links between number in
@@ -128,11 +146,14 @@ module _ (links : List Link) (ends : List Ends) (old : QueuesShown) (is : shown_
       removes xs ys parts set_is ends_is =
           let within : row < length old.queues = is_row old.queues row number (member_of old.queues row number xs ys parts) in
           let set_is' : set ≡ joined links (slice_get links number) = set_is ∙ ap (λ l. joined l (slice_get l number)) lends in
-          let ends_is' : between' ≡ ends_joined between (slice_get links number) = ends_is ∙ ap (λ (l : List Link). ends_joined between (slice_get l number)) lends in
+          let ends_is' : between' ≡ ends_joined between (slice_get links number) = ends_is
+          ∙ ap (λ (l : List Link). ends_joined between (slice_get l number)) lends in
           let long : length set ≡ length links = ap length set_is' ∙ length-joined links (slice_get links number) in
-          let all : take len (set ++ drop (length set) links) ≡ joined links (slice_get links number) = written set links len ok long ∙ set_is' in
+          let all : take len (set ++ drop (length set) links) ≡ joined links (slice_get links number) =
+          written set links len ok long ∙ set_is' in
           let new : List (List ℕ) = slice_set old.queues row (xs ++ ys) in
-          let done : AreQueues (joined links (slice_get links number)) (slice_set ends row (ends_joined between (slice_get links number))) new =
+          let done : AreQueues (joined links (slice_get links number))
+          (slice_set ends row (ends_joined between (slice_get links number))) new =
           queues_joined links ends old.queues row between number (found row between within is_between) queues_are xs ys parts in
           let P : List Link → Type 0 = λ l. AreQueues l (slice_set ends row between') new in
           let Q : Ends → Type 0 = λ b. AreQueues (joined links (slice_get links number)) (slice_set ends row b) new in
@@ -148,12 +169,15 @@ none_linked : (count : ℕ) → AreLinked [] (replicate count (ends_of None None
 none_linked count =
     let empty : Ends = ends_of None None in
     let lists : List (List ℕ) = map (queue_from []) (replicate count empty) in
-    let isnt : (row number : ℕ) → has (row_of lists row) number ≡ true → ⊥ = λ row number is. true≢false (sym is ∙ ap (λ l. has l number) (all_empty (replicate count empty) row)) in
+    let isnt : (row number : ℕ) → has (row_of lists row) number ≡ true → ⊥ =
+    λ row number is. true≢false (sym is ∙ ap (λ l. has l number) (all_empty (replicate count empty) row)) in
     record {
       rows = length-map (replicate count empty) (queue_from []);
       each = λ row e found.
-          let within : row < count = let P : ℕ → Type 0 = λ n. row < n in subst P (length-replicate count empty) (slice_get_within (replicate count empty) row e found) in
-          let e_is : empty ≡ e = sym (get_or-replicate count row empty empty within) ∙ get_or_from_slice_get (replicate count empty) row e empty found in
+          let within : row < count = let P : ℕ → Type 0 = λ n. row < n in
+          subst P (length-replicate count empty) (slice_get_within (replicate count empty) row e found) in
+          let e_is : empty ≡ e = sym (get_or-replicate count row empty empty within)
+          ∙ get_or_from_slice_get (replicate count empty) row e empty found in
           let nothing : IsQueue [] empty [] = record { first = refl; last = refl; chain = tt; apart = tt } in
           let P : Ends → Type 0 = λ b. IsQueue [] b [] in
           subst (IsQueue [] e) (sym (all_empty (replicate count empty) row)) (subst P e_is nothing);
@@ -161,7 +185,8 @@ none_linked count =
       within = λ number link found. absurd (none-some link found);
     }
 
-pub new_linked : (links : List Link) (ends : List Ends) (count : ℕ) → links ≡ [] → ends ≡ replicate count (ends_of None None) → AreLinked links ends
+pub new_linked : (links : List Link) (ends : List Ends) (count : ℕ) → links ≡ []
+    → ends ≡ replicate count (ends_of None None) → AreLinked links ends
 new_linked links ends count none empty =
     let P : List Link → Type 0 = λ l. AreLinked l ends in
     subst P (sym none) (subst (AreLinked []) (sym empty) (none_linked count))
@@ -171,31 +196,36 @@ get_before [] more k within = absurd (omega arith)
 get_before (l ∷ links) more zero within = refl
 get_before (l ∷ links) more (suc k) within = get_before links more k (omega arith)
 
-get_cases : (links : List Link) (more link : Link) (k : ℕ) → slice_get (links ++ more ∷ []) k ≡ Some link → (slice_get links k ≡ Some link) ⊎ (more ≡ link)
+get_cases : (links : List Link) (more link : Link) (k : ℕ) → slice_get (links ++ more ∷ []) k ≡ Some link
+    → (slice_get links k ≡ Some link) ⊎ (more ≡ link)
 get_cases [] more link zero found = inr (same_Some more link found)
 get_cases [] more link (suc k) found = absurd (none-some link found)
 get_cases (l ∷ links) more link zero found = inl found
 get_cases (l ∷ links) more link (suc k) found = get_cases links more link k found
 
 -- one link more changes no queue
-queues_added : (links : List Link) (ends : List Ends) (lists : List (List ℕ)) → AreQueues links ends lists → AreQueues (links ++ link_of None None ∷ []) ends lists
+queues_added : (links : List Link) (ends : List Ends) (lists : List (List ℕ)) → AreQueues links ends lists
+    → AreQueues (links ++ link_of None None ∷ []) ends lists
 queues_added links ends lists are =
     let more : Link = link_of None None in
     record {
       rows = are.rows;
       each = λ row e found.
           let queue = are.each row e found in
-          queue_kept links (links ++ more ∷ []) e (row_of lists row) (λ k is. get_before links more k (chain_within links None (row_of lists row) None queue.chain k is)) queue;
+          queue_kept links (links ++ more ∷ []) e (row_of lists row)
+          (λ k is. get_before links more k (chain_within links None (row_of lists row) None queue.chain k is)) queue;
       once = are.once;
       within = λ number link found. elim (get_cases links more link number found) [
         | inl old ↦
-            let longer : (next : ℕ) → next < length links → next < length (links ++ more ∷ []) = λ next h. omega (arith, length-append links (more ∷ [])) in
+            let longer : (next : ℕ) → next < length links → next < length (links ++ more ∷ []) =
+            λ next h. omega (arith, length-append links (more ∷ [])) in
             IfSome_then link.next (are.within number link old) longer
         | inr new ↦ let P : Link → Type 0 = λ l. IfSome l.next (λ next. next < length (links ++ more ∷ [])) in subst P new tt
       ];
     }
 
-module _ (links set : List Link) (ends : List Ends) (old : QueuesShown) (is : shown_by links ends ≡ old) (are : AreLinked links ends) (set_is : set ≡ links ++ link_of None None ∷ []) where
+module _ (links set : List Link) (ends : List Ends) (old : QueuesShown) (is : shown_by links ends ≡ old) (are : AreLinked links ends)
+    (set_is : set ≡ links ++ link_of None None ∷ []) where
   pub adds : AreQueues set ends old.queues
   adds =
       let P : List Link → Type 0 = λ l. AreQueues l ends old.queues in

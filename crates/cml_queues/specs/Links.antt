@@ -1,5 +1,6 @@
 -- How the links of the numbers make queues.
-use Rattle.std.specs.Prelude.{◌≡◌, ℕ, zero, suc, ◌<◌, true, false, List, [], ◌∷◌, length, map, unwrap_or, slice_get, slice_set, Option, Some, None, IfSome}
+use Rattle.std.specs.Prelude.{◌≡◌, ℕ, zero, suc, ◌<◌, true, false, List, [], ◌∷◌, length, map, unwrap_or, slice_get}
+use Rattle.std.specs.Prelude.{slice_set, Option, Some, None, IfSome}
 use Rattle.cml_queues.specs.declared.links.Link.{Link}
 use Rattle.cml_queues.specs.declared.links.Ends.{Ends}
 use Rattle.cml_queues.specs.Queues.{QueuesShown, has}

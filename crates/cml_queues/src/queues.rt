@@ -1,4 +1,5 @@
-ghost use Rattle.std.specs.Prelude.{◌≡◌, ◌≢◌, ℕ, ◌+◌, ◌<◌, ◌≤◌, ◌++◌, List, [], ◌∷◌, length, true, false, slice_get, IfSome, IfOk, OnOk, OnErr};
+ghost use Rattle.std.specs.Prelude.{◌≡◌, ◌≢◌, ℕ, ◌+◌, ◌<◌, ◌≤◌, ◌++◌, List, [], ◌∷◌, length, true, false, slice_get};
+ghost use Rattle.std.specs.Prelude.{IfSome, IfOk, OnOk, OnErr};
 ghost use Rattle.cml_queues.specs.Prelude.{queue_of, is_in};
 
 use crate::links::{Ends, Link, append, unlink};

@@ -1,5 +1,6 @@
 -- The news of what a lane or a feed added, and who waits where it did.
-use Rattle.std.proofs.Common.{◌≡◌, ℕ, ◌<◌, ◌≤◌, List, [], ◌∷◌, length, Option, Some, None, IsTrue, IsSome, IfSome, Result, Ok, Err, refl, sym, ap, subst, ◌∙◌, Bool, arith}
+use Rattle.std.proofs.Common.{◌≡◌, ℕ, ◌<◌, ◌≤◌, List, [], ◌∷◌, length, Option, Some, None, IsTrue, IsSome, IfSome, Result}
+use Rattle.std.proofs.Common.{Ok, Err, refl, sym, ap, subst, ◌∙◌, Bool, arith}
 use Rattle.std.specs.Option.{option_map}
 use Rattle.std.specs.Prelude.{⊤}
 use Rattle.cml_board.specs.Prelude.{Name, Call, Entry, Refusal, Want, kind_by, source_by, takes, Fits, entries_in, kind_of, origin_of}
@@ -50,7 +51,8 @@ module _ {M : Type 0} where
 
   -- the last entry of a lane's messages, and of a feed's
   lane_head : (number : ℕ) (way : Way) (target : Name) (message : M) (messages : List M) (history : List (Entry M))
-      → (last : M) × (rest : List (Entry M)) × (with_lane number way target (message ∷ messages) history ≡ lane_entry number way target last ∷ rest)
+      → (last : M) × (rest : List (Entry M))
+      × (with_lane number way target (message ∷ messages) history ≡ lane_entry number way target last ∷ rest)
       × (length history ≤ length rest)
   lane_head number way target message [] history = (message, history, refl, omega arith)
   lane_head number way target message (next ∷ messages) history =
@@ -84,7 +86,8 @@ module _ {M : Type 0} where
       added_brings (Some (way_news way target)) (lane_entry number way target head.0) head.1 old new news (history ∙ head.2) past head.3
       (news_of_way way target head.0)
       (subst (Leads (Some (way_news way target)) old.history) head.2 (lanes_lead number way target (message ∷ messages) old.history))
-      (subst (λ h. IsOf h (way_news way target)) head.2 (way_is_of way target (with_lane number way target (message ∷ messages) old.history) kept)) told
+      (subst (λ h. IsOf h (way_news way target)) head.2
+      (way_is_of way target (with_lane number way target (message ∷ messages) old.history) kept)) told
 
   feed_brings : (number : ℕ) (port : Name) (messages : List M) (old new : Shown M) (news : Option News)
       → new.history ≡ with_feed number port messages old.history → new.past ≡ old.past → Tells old new news → Brings news old new
@@ -94,9 +97,11 @@ module _ {M : Type 0} where
       added_brings None (feed_entry number port head.0) head.1 old new news (history ∙ head.2) past head.3 refl
       (subst (Leads None old.history) head.2 (feeds_lead number port (message ∷ messages) old.history)) tt told
 
-  looked_kind : (history : List (Entry M)) (from looked : LaneSide M) → Looks from looked → kind_of history from.target.0 ≡ Some (way_kind from.way)
+  looked_kind : (history : List (Entry M)) (from looked : LaneSide M) → Looks from looked
+      → kind_of history from.target.0 ≡ Some (way_kind from.way)
       → kind_of history looked.target.0 ≡ Some (way_kind looked.way)
-  looked_kind history from looked looks kind = subst (λ (s : LaneSide M). kind_of history s.target.0 ≡ Some (way_kind s.way)) (sym looks.side) kind
+  looked_kind history from looked looks kind =
+      subst (λ (s : LaneSide M). kind_of history s.target.0 ≡ Some (way_kind s.way)) (sym looks.side) kind
 
   -- whatever was done on a lane or a feed
   deed_brings : (old new : FloorShown M) (news : Option News) → KeepsLanes old.board.history old.lanes → Tells old.board new.board news
@@ -104,7 +109,8 @@ module _ {M : Type 0} where
   deed_brings old new news keeps told (as_it_was after lanes feeds) = nothing_brings old.board new.board news after.history told
   deed_brings old new news keeps told (lane_drained left number count on) =
       let drains = on.place.does in
-      lane_brings number drains.looked.way drains.looked.target drains.moves.moved old.board new.board news drains.moves.history drains.moves.past
+      lane_brings number drains.looked.way drains.looked.target drains.moves.moved old.board new.board news
+      drains.moves.history drains.moves.past
       (looked_kind old.board.history on.place.from drains.looked drains.looks (keeps.lane number on.place.from on.place.opened).kind) told
   deed_brings old new news keeps told (lane_gone number same) =
       nothing_brings old.board new.board news (ap (λ (f : FloorShown M). f.board.history) same) told
@@ -133,14 +139,17 @@ module _ {M : Type 0} where
       } in
       deed_brings old new news had.lanes (subst (λ b. Tells old.board b news) is first) deed
 
-  pub abandoned_follows : (number : ℕ) (old new : FloorShown M) (result : Result ⊤ Refusal) (news : Option News) → Abandons number old new result → Follows news old.board new.board
-  abandoned_follows number old new (Ok done) news gone = same_follows news old.board new.board (ap (λ (f : FloorShown M). f.board.history) gone.1)
+  pub abandoned_follows : (number : ℕ) (old new : FloorShown M) (result : Result ⊤ Refusal) (news : Option News)
+      → Abandons number old new result → Follows news old.board new.board
+  abandoned_follows number old new (Ok done) news gone =
+      same_follows news old.board new.board (ap (λ (f : FloorShown M). f.board.history) gone.1)
   abandoned_follows number old new (Err refusal) news why =
       by_reason (FindsNoLane number old new) (λ other. ⊥) refusal
       (λ none. same_follows news old.board new.board (ap (λ (f : FloorShown M). f.board.history) none.1)) (λ never. absurd never) why
 
   -- each seat that waits does so at the same object, from the same source
-  fits_same : (old new : List (Entry M)) (object : ℕ) (made_call : Call M) → kind_of new object ≡ kind_of old object → IsSome (kind_of old object)
+  fits_same : (old new : List (Entry M)) (object : ℕ) (made_call : Call M)
+      → kind_of new object ≡ kind_of old object → IsSome (kind_of old object)
       → IfSome (kind_of old object) (λ kind. IsTrue (takes kind made_call))
       → IsSome (kind_of new object) × IfSome (kind_of new object) (λ kind. IsTrue (takes kind made_call))
   fits_same old new object made_call same is_made is_taken =
@@ -152,19 +161,23 @@ module _ {M : Type 0} where
   made_by history (want.Take name) fits = fits.0
   made_by history (want.Swap name) fits = fits.0
 
-  fits_on : (old new : List (Entry M)) (on : Want) → kind_of new (object_of on) ≡ kind_of old (object_of on) → Fits old (wanting on) → Fits new (wanting on)
+  fits_on : (old new : List (Entry M)) (on : Want) → kind_of new (object_of on) ≡ kind_of old (object_of on)
+      → Fits old (wanting on) → Fits new (wanting on)
   fits_on old new (want.Recv name) same fits = fits_same old new name.0 (call.Recv name) same fits.0 fits.1
   fits_on old new (want.Get name) same fits = fits_same old new name.0 (call.Get name) same fits.0 fits.1
   fits_on old new (want.Take name) same fits = fits_same old new name.0 (call.Take name) same fits.0 fits.1
   fits_on old new (want.Swap name) same fits = fits_same old new name.0 (call.Take name) same fits.0 fits.1
 
-  pub placed_on : (old new : FloorShown M) (places : List Place) (all_due : Bool) (news : Option News) → IsWatched old places all_due → Follows news old.board new.board
+  pub placed_on : (old new : FloorShown M) (places : List Place) (all_due : Bool) (news : Option News) → IsWatched old places all_due
+      → Follows news old.board new.board
       → AreAt new.board.history places
   placed_on old new places all_due news was next = λ number waiter here.
       let before = was.placed number waiter here in
       let same : origin_of new.board.history (object_of waiter.want) ≡ origin_of old.board.history (object_of waiter.want) =
-      next.made (object_of waiter.want) (made_by old.board.history waiter.want before.0) in
-      (fits_on old.board.history new.board.history waiter.want (ap (option_map kind_by) same) before.0, before.1 ∙ ap (source_by (object_of waiter.want)) (sym same))
+      next.made (object_of waiter.want) (made_by old.board.history waiter.want before.0) in (
+        fits_on old.board.history new.board.history waiter.want (ap (option_map kind_by) same) before.0,
+        before.1 ∙ ap (source_by (object_of waiter.want)) (sym same),
+      )
 
   -- who waits does so rightly still
   pub was_placed : (news : Option News) (floor : FloorShown M) (places : List Place) (all_due : Bool) → WasWatched news floor places all_due
@@ -172,6 +185,7 @@ module _ {M : Type 0} where
   was_placed news floor places all_due was = placed_on was.before floor places all_due news was.watched was.follows
 
   -- what a call on a lane or a feed leaves to be told
-  pub was_watched_at : {entries : ℕ} {floor : FloorShown M} {places : List Place} {all_due : Bool} (before : FloorShown M) → HasEntries entries before
+  pub was_watched_at : {entries : ℕ} {floor : FloorShown M} {places : List Place} {all_due : Bool} (before : FloorShown M)
+      → HasEntries entries before
       → IsWatched before places all_due → Deed before floor → WasWatchedAt entries floor places all_due
   was_watched_at before had watched deed = record { before = before; had = had; watched = watched; deed = deed }

@@ -1,5 +1,6 @@
 -- What the call of a seat brings to those who wait.
-use Rattle.std.proofs.Common.{◌≡◌, ℕ, ◌⊎◌, inl, inr, Bool, true, false, cond, List, ◌∷◌, slice_get, Option, Some, None, IsTrue, IsSome, IfSome, refl, sym, ap, subst, ◌∙◌}
+use Rattle.std.proofs.Common.{◌≡◌, ℕ, ◌⊎◌, inl, inr, Bool, true, false, cond, List, ◌∷◌, slice_get, Option, Some, None}
+use Rattle.std.proofs.Common.{IsTrue, IsSome, IfSome, refl, sym, ap, subst, ◌∙◌}
 use Rattle.std.proofs.lemmas.Bool.{false≢true}
 use Rattle.std.proofs.lemmas.Option.{none-some, same_Some}
 use Rattle.cml_calls.specs.Prelude.{Kind, is_mailbox, is_channel, is_port}
@@ -40,7 +41,8 @@ port_is (Some kind) some is = absurd (false≢true is)
 
 module _ {M : Type 0} where
   -- what a call that fits brings is of an object that takes it
-  news_are_of : (entry : Entry M) (before : List (Entry M)) (call : Call M) → Fits before call → IfSome (news_in call) (IsOf (entry ∷ before))
+  news_are_of : (entry : Entry M) (before : List (Entry M)) (call : Call M) → Fits before call
+      → IfSome (news_in call) (IsOf (entry ∷ before))
   news_are_of entry before (Send name message) fits =
       let kept = fits_kept entry before name.0 (Send name message) fits.0 fits.1 in
       mailbox_is _ kept.0 kept.1
@@ -54,7 +56,8 @@ module _ {M : Type 0} where
   news_are_of entry before call fits = tt
 
   -- an answered call brings its news
-  pub answered_brings : (chunk : ℕ) (sure : Bool) (old new : Shown M) (who : Who) (call : Call M) (reply : Answer M) (news : Option News) → news ≡ news_in call
+  pub answered_brings : (chunk : ℕ) (sure : Bool) (old new : Shown M) (who : Who) (call : Call M) (reply : Answer M) (news : Option News)
+      → news ≡ news_in call
       → Applies chunk sure old new who call (board.Answered reply) → Brings news old new
   answered_brings chunk sure old new who call reply news is applies =
       let entry : Entry M = record { who = who; call = call; reply = reply.reply } in
@@ -71,13 +74,15 @@ module _ {M : Type 0} where
   no_news (Swap name message) on wants = refl
   no_news call on wants = absurd (none-some on wants)
 
-  pub may_brings : (room : RoomShown M) (number : ℕ) (call : Call M) (on : Want) (news : Option News) → MayAsk room number ⊎ MayAskAgain room number call
+  pub may_brings : (room : RoomShown M) (number : ℕ) (call : Call M) (on : Want) (news : Option News)
+      → MayAsk room number ⊎ MayAskAgain room number call
       → news ≡ news_in call → slice_get room.seats number ≡ Some (Parked on) → news ≡ None
   may_brings room number call on news (inl free) is parked = absurd (let clash : Free ≡ Parked on = same_Some _ _ (sym free ∙ parked) in cc)
   may_brings room number call on news (inr again) is parked = is ∙ no_news call again.0 again.1
 
   -- an answer has its call
-  pub answered_news : (chunk : ℕ) (sure : Bool) (old new : Shown M) (who : Who) (call : Call M) (reply : Answer M) (news : Option News) → news ≡ news_in call
+  pub answered_news : (chunk : ℕ) (sure : Bool) (old new : Shown M) (who : Who) (call : Call M) (reply : Answer M) (news : Option News)
+      → news ≡ news_in call
       → Applies chunk sure old new who call (board.Answered reply) → news ≡ news_by (board.Answered reply)
   answered_news chunk sure old new who call reply news is applies = is ∙ ap news_in (sym applies.3)
 
@@ -86,16 +91,18 @@ module _ {M : Type 0} where
       → (is_barred old.feeds call ≡ true → (board.Refused refusal back ≡ board.Refused WrongKind call) × (new ≡ old))
       → (is_barred old.feeds call ≡ false → Applies chunk sure old.board new.board (Seat number) call (board.Refused refusal back))
       → IsAsBefore old.board new.board
-  refused_before chunk sure old new number call back refusal bars applies = elim (refused_reaches chunk sure old new number call back refusal bars applies) [
-    | inl reaches ↦ reaches.applies.2
-    | inr barred ↦ subst (λ (b : Shown M). IsAsBefore old.board b) (sym barred.board) (unchanged old.board)
-  ]
+  refused_before chunk sure old new number call back refusal bars applies =
+      elim (refused_reaches chunk sure old new number call back refusal bars applies) [
+        | inl reaches ↦ reaches.applies.2
+        | inr barred ↦ subst (λ (b : Shown M). IsAsBefore old.board b) (sym barred.board) (unchanged old.board)
+      ]
 
   pub before_follows : (news : Option News) (old new : Shown M) → IsAsBefore old new → Follows news old new
   before_follows news old new same = same_follows news old new same.history
 
   -- who waits on a call, would wait on its want
-  call_waits : (history : List (Entry M)) (call : Call M) (on : Want) → want_in call ≡ Some on → Fits history call → answer history call ≡ None → Waits history on
+  call_waits : (history : List (Entry M)) (call : Call M) (on : Want) → want_in call ≡ Some on → Fits history call
+      → answer history call ≡ None → Waits history on
   call_waits history (Recv name) on wants fits none = subst (Waits history) (same_Some _ _ wants) (fits, none)
   call_waits history (Get name) on wants fits none = subst (Waits history) (same_Some _ _ wants) (fits, none)
   call_waits history (Take name) on wants fits none = subst (Waits history) (same_Some _ _ wants) (fits, none)
@@ -123,7 +130,8 @@ module _ {M : Type 0} where
       let one : again.0 ≡ on = same_Some again.0 on (sym again.1 ∙ (ap want_in (sym is) ∙ wants)) in
       inr (ap (λ l. slice_get l number) same ∙ (again.2 ∙ ap (λ w. Some (Parked w)) one))
 
-  pub before_watched : (old new : FloorShown M) (places : List Place) (all_due : Bool) → IsWatched old places all_due → IsAsBefore old.board new.board
+  pub before_watched : (old new : FloorShown M) (places : List Place) (all_due : Bool)
+      → IsWatched old places all_due → IsAsBefore old.board new.board
       → new.lanes ≡ old.lanes → IsWatched new places all_due
   before_watched old new places all_due was same lanes =
       same_watched old new places all_due was same.history (room_kept old.board new.board same) (λ none. subst NoneOpen lanes none)

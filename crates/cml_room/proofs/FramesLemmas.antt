@@ -12,7 +12,8 @@ use Rattle.cml_room.proofs.TurningLemmas.{room_of}
 
 module _ {M : Type 0} where
   -- nothing of the seats is changed
-  pub keeps : (room : RoomShown M) (floor floor' : FloorShown M) (places : List Place) (all : Bool) → room_of floor (states_in places) (notices_in places) all ≡ room
+  pub keeps : (room : RoomShown M) (floor floor' : FloorShown M) (places : List Place) (all : Bool)
+      → room_of floor (states_in places) (notices_in places) all ≡ room
       → KeepsSeats room (room_of floor' (states_in places) (notices_in places) all)
   keeps room floor floor' places all view = record {
     seats = ap (λ (r : RoomShown M). r.seats) view;
@@ -26,14 +27,17 @@ module _ {M : Type 0} where
   with_seats floor seats = room_of floor (states_in seats.places) (notices_in seats.places) seats.all_due
 
   -- a call of no seat
-  stirs : (Few : RoomShown M → RoomShown M → Type 0) (room : RoomShown M) (floor floor' : FloorShown M) (olds lates : SeatsShown) (news : Option News)
-      → with_seats floor olds ≡ room → Settles news floor' olds lates → Few room (with_seats floor' lates) → Stirs Few room (with_seats floor' lates)
+  stirs : (Few : RoomShown M → RoomShown M → Type 0) (room : RoomShown M) (floor floor' : FloorShown M)
+      (olds lates : SeatsShown) (news : Option News)
+      → with_seats floor olds ≡ room → Settles news floor' olds lates → Few room (with_seats floor' lates)
+      → Stirs Few room (with_seats floor' lates)
   stirs Few room floor floor' olds lates news view settles few = record {
     seats = settles.states ∙ ap (λ (r : RoomShown M). r.seats) view;
     step = λ seat. settles.woken seat ∙ ap (λ (r : RoomShown M). was_woken r.notices seat) view;
     few = few;
     alarm = λ has moves.
-        settles.alarm has (λ stalled. moves (subst (IsStalled floor') (sym settles.states) stalled)) ∙ ap (λ (r : RoomShown M). r.all_due) view;
+        settles.alarm has (λ stalled. moves (subst (IsStalled floor') (sym settles.states) stalled))
+        ∙ ap (λ (r : RoomShown M). r.all_due) view;
   }
 
   pub stirs_few : (room : RoomShown M) (floor floor' : FloorShown M) (olds lates : SeatsShown) → with_seats floor olds ≡ room
@@ -47,13 +51,16 @@ module _ {M : Type 0} where
       → Settles None floor' olds lates → Stirs MakesNoneDue room (with_seats floor' lates)
   stirs_none room floor floor' olds lates view settles =
       stirs MakesNoneDue room floor floor' olds lates None view settles
-      (none_by room (with_seats floor' lates) (few_due room floor floor' olds.places lates.places olds.all_due lates.all_due (λ on. ⊥) None view settles.few))
+      (none_by room (with_seats floor' lates)
+      (few_due room floor floor' olds.places lates.places olds.all_due lates.all_due (λ on. ⊥) None view settles.few))
 
   -- a seat's turn
-  pub turns : (room : RoomShown M) (floor floor' : FloorShown M) (olds lates : List Place) (all all' : Bool) (number : ℕ) (news : Option News)
+  pub turns : (room : RoomShown M) (floor floor' : FloorShown M) (olds lates : List Place)
+      (all all' : Bool) (number : ℕ) (news : Option News)
       → room_of floor (states_in olds) (notices_in olds) all ≡ room → HasAsked number (notices_in olds) (notices_in lates)
       → RisesFew floor'.board.history news (λ on. slice_get (states_in olds) number ≡ Some (state.Parked on)) olds lates
-      → (HasRoom floor'.board → all' ≡ all) → Turns number (AskOf number) news room (room_of floor' (states_in lates) (notices_in lates) all')
+      → (HasRoom floor'.board → all' ≡ all)
+      → Turns number (AskOf number) news room (room_of floor' (states_in lates) (notices_in lates) all')
   turns room floor floor' olds lates all all' number news view asked few alarm = record {
     step = subst (λ (r : RoomShown M). HasAsked number r.notices (notices_in lates)) view asked;
     few = few_of room floor floor' olds lates all all' number news view few;
@@ -64,7 +71,10 @@ module _ {M : Type 0} where
   pub turns_not : (room : RoomShown M) (number : ℕ) (news : Option News) → Turns number Other news room room
   turns_not room number news = record {
     step = λ seat. refl;
-    few = record { why = λ k on due. absurd (none_same room k on due); one = λ single j k on first second. absurd (none_same room j on first) };
+    few = record {
+      why = λ k on due. absurd (none_same room k on due);
+      one = λ single j k on first second. absurd (none_same room j on first);
+    };
     alarm = λ has. refl;
   }
 
@@ -73,7 +83,8 @@ module _ {M : Type 0} where
       → Asks chunk sure may old new number call told → IsMade (AskOf number) old new → IsMade (asked_by number told) old new
   step_heard chunk sure may old new number call (Answered answer) asks asked = asked
   step_heard chunk sure may old new number call (WouldWait back) asks asked = asked
-  step_heard chunk sure may old new number call (Refused Gone back) asks asked = λ seat. ap (λ (r : RoomShown M). was_woken r.notices seat) asks.2
+  step_heard chunk sure may old new number call (Refused Gone back) asks asked =
+      λ seat. ap (λ (r : RoomShown M). was_woken r.notices seat) asks.2
   step_heard chunk sure may old new number call (Refused Busy back) asks asked = asked
   step_heard chunk sure may old new number call (Refused NoSuch back) asks asked = asked
   step_heard chunk sure may old new number call (Refused WrongKind back) asks asked = asked
@@ -82,7 +93,9 @@ module _ {M : Type 0} where
   step_heard chunk sure may old new number call (Refused NoMemory back) asks asked = asked
   step_heard chunk sure may old new number call (Refused Unseen back) asks asked = asked
 
-  pub turns_heard : (chunk : ℕ) (sure : Bool) (may : Type 0) (old new : RoomShown M) (number : ℕ) (call : Call M) (told : Outcome M) (news : Option News)
-      → Asks chunk sure may old new number call told → Turns number (AskOf number) news old new → Turns number (asked_by number told) news old new
+  pub turns_heard : (chunk : ℕ) (sure : Bool) (may : Type 0) (old new : RoomShown M) (number : ℕ) (call : Call M)
+      (told : Outcome M) (news : Option News)
+      → Asks chunk sure may old new number call told → Turns number (AskOf number) news old new
+      → Turns number (asked_by number told) news old new
   turns_heard chunk sure may old new number call told news asks made =
       record { step = step_heard chunk sure may old new number call told asks made.step; few = made.few; alarm = made.alarm }

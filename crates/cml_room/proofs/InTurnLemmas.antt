@@ -1,5 +1,6 @@
 -- How often `next_due` can return a seat.
-use Rattle.std.proofs.Common.{◌≡◌, ◌≢◌, ℕ, zero, suc, ◌+◌, ◌<◌, ◌≤◌, inl, inr, Bool, true, false, List, [], ◌∷◌, length, slice_get, Option, Some, None, refl, sym, ap, ◌∙◌, arith}
+use Rattle.std.proofs.Common.{◌≡◌, ◌≢◌, ℕ, zero, suc, ◌+◌, ◌<◌, ◌≤◌, inl, inr, Bool, true, false, List, [], ◌∷◌, length}
+use Rattle.std.proofs.Common.{slice_get, Option, Some, None, refl, sym, ap, ◌∙◌, arith}
 use Rattle.std.specs.Prelude.{◌&&◌, ◌||◌, not}
 use Rattle.std.proofs.lemmas.Option.{same_Some, slice_get_within}
 use Rattle.std.proofs.lemmas.Bool.{false≢true}
@@ -55,7 +56,8 @@ module _ {M : Type 0} where
   unwoken room seat = not (was_woken room.notices seat)
 
   in_turn : (givens : List ℕ) (first last : RoomShown M) → GivesInTurn givens first last
-      → (length givens + count (unwoken last) (length first.seats) ≡ count (unwoken first) (length first.seats)) × (last.seats ≡ first.seats)
+      → (length givens + count (unwoken last) (length first.seats) ≡ count (unwoken first) (length first.seats))
+      × (last.seats ≡ first.seats)
   in_turn [] first last same = (
     let here : count (unwoken last) (length first.seats) ≡ count (unwoken first) (length first.seats) =
         ap (λ (r : RoomShown M). count (unwoken r) (length first.seats)) same in

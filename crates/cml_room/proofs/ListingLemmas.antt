@@ -1,8 +1,10 @@
 -- Who is in which queue, over what is done with a seat.
-use Rattle.std.proofs.Common.{◌≡◌, ◌≢◌, ℕ, zero, suc, ◌+◌, ◌<◌, ◌≤◌, inl, inr, Bool, true, false, List, [], ◌∷◌, ◌++◌, length, get_or, slice_get, slice_set, sum_by, Option, Some, None, refl, sym, ap, ◌∙◌, arith, length-append}
+use Rattle.std.proofs.Common.{◌≡◌, ◌≢◌, ℕ, zero, suc, ◌+◌, ◌<◌, ◌≤◌, inl, inr, Bool, true, false, List, [], ◌∷◌, ◌++◌, length, get_or}
+use Rattle.std.proofs.Common.{slice_get, slice_set, sum_by, Option, Some, None, refl, sym, ap, ◌∙◌, arith, length-append}
 use Rattle.std.specs.Prelude.{◌||◌, ◌==◌}
 use Rattle.std.specs.Option.{option_map}
-use Rattle.std.proofs.lemmas.Option.{none-some, same_Some, slice_get_within, slice_get-get_or, slice_get_past, slice_get-map, get_or_from_slice_get}
+use Rattle.std.proofs.lemmas.Option.{none-some, same_Some, slice_get_within, slice_get-get_or, slice_get_past, slice_get-map}
+use Rattle.std.proofs.lemmas.Option.{get_or_from_slice_get}
 use Rattle.std.proofs.lemmas.Bool.{ne_eqb, eq-eqb, true≢false, false≢true}
 use Rattle.std.proofs.lemmas.List.{length-set, length-map, map-set, map-append}
 use Rattle.std.proofs.lemmas.List.Sums.{sum_by-set, sum_by_push}
@@ -42,18 +44,21 @@ pub in_pushed : (queues queues' : QueuesShown) (row number k : ℕ) → queue_of
 in_pushed queues queues' row number k here = ap (λ q. has q number) here ∙ has_pushed (queue_of queues row) number k
 
 -- a seat is other than it was, and in the same queues
-pub listed_same : (queues : QueuesShown) (by : Option Place → ℕ → Bool) (places : List Place) (k : ℕ) (old new : Place) → slice_get places k ≡ Some old
+pub listed_same : (queues : QueuesShown) (by : Option Place → ℕ → Bool) (places : List Place) (k : ℕ) (old new : Place)
+    → slice_get places k ≡ Some old
     → AreListed queues by places → ((row : ℕ) → by (Some new) row ≡ by (Some old) row) → AreListed queues by (slice_set places k new)
 listed_same queues by places k old new found listed same = λ number row. elim (this_or_other number k) [
   | inl here ↦
       listed number row
       ∙ (ap (λ (o : Option Place). by o row) (ap (slice_get places) here ∙ found)
-      ∙ (sym (same row) ∙ ap (λ (o : Option Place). by o row) (sym (ap (slice_get (slice_set places k new)) here ∙ slice_get-set_same places k old new found))))
+      ∙ (sym (same row) ∙ ap (λ (o : Option Place). by o row)
+      (sym (ap (slice_get (slice_set places k new)) here ∙ slice_get-set_same places k old new found))))
   | inr other ↦ listed number row ∙ ap (λ (o : Option Place). by o row) (sym (slice_get-set_other places k number new other))
 ]
 
 -- a seat that was in none of the queues is put into one
-pub listed_push : (queues queues' : QueuesShown) (by : Option Place → ℕ → Bool) (places : List Place) (row k : ℕ) (old new : Place) → slice_get places k ≡ Some old
+pub listed_push : (queues queues' : QueuesShown) (by : Option Place → ℕ → Bool) (places : List Place) (row k : ℕ) (old new : Place)
+    → slice_get places k ≡ Some old
     → AreListed queues by places → ((r : ℕ) → by (Some old) r ≡ false) → ((r : ℕ) → by (Some new) r ≡ (r == row))
     → queue_of queues' row ≡ queue_of queues row ++ k ∷ [] → ((other : ℕ) → other ≢ row → queue_of queues' other ≡ queue_of queues other)
     → AreListed queues' by (slice_set places k new)
@@ -61,14 +66,16 @@ listed_push queues queues' by places row k old new found listed none one here ot
     elim (this_or_other number k) [
       | inl same ↦
           let now : by (slice_get (slice_set places k new) number) r ≡ (r == row) =
-          ap (λ (o : Option Place). by o r) (ap (slice_get (slice_set places k new)) same ∙ slice_get-set_same places k old new found) ∙ one r in
+          ap (λ (o : Option Place). by o r) (ap (slice_get (slice_set places k new)) same ∙ slice_get-set_same places k old new found)
+          ∙ one r in
           elim (this_or_other r row) [
             | inl this ↦
                 (ap (λ q. is_in queues' q number) this ∙ (in_pushed queues queues' row number k here
                 ∙ (ap (λ b. is_in queues row number || b) (eq-eqb number k same) ∙ or_true (is_in queues row number))))
                 ∙ (sym (eq-eqb r row this) ∙ sym now)
             | inr that ↦
-                (ap (λ q. has q number) (others r that) ∙ (listed number r ∙ (ap (λ (o : Option Place). by o r) (ap (slice_get places) same ∙ found) ∙ none r)))
+                (ap (λ q. has q number) (others r that)
+                ∙ (listed number r ∙ (ap (λ (o : Option Place). by o r) (ap (slice_get places) same ∙ found) ∙ none r)))
                 ∙ (sym (ne_eqb r row that) ∙ sym now)
           ]
       | inr other ↦
@@ -84,7 +91,8 @@ listed_push queues queues' by places row k old new found listed none one here ot
     ]
 
 -- a seat that was in one of the queues leaves it
-pub listed_remove : (queues queues' : QueuesShown) (by : Option Place → ℕ → Bool) (places : List Place) (row k : ℕ) (old new : Place) → slice_get places k ≡ Some old
+pub listed_remove : (queues queues' : QueuesShown) (by : Option Place → ℕ → Bool) (places : List Place) (row k : ℕ) (old new : Place)
+    → slice_get places k ≡ Some old
     → AreListed queues by places → ((r : ℕ) → by (Some old) r ≡ (r == row)) → ((r : ℕ) → by (Some new) r ≡ false)
     → is_in queues' row k ≡ false → ((other : ℕ) → other ≢ k → is_in queues' row other ≡ is_in queues row other)
     → ((other : ℕ) → other ≢ row → queue_of queues' other ≡ queue_of queues other) → AreListed queues' by (slice_set places k new)
@@ -92,32 +100,39 @@ listed_remove queues queues' by places row k old new found listed one none gone 
     elim (this_or_other number k) [
       | inl same ↦
           let now : by (slice_get (slice_set places k new) number) r ≡ false =
-          ap (λ (o : Option Place). by o r) (ap (slice_get (slice_set places k new)) same ∙ slice_get-set_same places k old new found) ∙ none r in
+          ap (λ (o : Option Place). by o r) (ap (slice_get (slice_set places k new)) same ∙ slice_get-set_same places k old new found)
+          ∙ none r in
           elim (this_or_other r row) [
             | inl this ↦ (ap (λ q. is_in queues' q number) this ∙ (ap (is_in queues' row) same ∙ gone)) ∙ sym now
             | inr that ↦
                 (ap (λ q. has q number) (others r that)
-                ∙ (listed number r ∙ (ap (λ (o : Option Place). by o r) (ap (slice_get places) same ∙ found) ∙ (one r ∙ ne_eqb r row that)))) ∙ sym now
+                ∙ (listed number r
+                ∙ (ap (λ (o : Option Place). by o r) (ap (slice_get places) same ∙ found) ∙ (one r ∙ ne_eqb r row that)))) ∙ sym now
           ]
       | inr other ↦
           let now : by (slice_get places number) r ≡ by (slice_get (slice_set places k new) number) r =
           ap (λ (o : Option Place). by o r) (sym (slice_get-set_other places k number new other)) in
           elim (this_or_other r row) [
             | inl this ↦
-                ap (λ q. is_in queues' q number) this ∙ (kept number other ∙ (ap (λ q. is_in queues q number) (sym this) ∙ (listed number r ∙ now)))
+                ap (λ q. is_in queues' q number) this
+                ∙ (kept number other ∙ (ap (λ q. is_in queues q number) (sym this) ∙ (listed number r ∙ now)))
             | inr that ↦ ap (λ q. has q number) (others r that) ∙ (listed number r ∙ now)
           ]
     ]
 
 -- a seat more, which is in none
-pub listed_added : (queues queues' : QueuesShown) (by : Option Place → ℕ → Bool) (places : List Place) (new : Place) → AreListed queues by places
-    → ((r : ℕ) → by (Some new) r ≡ false) → ((r : ℕ) → by None r ≡ false) → queues'.queues ≡ queues.queues → AreListed queues' by (places ++ new ∷ [])
+pub listed_added : (queues queues' : QueuesShown) (by : Option Place → ℕ → Bool) (places : List Place) (new : Place)
+    → AreListed queues by places
+    → ((r : ℕ) → by (Some new) r ≡ false) → ((r : ℕ) → by None r ≡ false) → queues'.queues ≡ queues.queues
+    → AreListed queues' by (places ++ new ∷ [])
 listed_added queues queues' by places new listed none nobody same = λ number r.
-    let before : is_in queues' r number ≡ by (slice_get places number) r = ap (λ (l : List (List ℕ)). is_in (record { queues = l; bound = 0 }) r number) same ∙ listed number r in
+    let before : is_in queues' r number ≡ by (slice_get places number) r =
+    ap (λ (l : List (List ℕ)). is_in (record { queues = l; bound = 0 }) r number) same ∙ listed number r in
     elim (this_or_other number (length places)) [
       | inl here ↦
           before ∙ (ap (λ (o : Option Place). by o r) (slice_get_past places number (omega (arith, here)))
-          ∙ (nobody r ∙ (sym (none r) ∙ ap (λ (o : Option Place). by o r) (sym (ap (slice_get (places ++ new ∷ [])) here ∙ slice_get_pushed places new)))))
+          ∙ (nobody r ∙ (sym (none r)
+          ∙ ap (λ (o : Option Place). by o r) (sym (ap (slice_get (places ++ new ∷ [])) here ∙ slice_get_pushed places new)))))
       | inr other ↦ before ∙ ap (λ (o : Option Place). by o r) (sym (slice_get_pushed_other places new number other))
     ]
 
@@ -143,7 +158,8 @@ none_has [] k none = refl
 none_has (x ∷ queue) k none = absurd (none-some x (sym none))
 
 -- who is in the queue of those that weren't woken waits, and is due
-pub unwoken_waits : (o : Option Place) → noted_in o 0 ≡ true → (waiter : Waiter) × (o ≡ Some (place.Waiting waiter)) × (waiter.notice ≡ notice.Due)
+pub unwoken_waits : (o : Option Place) → noted_in o 0 ≡ true
+    → (waiter : Waiter) × (o ≡ Some (place.Waiting waiter)) × (waiter.notice ≡ notice.Due)
 unwoken_waits None is = absurd (false≢true is)
 unwoken_waits (Some place.Free) is = absurd (false≢true is)
 unwoken_waits (Some place.Left) is = absurd (false≢true is)
@@ -157,24 +173,29 @@ unwoken_waits (Some (place.Waiting waiter)) is = (waiter, refl, by_notice waiter
 pub not_due : (queue : List ℕ) (k : ℕ) (o : Option Place) (waiter : Waiter) → has queue k ≡ noted_in o 0 → slice_get queue 0 ≡ None
     → o ≡ Some (place.Waiting waiter) → ¬ (waiter.notice ≡ notice.Due)
 not_due queue k o waiter listed none is due =
-    true≢false (sym (ap (λ n. noted_as n 0) due) ∙ (sym (ap (λ (p : Option Place). noted_in p 0) is) ∙ (sym listed ∙ none_has queue k none)))
+    true≢false (sym (ap (λ n. noted_as n 0) due)
+    ∙ (sym (ap (λ (p : Option Place). noted_in p 0) is) ∙ (sym listed ∙ none_has queue k none)))
 
 -- what is read of a seat is what is known of it
-pub seen_at : (places : List Place) (k : ℕ) (seen p : Place) → k < length places → seen ≡ get_or places k seen → seen ≡ p → slice_get places k ≡ Some p
+pub seen_at : (places : List Place) (k : ℕ) (seen p : Place) → k < length places → seen ≡ get_or places k seen
+    → seen ≡ p → slice_get places k ≡ Some p
 seen_at places k seen p within read is = slice_get-get_or places k seen within ∙ ap Some (sym read ∙ is)
 
 -- what is kept of the seats, where one is other than it was
-pub kept_set : (places : List Place) (free free' parked parked' : ℕ) (rows rows' due due' : QueuesShown) (k : ℕ) (old new : Place) → slice_get places k ≡ Some old
+pub kept_set : (places : List Place) (free free' parked parked' : ℕ) (rows rows' due due' : QueuesShown) (k : ℕ) (old new : Place)
+    → slice_get places k ≡ Some old
     → IsKept places free parked rows due → free' + free_by (state_by old) ≡ free + free_by (state_by new)
     → parked' + parked_by (state_by old) ≡ parked + parked_by (state_by new)
     → AreListed rows' row_in (slice_set places k new) → AreListed due' noted_in (slice_set places k new)
     → length rows'.queues ≡ length rows.queues → length due'.queues ≡ length due.queues → rows'.bound ≡ rows.bound → due'.bound ≡ due.bound
     → IsKept (slice_set places k new) free' parked' rows' due'
-kept_set places free free' parked parked' rows rows' due due' k old new found kept count waits in_rows in_due rows_same two_same row_bound due_bound =
+kept_set places free free' parked parked' rows rows' due due' k old new found kept count waits in_rows in_due
+    rows_same two_same row_bound due_bound =
     let within : k < length places = slice_get_within places k old found in
     let states : states_in (slice_set places k new) ≡ slice_set (states_in places) k (state_by new) = map-set state_by places k new in
     let was : get_or (states_in places) k (state_by old) ≡ state_by old =
-    get_or_from_slice_get (states_in places) k (state_by old) (state_by old) (slice_get-map state_by places k ∙ ap (option_map state_by) found) in
+    get_or_from_slice_get (states_in places) k (state_by old) (state_by old)
+    (slice_get-map state_by places k ∙ ap (option_map state_by) found) in
     record {
       counted = omega (
         arith,
@@ -201,11 +222,22 @@ kept_set places free free' parked parked' rows rows' due due' k old new found ke
     }
 
 -- a seat more, which is free
-pub kept_added : (places : List Place) (free parked : ℕ) (rows rows' due due' : QueuesShown) → IsKept places free parked rows due → rows'.queues ≡ rows.queues → due'.queues ≡ due.queues
+pub kept_added : (places : List Place) (free parked : ℕ) (rows rows' due due' : QueuesShown) → IsKept places free parked rows due
+    → rows'.queues ≡ rows.queues → due'.queues ≡ due.queues
     → rows'.bound ≡ rows.bound + 1 → due'.bound ≡ due.bound + 1 → IsKept (places ++ place.Free ∷ []) (free + 1) parked rows' due'
 kept_added places free parked rows rows' due due' kept rows_same due_same row_bound due_bound = record {
-  counted = omega (arith, ap (sum_by free_by) (map-append state_by places (place.Free ∷ [])), sum_by_push free_by (states_in places) state.Free, kept.counted);
-  waiting = omega (arith, ap (sum_by parked_by) (map-append state_by places (place.Free ∷ [])), sum_by_push parked_by (states_in places) state.Free, kept.waiting);
+  counted = omega (
+    arith,
+    ap (sum_by free_by) (map-append state_by places (place.Free ∷ [])),
+    sum_by_push free_by (states_in places) state.Free,
+    kept.counted,
+  );
+  waiting = omega (
+    arith,
+    ap (sum_by parked_by) (map-append state_by places (place.Free ∷ [])),
+    sum_by_push parked_by (states_in places) state.Free,
+    kept.waiting,
+  );
   in_rows = listed_added rows rows' row_in places place.Free kept.in_rows (λ r. refl) (λ r. refl) rows_same;
   in_due = listed_added due due' noted_in places place.Free kept.in_due (λ r. refl) (λ r. refl) due_same;
   many_rows = ap length rows_same ∙ kept.many_rows;
@@ -215,15 +247,18 @@ kept_added places free parked rows rows' due due' kept rows_same due_same row_bo
 }
 
 -- no more seats are free than were made
-pub kept_within : (places : List Place) (free parked : ℕ) (rows due : QueuesShown) → IsKept places free parked rows due → free ≤ length places
+pub kept_within : (places : List Place) (free parked : ℕ) (rows due : QueuesShown)
+    → IsKept places free parked rows due → free ≤ length places
 kept_within places free parked rows due kept = omega (arith, kept.counted, free_within (states_in places), length-map places state_by)
 
 -- no more wait than were made
-pub waiting_within : (places : List Place) (free parked : ℕ) (rows due : QueuesShown) → IsKept places free parked rows due → parked ≤ length places
+pub waiting_within : (places : List Place) (free parked : ℕ) (rows due : QueuesShown)
+    → IsKept places free parked rows due → parked ≤ length places
 waiting_within places free parked rows due kept = omega (arith, kept.waiting, parked_within (states_in places), length-map places state_by)
 
 -- where one seat is free, one is counted
-pub one_free : (places : List Place) (free parked : ℕ) (rows due : QueuesShown) (k : ℕ) → IsKept places free parked rows due → slice_get places k ≡ Some place.Free → 1 ≤ free
+pub one_free : (places : List Place) (free parked : ℕ) (rows due : QueuesShown) (k : ℕ) → IsKept places free parked rows due
+    → slice_get places k ≡ Some place.Free → 1 ≤ free
 one_free places free parked rows due k kept found =
     let within : k < length (states_in places) = omega (arith, slice_get_within places k place.Free found, length-map places state_by) in
     let was : get_or (states_in places) k state.Free ≡ state.Free =
@@ -231,7 +266,8 @@ one_free places free parked rows due k kept found =
     omega (arith, kept.counted, sum_by-set free_by (states_in places) k state.Left state.Free within, ap free_by was)
 
 -- where one seat waits, one is counted
-pub one_waits : (places : List Place) (free parked : ℕ) (rows due : QueuesShown) (k : ℕ) (waiter : Waiter) → IsKept places free parked rows due
+pub one_waits : (places : List Place) (free parked : ℕ) (rows due : QueuesShown) (k : ℕ) (waiter : Waiter)
+    → IsKept places free parked rows due
     → slice_get places k ≡ Some (place.Waiting waiter) → 1 ≤ parked
 one_waits places free parked rows due k waiter kept found = omega (arith, kept.waiting, parked_at places k waiter found)
 
@@ -256,10 +292,12 @@ freed_waiter place.Free waiter is = refl
 freed_waiter place.Left waiter is = absurd (let clash : place.Left ≡ place.Waiting waiter = is in cc)
 
 -- who waits is in the row of its object
-pub in_row : (rows : QueuesShown) (places : List Place) (k : ℕ) (waiter : Waiter) (source : ℕ) → AreListed rows row_in places → slice_get places k ≡ Some (place.Waiting waiter)
+pub in_row : (rows : QueuesShown) (places : List Place) (k : ℕ) (waiter : Waiter) (source : ℕ) → AreListed rows row_in places
+    → slice_get places k ≡ Some (place.Waiting waiter)
     → waiter.source ≡ source → is_in rows (row_of source) k ≡ true
 in_row rows places k waiter source listed found same =
-    listed k (row_of source) ∙ (ap (λ (o : Option Place). row_in o (row_of source)) found ∙ eq-eqb (row_of source) (row_of waiter.source) (ap row_of (sym same)))
+    listed k (row_of source)
+    ∙ (ap (λ (o : Option Place). row_in o (row_of source)) found ∙ eq-eqb (row_of source) (row_of waiter.source) (ap row_of (sym same)))
 
 -- there are 64 rows
 pub row_within : (source : ℕ) → row_of source < 64

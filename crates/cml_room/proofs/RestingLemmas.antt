@@ -1,5 +1,6 @@
 -- Who waits goes on waiting over an entry that brings no news for them.
-use Rattle.std.proofs.Common.{◌≡◌, ℕ, ◌<◌, ◌≤◌, Bool, true, false, cond, eqb, List, [], ◌∷◌, length, drop, Option, Some, None, unwrap_or, IsTrue, IsSome, IfSome, refl, sym, ap, subst, ◌∙◌, arith, length-append, length-drop}
+use Rattle.std.proofs.Common.{◌≡◌, ℕ, ◌<◌, ◌≤◌, Bool, true, false, cond, eqb, List, [], ◌∷◌, length, drop, Option, Some, None, unwrap_or}
+use Rattle.std.proofs.Common.{IsTrue, IsSome, IfSome, refl, sym, ap, subst, ◌∙◌, arith, length-append, length-drop}
 use Rattle.std.specs.Prelude.{⊤}
 use Rattle.std.specs.Option.{option_map}
 use Rattle.std.proofs.lemmas.Option.{none-some, same_Some, slice_get_past}
@@ -34,7 +35,8 @@ module _ {M : Type 0} where
   given_none (Some x) e = absurd (none-some _ (sym e))
 
   -- an object that was made stays of its kind, and began as it did
-  same_kind : (entry : Entry M) (before : List (Entry M)) (object : ℕ) (k : Option Kind) → kind_of before object ≡ k → IsSome k → kind_of (entry ∷ before) object ≡ kind_of before object
+  same_kind : (entry : Entry M) (before : List (Entry M)) (object : ℕ) (k : Option Kind) → kind_of before object ≡ k → IsSome k
+      → kind_of (entry ∷ before) object ≡ kind_of before object
   same_kind entry before object None is some = absurd (false≢true some)
   same_kind entry before object (Some k) is some = kind_kept entry before object k is ∙ sym is
 
@@ -43,7 +45,8 @@ module _ {M : Type 0} where
     where
       by_cases : (o : Option Origin) → origin_of before object ≡ o → IsSome (option_map kind_by o) → object < length (made before)
       by_cases None e some = absurd (false≢true some)
-      by_cases (Some origin) e some = omega (arith, λ (past : length (made before) ≤ object). none-some _ (sym (slice_get_past (made before) object past) ∙ e))
+      by_cases (Some origin) e some =
+          omega (arith, λ (past : length (made before) ≤ object). none-some _ (sym (slice_get_past (made before) object past) ∙ e))
 
   pub fits_kept : (entry : Entry M) (before : List (Entry M)) (object : ℕ) (call : Call M) → IsSome (kind_of before object)
       → IfSome (kind_of before object) (λ kind. IsTrue (takes kind call))
@@ -53,17 +56,20 @@ module _ {M : Type 0} where
       (subst (λ k. IsSome k) (sym same) is_made, subst (λ k. IfSome k (λ kind. IsTrue (takes kind call))) (sym same) is_taken)
 
   -- what brings no news there sends nothing there, and doesn't close it
-  sends_none : (before : List (Entry M)) (call : Call M) (at : Name) → NoNews before (news_in call) (want.Recv at) → sent_by call (source_of before at.0) ≡ []
+  sends_none : (before : List (Entry M)) (call : Call M) (at : Name) → NoNews before (news_in call) (want.Recv at)
+      → sent_by call (source_of before at.0) ≡ []
   sends_none before (Send name message) at none = ap (λ t. cond t (message ∷ []) []) none
   sends_none before (Cast name message) at none = ap (λ t. cond t (message ∷ []) []) none
   sends_none before call at none = refl
 
-  shuts_none : (before : List (Entry M)) (call : Call M) (reply : Reply M) (at : Name) → NoNews before (news_in call) (want.Recv at) → closes call reply at.0 ≡ false
+  shuts_none : (before : List (Entry M)) (call : Call M) (reply : Reply M) (at : Name)
+      → NoNews before (news_in call) (want.Recv at) → closes call reply at.0 ≡ false
   shuts_none before (ClosePort name) reply at none = ap (λ t. cond t (is_done reply) false) none
   shuts_none before call reply at none = refl
 
   -- an object that is owed nothing still isn't
-  owes_none : (entry : Entry M) (before : List (Entry M)) (object : ℕ) → object < length (made before) → sent_by entry.call (source_of before object) ≡ []
+  owes_none : (entry : Entry M) (before : List (Entry M)) (object : ℕ) → object < length (made before)
+      → sent_by entry.call (source_of before object) ≡ []
       → length (owed before object) ≡ 0 → length (owed (entry ∷ before) object) ≡ 0
   owes_none entry before object within sends none =
       let same : origin_of (entry ∷ before) object ≡ origin_of before object =
@@ -97,7 +103,8 @@ module _ {M : Type 0} where
   taken_none true nothing value is none = is
   taken_none false nothing value is none = none
 
-  swapped_none : (name : Name) (object : ℕ) (message old : M) (before : List (Entry M)) (t : Bool) → eqb name.0 object ≡ t → held before object ≡ None
+  swapped_none : (name : Name) (object : ℕ) (message old : M) (before : List (Entry M)) (t : Bool)
+      → eqb name.0 object ≡ t → held before object ≡ None
       → given (held before name.0) ≡ Some (Got old) → unwrap_or (cond t (Some (Some message)) None) (held before object) ≡ None
   swapped_none name object message old before false e none answered = none
   swapped_none name object message old before true e none answered =
@@ -108,7 +115,8 @@ module _ {M : Type 0} where
   PutsNone (Put name message) object = eqb name.0 object ≡ false
   PutsNone call object = ⊤
 
-  holds_none : (before : List (Entry M)) (call : Call M) (reply : Reply M) (object : ℕ) → object < length (made before) → PutsNone call object
+  holds_none : (before : List (Entry M)) (call : Call M) (reply : Reply M) (object : ℕ)
+      → object < length (made before) → PutsNone call object
       → answer before call ≡ Some reply → held before object ≡ None → unwrap_or (left_by call reply object) (held before object) ≡ None
   holds_none before (MVarInit message) (Made name) object within puts answered none =
       ap (λ left. unwrap_or left (held before object)) (none_at name object (Some message) (ne_eqb name.0 object (λ same.
@@ -117,8 +125,10 @@ module _ {M : Type 0} where
       ap (λ left. unwrap_or left (held before object)) (none_at name object (Some message) puts) ∙ none
   holds_none before (Swap name message) (Got old) object within puts answered none =
       swapped_none name object message old before (eqb name.0 object) refl none answered
-  holds_none before (Take name) (Got message) object within puts answered none = taken_none (eqb name.0 object) None (held before object) refl none
-  holds_none before (TakePoll name) (Got message) object within puts answered none = taken_none (eqb name.0 object) None (held before object) refl none
+  holds_none before (Take name) (Got message) object within puts answered none =
+      taken_none (eqb name.0 object) None (held before object) refl none
+  holds_none before (TakePoll name) (Got message) object within puts answered none =
+      taken_none (eqb name.0 object) None (held before object) refl none
   holds_none before call reply object within puts answered none = none
 
   get_none : (before : List (Entry M)) (call : Call M) (at : Name) → NoNews before (news_in call) (want.Get at) → PutsNone call at.0
@@ -134,7 +144,8 @@ module _ {M : Type 0} where
   swap_none before call at none = tt
 
   -- who waits goes on waiting
-  pub still_waits : (entry : Entry M) (before : List (Entry M)) (on : Want) → answer before entry.call ≡ Some entry.reply → NoNews before (news_in entry.call) on
+  pub still_waits : (entry : Entry M) (before : List (Entry M)) (on : Want) → answer before entry.call ≡ Some entry.reply
+      → NoNews before (news_in entry.call) on
       → Waits before on → Waits (entry ∷ before) on
   still_waits entry before (want.Recv name) answered untold waits = (
     fits_kept entry before name.0 (Recv name) waits.0.0 waits.0.1,
@@ -142,13 +153,16 @@ module _ {M : Type 0} where
   )
   still_waits entry before (want.Get name) answered untold waits = (
     fits_kept entry before name.0 (Get name) waits.0.0 waits.0.1,
-    ap given (holds_none before entry.call entry.reply name.0 (within_made before name.0 waits.0.0) (get_none before entry.call name untold) answered (given_none _ waits.1)),
+    ap given (holds_none before entry.call entry.reply name.0 (within_made before name.0 waits.0.0)
+        (get_none before entry.call name untold) answered (given_none _ waits.1)),
   )
   still_waits entry before (want.Take name) answered untold waits = (
     fits_kept entry before name.0 (Take name) waits.0.0 waits.0.1,
-    ap given (holds_none before entry.call entry.reply name.0 (within_made before name.0 waits.0.0) (take_none before entry.call name untold) answered (given_none _ waits.1)),
+    ap given (holds_none before entry.call entry.reply name.0 (within_made before name.0 waits.0.0)
+        (take_none before entry.call name untold) answered (given_none _ waits.1)),
   )
   still_waits entry before (want.Swap name) answered untold waits = (
     fits_kept entry before name.0 (Take name) waits.0.0 waits.0.1,
-    ap given (holds_none before entry.call entry.reply name.0 (within_made before name.0 waits.0.0) (swap_none before entry.call name untold) answered (given_none _ waits.1)),
+    ap given (holds_none before entry.call entry.reply name.0 (within_made before name.0 waits.0.0)
+        (swap_none before entry.call name untold) answered (given_none _ waits.1)),
   )

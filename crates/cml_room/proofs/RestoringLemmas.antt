@@ -1,5 +1,6 @@
 -- A room whose seats have all left.
-use Rattle.std.proofs.Common.{◌≡◌, ℕ, zero, suc, ◌+◌, Bool, false, ◌&&◌, List, [], ◌∷◌, ◌++◌, length, replicate, slice_get, slice_set, Some, refl, sym, ap, subst, ◌∙◌, add-one, arith, length-append}
+use Rattle.std.proofs.Common.{◌≡◌, ℕ, zero, suc, ◌+◌, Bool, false, ◌&&◌, List, [], ◌∷◌, ◌++◌, length, replicate, slice_get}
+use Rattle.std.proofs.Common.{slice_set, Some, refl, sym, ap, subst, ◌∙◌, add-one, arith, length-append}
 use Rattle.std.proofs.lemmas.Option.{same_Some, none-some}
 use Rattle.std.proofs.lemmas.List.{length-replicate}
 use Rattle.cml_lanes.specs.Prelude.{FloorShown}
@@ -28,10 +29,12 @@ states_left places count left = ap states_in left ∙ states_same count
 pub none_due : (places : List Place) (count number : ℕ) (noted : Bool) → places ≡ replicate count place.Left
     → (is_parked (slice_get (states_in places) number) && noted) ≡ false
 none_due places count number noted left =
-    ap (λ (l : List State). is_parked (slice_get l number) && noted) (states_left places count left) ∙ ap (λ (b : Bool). b && noted) (none_parked count number)
+    ap (λ (l : List State). is_parked (slice_get l number) && noted) (states_left places count left)
+    ∙ ap (λ (b : Bool). b && noted) (none_parked count number)
 
 module _ {M : Type 0} where
-  pub watched_left : (floor : FloorShown M) (places : List Place) (count : ℕ) (all_due : Bool) → places ≡ replicate count place.Left → IsWatched floor places all_due
+  pub watched_left : (floor : FloorShown M) (places : List Place) (count : ℕ) (all_due : Bool)
+      → places ≡ replicate count place.Left → IsWatched floor places all_due
   watched_left floor places count all_due left = subst (λ (l : List Place). IsWatched floor l all_due) (sym left) (record {
     placed = λ number waiter found. absurd (none_waits count number waiter found);
     rests = λ some number waiter quiet. absurd (none_waits count number waiter quiet.here);
@@ -51,6 +54,7 @@ one_more_left places news after count left more gone =
     ∙ left_last count
     ∙ ap (λ (n : ℕ). replicate n place.Left) (sym (add-one count))
 
-pub length_more : (places news : List Place) (count : ℕ) → places ≡ replicate count place.Left → news ≡ places ++ place.Free ∷ [] → length news ≡ count + 1
+pub length_more : (places news : List Place) (count : ℕ) → places ≡ replicate count place.Left
+    → news ≡ places ++ place.Free ∷ [] → length news ≡ count + 1
 length_more places news count left more =
     omega (arith, ap length more, length-append places (place.Free ∷ []), ap length left, length-replicate count place.Left)

@@ -30,16 +30,19 @@ module _ {M : Type 0} where
   want_made history (want.Swap name) waits = waits.0.0
 
   -- the news are the same for who waits, where the source of what it waits at is
-  same_news : (old new : List (Entry M)) (news : Option News) (on : Want) → source_of new (object_of on) ≡ source_of old (object_of on) → NoNews new news on → NoNews old news on
+  same_news : (old new : List (Entry M)) (news : Option News) (on : Want) → source_of new (object_of on) ≡ source_of old (object_of on)
+      → NoNews new news on → NoNews old news on
   same_news old new None on source none = tt
   same_news old new (Some (Message name)) (want.Recv at) source none = ap (eqb name.0) (sym source) ∙ none
   same_news old new (Some (Multicast name)) (want.Recv at) source none = ap (eqb name.0) (sym source) ∙ none
   same_news old new (Some news) on source none = none
 
-  source_by_origin : (old new : List (Entry M)) (object : ℕ) → origin_of new object ≡ origin_of old object → source_of new object ≡ source_of old object
+  source_by_origin : (old new : List (Entry M)) (object : ℕ) → origin_of new object ≡ origin_of old object
+      → source_of new object ≡ source_of old object
   source_by_origin old new object same = ap (source_by object) same
 
-  none_before : (old new : List (Entry M)) (news : Option News) (on : Want) → ((object : ℕ) → IsSome (kind_of old object) → origin_of new object ≡ origin_of old object)
+  none_before : (old new : List (Entry M)) (news : Option News) (on : Want)
+      → ((object : ℕ) → IsSome (kind_of old object) → origin_of new object ≡ origin_of old object)
       → Waits old on → NoNews new news on → NoNews old news on
   none_before old new news on same waits none =
       same_news old new news on (source_by_origin old new (object_of on) (same (object_of on) (want_made old on waits))) none
@@ -48,7 +51,8 @@ module _ {M : Type 0} where
   pub leads_here : (news : Option News) (history : List (Entry M)) → Leads news history history
   leads_here news history = record { made = λ object some. refl; waits = λ on waits none. waits }
 
-  kind_stays : (old new : List (Entry M)) (object : ℕ) → origin_of new object ≡ origin_of old object → kind_of new object ≡ kind_of old object
+  kind_stays : (old new : List (Entry M)) (object : ℕ) → origin_of new object ≡ origin_of old object
+      → kind_of new object ≡ kind_of old object
   kind_stays old new object same = ap (option_map kind_by) same
 
   pub leads_on : (news : Option News) (one two three : List (Entry M)) → Leads news one two → Leads news two three → Leads news one three
@@ -59,22 +63,27 @@ module _ {M : Type 0} where
     waits = λ on waits none.
         let same = λ (object : ℕ) (some : IsSome (kind_of two object)). second.made object some in
         let later : (object : ℕ) → IsSome (kind_of one object) → origin_of three object ≡ origin_of one object = λ object some.
-        second.made object (subst (λ k. IsSome k) (sym (kind_stays one two object (first.made object some))) some) ∙ first.made object some in
+        second.made object (subst (λ k. IsSome k) (sym (kind_stays one two object (first.made object some))) some)
+        ∙ first.made object some in
         let source : source_of three (object_of on) ≡ source_of two (object_of on) =
         source_by_origin one three (object_of on) (later (object_of on) (want_made one on waits))
         ∙ sym (source_by_origin one two (object_of on) (first.made (object_of on) (want_made one on waits))) in
         second.waits on (first.waits on waits (same_news two three news on source none)) none;
   }
 
-  entry_made : (entry : Entry M) (before : List (Entry M)) (object : ℕ) → IsSome (kind_of before object) → origin_of (entry ∷ before) object ≡ origin_of before object
+  entry_made : (entry : Entry M) (before : List (Entry M)) (object : ℕ) → IsSome (kind_of before object)
+      → origin_of (entry ∷ before) object ≡ origin_of before object
   entry_made entry before object some =
-      slice_get-append_within (made before) (if_made entry.reply (begun_by (made before) before entry.call)) object (within_made before object some)
+      slice_get-append_within (made before) (if_made entry.reply (begun_by (made before) before entry.call)) object
+      (within_made before object some)
 
   -- an answered entry brings its own news
-  pub one_leads : (entry : Entry M) (before : List (Entry M)) → answer before entry.call ≡ Some entry.reply → Leads (news_in entry.call) before (entry ∷ before)
+  pub one_leads : (entry : Entry M) (before : List (Entry M)) → answer before entry.call ≡ Some entry.reply
+      → Leads (news_in entry.call) before (entry ∷ before)
   one_leads entry before answered = record {
     made = entry_made entry before;
-    waits = λ on waits none. still_waits entry before on answered (none_before before (entry ∷ before) (news_in entry.call) on (entry_made entry before) waits none) waits;
+    waits = λ on waits none. still_waits entry before on answered
+        (none_before before (entry ∷ before) (news_in entry.call) on (entry_made entry before) waits none) waits;
   }
 
   lane_leads : (number : ℕ) (way : Way) (target : Name) (message : M) (before : List (Entry M))
@@ -87,11 +96,13 @@ module _ {M : Type 0} where
       → Leads (Some (way_news way target)) before (with_lane number way target messages before)
   lanes_lead number way target [] before = leads_here (Some (way_news way target)) before
   lanes_lead number way target (message ∷ messages) before =
-      leads_on (Some (way_news way target)) before (lane_entry number way target message ∷ before) (with_lane number way target (message ∷ messages) before)
+      leads_on (Some (way_news way target)) before (lane_entry number way target message ∷ before)
+      (with_lane number way target (message ∷ messages) before)
       (lane_leads number way target message before) (lanes_lead number way target messages (lane_entry number way target message ∷ before))
 
   -- and one of a feed brings none
-  feed_waits : (number : ℕ) (port : Name) (message : M) (before : List (Entry M)) (on : Want) → Waits before on → Waits (feed_entry number port message ∷ before) on
+  feed_waits : (number : ℕ) (port : Name) (message : M) (before : List (Entry M)) (on : Want) → Waits before on
+      → Waits (feed_entry number port message ∷ before) on
   feed_waits number port message before (want.Recv name) waits = (
     fits_kept (feed_entry number port message) before name.0 (call.Recv name) waits.0.0 waits.0.1,
     recv_waits (feed_entry number port message) before name waits.0 waits.1 tt,
@@ -103,20 +114,23 @@ module _ {M : Type 0} where
   feed_waits number port message before (want.Swap name) waits =
       (fits_kept (feed_entry number port message) before name.0 (call.Take name) waits.0.0 waits.0.1, waits.1)
 
-  feed_leads : (number : ℕ) (port : Name) (message : M) (before : List (Entry M)) → Leads None before (feed_entry number port message ∷ before)
+  feed_leads : (number : ℕ) (port : Name) (message : M) (before : List (Entry M))
+      → Leads None before (feed_entry number port message ∷ before)
   feed_leads number port message before = record {
     made = entry_made (feed_entry number port message) before;
     waits = λ on waits none. feed_waits number port message before on waits;
   }
 
-  pub feeds_lead : (number : ℕ) (port : Name) (messages : List M) (before : List (Entry M)) → Leads None before (with_feed number port messages before)
+  pub feeds_lead : (number : ℕ) (port : Name) (messages : List M) (before : List (Entry M))
+      → Leads None before (with_feed number port messages before)
   feeds_lead number port [] before = leads_here None before
   feeds_lead number port (message ∷ messages) before =
       leads_on None before (feed_entry number port message ∷ before) (with_feed number port (message ∷ messages) before)
       (feed_leads number port message before) (feeds_lead number port messages (feed_entry number port message ∷ before))
 
   -- a board follows another where its history does
-  pub follows : (news : Option News) (old new : Shown M) (history : List (Entry M)) → new.history ≡ history → Leads news old.history history → Follows news old new
+  pub follows : (news : Option News) (old new : Shown M) (history : List (Entry M)) → new.history ≡ history
+      → Leads news old.history history → Follows news old new
   follows news old new history is leads = record {
     made = λ object some. subst (λ h. origin_of h object ≡ origin_of old.history object) (sym is) (leads.made object some);
     waits = λ on waits none. subst (λ h. Waits h on) (sym is) (leads.waits on waits (subst (λ h. NoNews h news on) is none));

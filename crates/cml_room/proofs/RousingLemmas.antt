@@ -1,5 +1,6 @@
 -- What stays of seats of which some become due.
-use Rattle.std.proofs.Common.{◌≡◌, ◌≢◌, ℕ, ◌<◌, ◌⊎◌, inl, inr, Bool, true, false, List, length, get_or, slice_get, slice_set, Option, Some, refl, sym, ap, subst, ◌∙◌, arith}
+use Rattle.std.proofs.Common.{◌≡◌, ◌≢◌, ℕ, ◌<◌, ◌⊎◌, inl, inr, Bool, true, false, List, length, get_or, slice_get, slice_set}
+use Rattle.std.proofs.Common.{Option, Some, refl, sym, ap, subst, ◌∙◌, arith}
 use Rattle.std.proofs.lemmas.Option.{same_Some, slice_get_within, slice_get-get_or, get_or_from_slice_get}
 use Rattle.std.proofs.lemmas.Bool.{true≢false, false≢true, eqb-true, eq-eqb}
 use Rattle.std.proofs.lemmas.List.{length-set, length-map, ext_get_or}
@@ -47,7 +48,8 @@ pub none_roused : (So : Waiter → Type 0) (places : List Place) → AreRoused S
 none_roused So places = record { each = refl; now = λ k old new was is. inl (same_Some new old (sym is ∙ was)) }
 
 -- some were roused, by whatever is known of them
-pub roused_so : (So To : Waiter → Type 0) (olds news : List Place) → ((waiter : Waiter) → So waiter → To waiter) → AreRoused So olds news → AreRoused To olds news
+pub roused_so : (So To : Waiter → Type 0) (olds news : List Place) → ((waiter : Waiter) → So waiter → To waiter)
+    → AreRoused So olds news → AreRoused To olds news
 roused_so So To olds news so are = record {
   each = are.each;
   now = λ k old new was is. elim (are.now k old new was is) [
@@ -57,7 +59,8 @@ roused_so So To olds news so are = record {
 }
 
 -- one was
-pub one_roused : (So : Waiter → Type 0) (places : List Place) (number : ℕ) (waiter : Waiter) → slice_get places number ≡ Some (Waiting waiter) → So waiter
+pub one_roused : (So : Waiter → Type 0) (places : List Place) (number : ℕ) (waiter : Waiter)
+    → slice_get places number ≡ Some (Waiting waiter) → So waiter
     → AreRoused So places (slice_set places number (roused (get_or places number Free)))
 one_roused So places number waiter found so = record {
   each = length-set places number (roused (get_or places number Free));
@@ -65,35 +68,43 @@ one_roused So places number waiter found so = record {
     | inl here ↦
         let is_waiter : old ≡ Waiting waiter = same_Some old (Waiting waiter) (sym was ∙ ap (slice_get places) here ∙ found) in
         let read : get_or places number Free ≡ old =
-        same_Some _ old (sym (slice_get-get_or places number Free (slice_get_within places number (Waiting waiter) found)) ∙ ap (slice_get places) (sym here) ∙ was) in
+        same_Some _ old (sym (slice_get-get_or places number Free (slice_get_within places number (Waiting waiter) found))
+        ∙ ap (slice_get places) (sym here) ∙ was) in
         inr (
           waiter,
           is_waiter,
           so,
-          sym (set_here places number (roused (get_or places number Free)) new (ap (slice_get (slice_set places number (roused (get_or places number Free)))) (sym here) ∙ is)) ∙ ap roused read,
+          sym (set_here places number (roused (get_or places number Free)) new
+              (ap (slice_get (slice_set places number (roused (get_or places number Free)))) (sym here) ∙ is)) ∙ ap roused read,
         )
     | inr other ↦ inl (same_Some new old (sym is ∙ slice_get-set_other places number k (roused (get_or places number Free)) other ∙ was))
   ];
 }
 
 -- what a seat was, of which this is known now
-pub roused_from : (So : Waiter → Type 0) (olds news : List Place) (number : ℕ) (new : Place) → AreRoused So olds news → slice_get news number ≡ Some new
-    → (old : Place) × (slice_get olds number ≡ Some old) × ((new ≡ old) ⊎ ((waiter : Waiter) × (old ≡ Waiting waiter) × So waiter × (new ≡ roused old)))
+pub roused_from : (So : Waiter → Type 0) (olds news : List Place) (number : ℕ) (new : Place) → AreRoused So olds news
+    → slice_get news number ≡ Some new
+    → (old : Place) × (slice_get olds number ≡ Some old)
+    × ((new ≡ old) ⊎ ((waiter : Waiter) × (old ≡ Waiting waiter) × So waiter × (new ≡ roused old)))
 roused_from So olds news number new are is =
     let within : number < length olds = omega (arith, slice_get_within news number new is, are.each) in
     let was = slice_get-get_or olds number Free within in
     (get_or olds number Free, was, are.now number (get_or olds number Free) new was is)
 
-pub roused_to : (So : Waiter → Type 0) (olds news : List Place) (number : ℕ) (old : Place) → AreRoused So olds news → slice_get olds number ≡ Some old
-    → (new : Place) × (slice_get news number ≡ Some new) × ((new ≡ old) ⊎ ((waiter : Waiter) × (old ≡ Waiting waiter) × So waiter × (new ≡ roused old)))
+pub roused_to : (So : Waiter → Type 0) (olds news : List Place) (number : ℕ) (old : Place) → AreRoused So olds news
+    → slice_get olds number ≡ Some old
+    → (new : Place) × (slice_get news number ≡ Some new)
+    × ((new ≡ old) ⊎ ((waiter : Waiter) × (old ≡ Waiting waiter) × So waiter × (new ≡ roused old)))
 roused_to So olds news number old are was =
     let within : number < length news = omega (arith, slice_get_within olds number old was, are.each) in
     let is = slice_get-get_or news number Free within in
     (get_or news number Free, is, are.now number old (get_or news number Free) was is)
 
 -- a seat that waits now waited for the same before, and was due only if it is due now
-pub waited : (So : Waiter → Type 0) (olds news : List Place) (number : ℕ) (waiter : Waiter) → AreRoused So olds news → slice_get news number ≡ Some (Waiting waiter)
-    → (old : Waiter) × (slice_get olds number ≡ Some (Waiting old)) × (old.want ≡ waiter.want) × (old.source ≡ waiter.source) × ((waiter.notice ≡ Nothing) → old.notice ≡ Nothing)
+pub waited : (So : Waiter → Type 0) (olds news : List Place) (number : ℕ) (waiter : Waiter) → AreRoused So olds news
+    → slice_get news number ≡ Some (Waiting waiter)
+    → (old : Waiter) × (slice_get olds number ≡ Some (Waiting old)) × (old.want ≡ waiter.want) × (old.source ≡ waiter.source)
+    × ((waiter.notice ≡ Nothing) → old.notice ≡ Nothing)
 waited So olds news number waiter are is =
     let from = roused_from So olds news number (Waiting waiter) are is in
     elim from.2 [
@@ -104,13 +115,16 @@ waited So olds news number waiter are is =
             from.1 ∙ ap Some one.1,
             ap (λ (w : Waiter). w.want) (sym made),
             ap (λ (w : Waiter). w.source) (sym made),
-            λ nothing. absurd (not_noted (roused_notice one.0.notice) (ap (λ (w : Waiter). w.notice) (sym made) ∙ nothing) (roused_noted one.0.notice)),
+            λ nothing. absurd (not_noted (roused_notice one.0.notice)
+                (ap (λ (w : Waiter). w.notice) (sym made) ∙ nothing) (roused_noted one.0.notice)),
           )
     ]
 
 -- a seat that waited waits for the same, and is due if it was
-pub waits_on : (So : Waiter → Type 0) (olds news : List Place) (number : ℕ) (old : Waiter) → AreRoused So olds news → slice_get olds number ≡ Some (Waiting old)
-    → (waiter : Waiter) × (slice_get news number ≡ Some (Waiting waiter)) × (waiter.want ≡ old.want) × (is_noted old.notice ≡ true → is_noted waiter.notice ≡ true)
+pub waits_on : (So : Waiter → Type 0) (olds news : List Place) (number : ℕ) (old : Waiter) → AreRoused So olds news
+    → slice_get olds number ≡ Some (Waiting old)
+    → (waiter : Waiter) × (slice_get news number ≡ Some (Waiting waiter)) × (waiter.want ≡ old.want)
+    × (is_noted old.notice ≡ true → is_noted waiter.notice ≡ true)
 waits_on So olds news number old are was =
     let to = roused_to So olds news number (Waiting old) are was in
     elim to.2 [
@@ -118,7 +132,8 @@ waits_on So olds news number old are was =
       | inr one ↦ (record old { notice = roused_notice old.notice }, to.1 ∙ ap Some one.3, refl, λ due. roused_noted old.notice)
     ]
 
-pub woken_on : (So : Waiter → Type 0) (olds news : List Place) (number : ℕ) (old : Waiter) → AreRoused So olds news → slice_get olds number ≡ Some (Waiting old)
+pub woken_on : (So : Waiter → Type 0) (olds news : List Place) (number : ℕ) (old : Waiter) → AreRoused So olds news
+    → slice_get olds number ≡ Some (Waiting old)
     → old.notice ≡ Woken → (waiter : Waiter) × (slice_get news number ≡ Some (Waiting waiter)) × (waiter.notice ≡ Woken)
 woken_on So olds news number old are was woken =
     let to = roused_to So olds news number (Waiting old) are was in
@@ -127,7 +142,8 @@ woken_on So olds news number old are was woken =
       | inr one ↦ (record old { notice = roused_notice old.notice }, to.1 ∙ ap Some one.3, ap roused_notice woken)
     ]
 
-pub quiet_before : (So : Waiter → Type 0) (olds news : List Place) (number : ℕ) (waiter : Waiter) → AreRoused So olds news → IsQuiet news number waiter
+pub quiet_before : (So : Waiter → Type 0) (olds news : List Place) (number : ℕ) (waiter : Waiter)
+    → AreRoused So olds news → IsQuiet news number waiter
     → IsQuiet olds number waiter
 quiet_before So olds news number waiter are quiet =
     let from = roused_from So olds news number (Waiting waiter) are quiet.here in
@@ -135,7 +151,8 @@ quiet_before So olds news number waiter are quiet =
       | inl same ↦ record { here = from.1 ∙ ap Some (sym same); nothing = quiet.nothing }
       | inr one ↦
           let made : waiter ≡ record one.0 { notice = roused_notice one.0.notice } = same_waiter waiter _ (one.3 ∙ ap roused one.1) in
-          absurd (not_noted (roused_notice one.0.notice) (ap (λ (w : Waiter). w.notice) (sym made) ∙ quiet.nothing) (roused_noted one.0.notice))
+          absurd (not_noted (roused_notice one.0.notice)
+          (ap (λ (w : Waiter). w.notice) (sym made) ∙ quiet.nothing) (roused_noted one.0.notice))
     ]
 
 pub mate_on : (So : Waiter → Type 0) (olds news : List Place) (on : Want) → AreRoused So olds news → IsMate olds on → IsMate news on
@@ -143,7 +160,8 @@ mate_on So olds news on are mate =
     let to = waits_on So olds news mate.number mate.waiter are mate.here in
     record { number = mate.number; waiter = to.0; here = to.1; same = to.2 ∙ mate.same; due = to.3 mate.due }
 
-pub free_kept : (So : Waiter → Type 0) (olds news : List Place) (number : ℕ) → AreRoused So olds news → slice_get olds number ≡ Some Free → slice_get news number ≡ Some Free
+pub free_kept : (So : Waiter → Type 0) (olds news : List Place) (number : ℕ) → AreRoused So olds news → slice_get olds number ≡ Some Free
+    → slice_get news number ≡ Some Free
 free_kept So olds news number are was =
     let to = roused_to So olds news number Free are was in
     elim to.2 [
@@ -153,7 +171,8 @@ free_kept So olds news number are was =
 
 pub roused_states : (So : Waiter → Type 0) (olds news : List Place) → AreRoused So olds news → states_in news ≡ states_in olds
 roused_states So olds news are =
-    ext_get_or state.Free (states_in news) (states_in olds) (omega (arith, length-map news state_by, length-map olds state_by, are.each)) (λ k less.
+    ext_get_or state.Free (states_in news) (states_in olds)
+    (omega (arith, length-map news state_by, length-map olds state_by, are.each)) (λ k less.
     let in_news : k < length news = omega (arith, less, length-map news state_by) in
     let in_olds : k < length olds = omega (arith, in_news, are.each) in
     let is = slice_get-get_or news k Free in_news in
@@ -166,7 +185,8 @@ roused_states So olds news are =
     get_or-map state_by news k Free ∙ (same ∙ sym (get_or-map state_by olds k Free)))
 
 -- first some were roused, and then others
-pub roused_twice : (So : Waiter → Type 0) (olds mids news : List Place) → ((one other : Waiter) → one.want ≡ other.want → one.source ≡ other.source → So one → So other)
+pub roused_twice : (So : Waiter → Type 0) (olds mids news : List Place)
+    → ((one other : Waiter) → one.want ≡ other.want → one.source ≡ other.source → So one → So other)
     → AreRoused So olds mids → AreRoused So mids news → AreRoused So olds news
 roused_twice So olds mids news fits first second = record {
   each = second.each ∙ first.each;
@@ -181,28 +201,33 @@ roused_twice So olds mids news fits first second = record {
           | inl kept ↦ inr (two.0, sym kept ∙ two.1, two.2, two.3 ∙ ap roused kept)
           | inr one ↦
               let again : roused (roused old) ≡ roused old =
-              ap (λ p. roused (roused p)) one.1 ∙ (ap (λ n. Waiting (record one.0 { notice = n })) (kept_noted (roused_notice one.0.notice) (roused_noted one.0.notice)) ∙ ap roused (sym one.1)) in
+              ap (λ p. roused (roused p)) one.1 ∙ (ap (λ n. Waiting (record one.0 { notice = n }))
+              (kept_noted (roused_notice one.0.notice) (roused_noted one.0.notice)) ∙ ap roused (sym one.1)) in
               inr (one.0, one.1, one.2, two.3 ∙ (ap roused one.3 ∙ again))
         ]
       ];
 }
 
 -- a seat that was are is due
-pub set_roused_mate : (olds news : List Place) (number : ℕ) (waiter : Waiter) (on : Want) → slice_get olds number ≡ Some (Waiting waiter) → waiter.want ≡ on
+pub set_roused_mate : (olds news : List Place) (number : ℕ) (waiter : Waiter) (on : Want)
+    → slice_get olds number ≡ Some (Waiting waiter) → waiter.want ≡ on
     → news ≡ slice_set olds number (roused (get_or olds number Free)) → IsMate news on
 set_roused_mate olds news number waiter on found same set =
     let read : get_or olds number Free ≡ Waiting waiter = get_or_from_slice_get olds number (Waiting waiter) Free found in
     record {
       number = number;
       waiter = record waiter { notice = roused_notice waiter.notice };
-      here = ap (λ l. slice_get l number) set ∙ (slice_get-set_same olds number (Waiting waiter) (roused (get_or olds number Free)) found ∙ ap (λ p. Some (roused p)) read);
+      here = ap (λ l. slice_get l number) set
+          ∙ (slice_get-set_same olds number (Waiting waiter) (roused (get_or olds number Free)) found ∙ ap (λ p. Some (roused p)) read);
       same = same;
       due = roused_noted waiter.notice;
     }
 
 -- what is due stays due, over what is roused
-pub still_noted : (So : Waiter → Type 0) (olds news : List Place) (number : ℕ) (waiter : Waiter) → AreRoused So olds news → slice_get news number ≡ Some (Waiting waiter)
-    → ((old : Waiter) → slice_get olds number ≡ Some (Waiting old) → old.want ≡ waiter.want → old.source ≡ waiter.source → is_noted old.notice ≡ true)
+pub still_noted : (So : Waiter → Type 0) (olds news : List Place) (number : ℕ) (waiter : Waiter) → AreRoused So olds news
+    → slice_get news number ≡ Some (Waiting waiter)
+    → ((old : Waiter) → slice_get olds number ≡ Some (Waiting old) → old.want ≡ waiter.want
+    → old.source ≡ waiter.source → is_noted old.notice ≡ true)
     → is_noted waiter.notice ≡ true
 still_noted So olds news number waiter are found noted =
     let old = waited So olds news number waiter are found in
@@ -212,7 +237,8 @@ still_noted So olds news number waiter are found noted =
     ]
 
 -- a seat's want and its source give where it waits
-pub reaches_same : (object source : ℕ) (one other : Waiter) → one.want ≡ other.want → one.source ≡ other.source → reaches object source one ≡ true → reaches object source other ≡ true
+pub reaches_same : (object source : ℕ) (one other : Waiter) → one.want ≡ other.want → one.source ≡ other.source
+    → reaches object source one ≡ true → reaches object source other ≡ true
 reaches_same object source one other want same is =
     ap (λ s. (s == source) && ((object == source) || (object == object_of other.want))) (sym same)
     ∙ (ap (λ (w : Want). (one.source == source) && ((object == source) || (object == object_of w))) (sym want) ∙ is)
@@ -225,8 +251,10 @@ reached_source object source waiter is = eqb-true waiter.source source (and_left
     and_left false b e = e
 
 -- who isn't due is not reached, where all in the row were looked at
-pub not_reached : (olds news : List Place) (object source : ℕ) (rows : QueuesShown) (So : Waiter → Type 0) → AreListed rows row_in olds → AreRoused So olds news
-    → ((number : ℕ) → is_in rows (row_of source) number ≡ true → (waiter : Waiter) → slice_get news number ≡ Some (Waiting waiter) → reaches object source waiter ≡ true
+pub not_reached : (olds news : List Place) (object source : ℕ) (rows : QueuesShown) (So : Waiter → Type 0)
+    → AreListed rows row_in olds → AreRoused So olds news
+    → ((number : ℕ) → is_in rows (row_of source) number ≡ true → (waiter : Waiter) → slice_get news number ≡ Some (Waiting waiter)
+    → reaches object source waiter ≡ true
     → is_noted waiter.notice ≡ true)
     → (number : ℕ) (waiter : Waiter) → IsQuiet news number waiter → reaches object source waiter ≡ false
 not_reached olds news object source rows So listed are seen number waiter quiet =
@@ -241,17 +269,20 @@ not_reached olds news object source rows So listed are seen number waiter quiet 
 
 -- nor in this row, where all in the row were looked at
 pub not_in_row : (olds news : List Place) (source : ℕ) (rows : QueuesShown) → AreListed rows row_in olds → AreRoused (λ waiter. ⊤) olds news
-    → ((number : ℕ) → is_in rows (row_of source) number ≡ true → (waiter : Waiter) → slice_get news number ≡ Some (Waiting waiter) → is_noted waiter.notice ≡ true)
+    → ((number : ℕ) → is_in rows (row_of source) number ≡ true → (waiter : Waiter)
+    → slice_get news number ≡ Some (Waiting waiter) → is_noted waiter.notice ≡ true)
     → (number : ℕ) (waiter : Waiter) → IsQuiet news number waiter → row_of waiter.source ≢ row_of source
 not_in_row olds news source rows listed are seen number waiter quiet same =
     let old = waited (λ w. ⊤) olds news number waiter are quiet.here in
     let row : is_in rows (row_of source) number ≡ true =
     listed number (row_of source)
-    ∙ (ap (λ (o : Option Place). row_in o (row_of source)) old.1 ∙ eq-eqb (row_of source) (row_of old.0.source) (sym same ∙ ap row_of (sym old.3))) in
+    ∙ (ap (λ (o : Option Place). row_in o (row_of source)) old.1
+    ∙ eq-eqb (row_of source) (row_of old.0.source) (sym same ∙ ap row_of (sym old.3))) in
     not_noted waiter.notice quiet.nothing (seen number row waiter quiet.here)
 
 module _ {M : Type 0} where
-  pub at_kept : (So : Waiter → Type 0) (history : List (Entry M)) (olds news : List Place) → AreRoused So olds news → AreAt history olds → AreAt history news
+  pub at_kept : (So : Waiter → Type 0) (history : List (Entry M)) (olds news : List Place) → AreRoused So olds news
+      → AreAt history olds → AreAt history news
   at_kept So history olds news are at = λ number waiter is.
       let old = waited So olds news number waiter are is in
       let was = at number old.0 old.1 in (

@@ -60,12 +60,14 @@ module _ {M : Type 0} where
   woken_returned (Other ∷ earlier) first last none run seat = run.2 seat ∙ woken_returned earlier first run.0 none run.1 seat
 
   -- a seat is returned anew
-  pub returned_anew : (calls : List RoomCall) (first last : RoomShown M) (seat : ℕ) → NoneDue first → AreMade (NextDue (Some seat) ∷ calls) first last
+  pub returned_anew : (calls : List RoomCall) (first last : RoomShown M) (seat : ℕ) → NoneDue first
+      → AreMade (NextDue (Some seat) ∷ calls) first last
       → is_returned calls seat ≡ false
   returned_anew calls first last seat none run = sym (woken_returned calls first run.0 none run.1 seat) ∙ run.2.first.1
 
   -- who has asked isn't due
-  pub asked_undue : (seat : ℕ) (old new : RoomShown M) → HasAsked seat old.notices new.notices → new.all_due ≡ false → is_due new seat ≡ false
+  pub asked_undue : (seat : ℕ) (old new : RoomShown M) → HasAsked seat old.notices new.notices
+      → new.all_due ≡ false → is_due new seat ≡ false
   asked_undue seat old new asked none =
       ap (λ (n : Option Notice). is_parked (state_of new seat) && (new.all_due || has_notice n)) asked.quiet
       ∙ (ap (λ (b : Bool). is_parked (state_of new seat) && (b || false)) none ∙ never (is_parked (state_of new seat)))
@@ -75,7 +77,8 @@ module _ {M : Type 0} where
       never false = refl
 
   -- where a `next_due` returned none last, each seat that waits was returned, or may sleep
-  pub nobody_forgotten : (calls : List RoomCall) (first last : RoomShown M) → NoneDue first → AreMade (NextDue None ∷ calls) first last → AllSleepRightly last
+  pub nobody_forgotten : (calls : List RoomCall) (first last : RoomShown M) → NoneDue first
+      → AreMade (NextDue None ∷ calls) first last → AllSleepRightly last
       → NobodyForgotten calls last
   nobody_forgotten calls first last none run asleep = λ seat on waits. elim (true_or_false (is_due last seat)) [
     | inl due ↦ inl (sym (returned seat) ∙ run.2.all seat due)
@@ -84,7 +87,8 @@ module _ {M : Type 0} where
         inr (record {
           rests = elim rightly.rests [
             | inl would ↦ inl would
-            | inr mate ↦ inr (record { seat = mate.number; waits = mate.waits; returned = sym (returned mate.number) ∙ run.2.all mate.number mate.due })
+            | inr mate ↦ inr
+                (record { seat = mate.number; waits = mate.waits; returned = sym (returned mate.number) ∙ run.2.all mate.number mate.due })
           ];
           moves = rightly.moves;
         })
@@ -94,18 +98,20 @@ module _ {M : Type 0} where
       returned seat = woken_returned (NextDue None ∷ calls) first last none run seat
 
   -- where the last call is a `next_due`, and all that were returned have asked, each seat that waits would wait again
-  pub all_would_wait : (calls : List RoomCall) (given : Option ℕ) (first last : RoomShown M) → NoneDue first → AreMade (NextDue given ∷ calls) first last → AllSleepRightly last
+  pub all_would_wait : (calls : List RoomCall) (given : Option ℕ) (first last : RoomShown M) → NoneDue first
+      → AreMade (NextDue given ∷ calls) first last → AllSleepRightly last
       → HaveAllAsked (NextDue given ∷ calls) last → AllWouldWait last
-  all_would_wait calls None first last none run asleep asked = λ seat on waits. elim (nobody_forgotten calls first last none run asleep seat on waits) [
-    | inl returned ↦ absurd (true≢false (sym returned ∙ asked seat on waits))
-    | inr may ↦ (
-      elim may.rests [
-        | inl would ↦ would
-        | inr mate ↦ absurd (true≢false (sym mate.returned ∙ asked mate.seat on mate.waits))
-      ],
-      may.moves,
-    )
-  ]
+  all_would_wait calls None first last none run asleep asked =
+      λ seat on waits. elim (nobody_forgotten calls first last none run asleep seat on waits) [
+        | inl returned ↦ absurd (true≢false (sym returned ∙ asked seat on waits))
+        | inr may ↦ (
+          elim may.rests [
+            | inl would ↦ would
+            | inr mate ↦ absurd (true≢false (sym mate.returned ∙ asked mate.seat on mate.waits))
+          ],
+          may.moves,
+        )
+      ]
   all_would_wait calls (Some given) first last none run asleep asked =
       let waits = due_waits (state_of run.0 given) (run.0.all_due || has_notice (slice_get run.0.notices given)) run.2.first.0 in
       let here : state_of last given ≡ Some (Parked waits.0) = ap (λ (s : List State). slice_get s given) run.2.seats ∙ waits.1 in

@@ -1,5 +1,6 @@
 -- Who sleeps rightly, over what is done with a seat.
-use Rattle.std.proofs.Common.{◌≡◌, ◌≢◌, ℕ, inl, inr, Bool, true, false, List, [], ◌∷◌, ◌++◌, length, slice_get, slice_set, Option, Some, None, IfSome, IfNone, refl, sym, ap, subst, ◌∙◌, arith}
+use Rattle.std.proofs.Common.{◌≡◌, ◌≢◌, ℕ, inl, inr, Bool, true, false, List, [], ◌∷◌, ◌++◌, length, slice_get, slice_set, Option}
+use Rattle.std.proofs.Common.{Some, None, IfSome, IfNone, refl, sym, ap, subst, ◌∙◌, arith}
 use Rattle.std.specs.Prelude.{◌&&◌, ◌||◌}
 use Rattle.std.specs.Option.{option_map}
 use Rattle.std.proofs.lemmas.Option.{none-some, same_Some, slice_get-map, slice_get_past, get_or_from_slice_get}
@@ -42,8 +43,10 @@ same_waiter : (one other : Waiter) → Waiting one ≡ Waiting other → one ≡
 same_waiter one other same = cc
 
 -- a seat that waits and is other than it was, in its notice alone
-pub set_alike : (places : List Place) (number : ℕ) (old new : Waiter) → slice_get places number ≡ Some (Waiting old) → new.want ≡ old.want → new.source ≡ old.source
-    → (new.notice ≡ Nothing → old.notice ≡ Nothing) → (is_noted old.notice ≡ true → is_noted new.notice ≡ true) → (old.notice ≡ Woken → new.notice ≡ Woken)
+pub set_alike : (places : List Place) (number : ℕ) (old new : Waiter) → slice_get places number ≡ Some (Waiting old)
+    → new.want ≡ old.want → new.source ≡ old.source
+    → (new.notice ≡ Nothing → old.notice ≡ Nothing) → (is_noted old.notice ≡ true → is_noted new.notice ≡ true)
+    → (old.notice ≡ Woken → new.notice ≡ Woken)
     → AreAlike places (slice_set places number (Waiting new))
 set_alike places number old new found want source back on woken = record {
   states = map-set state_by places number (Waiting new)
@@ -51,7 +54,8 @@ set_alike places number old new found want source back on woken = record {
       (slice_get-map state_by places number ∙ ap (option_map state_by) found));
   back = λ k waiter is. elim (this_or_other k number) [
     | inl here ↦
-        let same : new ≡ waiter = same_waiter new waiter (set_here places number (Waiting new) (Waiting waiter) (ap (slice_get (slice_set places number (Waiting new))) (sym here) ∙ is)) in (
+        let same : new ≡ waiter = same_waiter new waiter (set_here places number (Waiting new) (Waiting waiter)
+        (ap (slice_get (slice_set places number (Waiting new))) (sym here) ∙ is)) in (
           old,
           ap (slice_get places) here ∙ found,
           sym want ∙ ap (λ (w : Waiter). w.want) same,
@@ -88,7 +92,8 @@ set_alike places number old new found want source back on woken = record {
 pub wakes_alike : (olds news : List Place) (given : Option ℕ) → WakesNext olds news given → AreAlike olds news
 wakes_alike olds news (Some number) woken =
     subst (AreAlike olds) (sym woken.3)
-    (set_alike olds number woken.0 (record woken.0 { notice = Woken }) woken.1 refl refl (λ clash. absurd (not_noted Woken clash refl)) (λ due. refl) (λ was. refl))
+    (set_alike olds number woken.0 (record woken.0 { notice = Woken }) woken.1 refl refl
+    (λ clash. absurd (not_noted Woken clash refl)) (λ due. refl) (λ was. refl))
 wakes_alike olds news None woken = subst (AreAlike olds) (sym woken.0) (none_alike olds)
 
 pub alike_quiet : (olds news : List Place) (number : ℕ) (waiter : Waiter) → AreAlike olds news → IsQuiet news number waiter
@@ -103,7 +108,8 @@ alike_mate olds news on alike mate =
     record { number = mate.number; waiter = is.0; here = is.1; same = is.2 ∙ mate.same; due = is.3 mate.due }
 
 -- whether a seat is due, told by its place
-due_by : (all : Bool) (o : Option Place) → (is_parked (option_map state_by o) && (all || has_notice (option_map notice_by o))) ≡ place_due all o
+due_by : (all : Bool) (o : Option Place)
+    → (is_parked (option_map state_by o) && (all || has_notice (option_map notice_by o))) ≡ place_due all o
 due_by all None = refl
 due_by all (Some Free) = refl
 due_by all (Some (Waiting waiter)) = refl
@@ -115,7 +121,8 @@ not_due false Nothing is = (refl, refl)
 not_due false Due is = absurd (true≢false is)
 not_due false Woken is = absurd (true≢false is)
 
-parked_place : (o : Option Place) (on : Want) → option_map state_by o ≡ Some (state.Parked on) → (waiter : Waiter) × (o ≡ Some (Waiting waiter)) × (waiter.want ≡ on)
+parked_place : (o : Option Place) (on : Want) → option_map state_by o ≡ Some (state.Parked on)
+    → (waiter : Waiter) × (o ≡ Some (Waiting waiter)) × (waiter.want ≡ on)
 parked_place None on is = absurd (none-some _ is)
 parked_place (Some Free) on is = absurd (let clash : state.Free ≡ state.Parked on = same_Some _ _ is in cc)
 parked_place (Some Left) on is = absurd (let clash : state.Left ≡ state.Parked on = same_Some _ _ is in cc)
@@ -124,18 +131,22 @@ parked_place (Some (Waiting waiter)) on is = (waiter, refl, let same : state.Par
 not_set : (places : List Place) (seat number : ℕ) (waiter : Waiter) → slice_get (slice_set places seat Left) number ≡ Some (Waiting waiter)
     → slice_get places number ≡ Some (Waiting waiter)
 not_set places seat number waiter is = elim (this_or_other number seat) [
-  | inl here ↦ absurd (let clash : Left ≡ Waiting waiter = set_here places seat Left (Waiting waiter) (ap (slice_get (slice_set places seat Left)) (sym here) ∙ is) in cc)
+  | inl here ↦ absurd (let clash : Left ≡ Waiting waiter =
+      set_here places seat Left (Waiting waiter) (ap (slice_get (slice_set places seat Left)) (sym here) ∙ is) in cc)
   | inr other ↦ sym (slice_get-set_other places seat number Left other) ∙ is
 ]
 
 -- where none that waits is quiet, who is due has a notice
-pub roused_due : (So : Waiter → Type 0) (olds news : List Place) (number : ℕ) → AreRoused So olds news → ((k : ℕ) (waiter : Waiter) → ¬ (IsQuiet news k waiter))
+pub roused_due : (So : Waiter → Type 0) (olds news : List Place) (number : ℕ) → AreRoused So olds news
+    → ((k : ℕ) (waiter : Waiter) → ¬ (IsQuiet news k waiter))
     → place_due false (slice_get news number) ≡ place_due true (slice_get olds number)
 roused_due So olds news number roused none = by_old (slice_get olds number) refl
   where
-    by_old : (o : Option Place) → slice_get olds number ≡ o → place_due false (slice_get news number) ≡ place_due true (slice_get olds number)
+    by_old : (o : Option Place) → slice_get olds number ≡ o
+        → place_due false (slice_get news number) ≡ place_due true (slice_get olds number)
     by_old None was =
-        ap (place_due false) (slice_get_past news number (omega (arith, past_none olds number was, roused.each))) ∙ sym (ap (place_due true) was)
+        ap (place_due false) (slice_get_past news number (omega (arith, past_none olds number was, roused.each)))
+        ∙ sym (ap (place_due true) was)
     by_old (Some (Waiting waiter)) was =
         let to = waits_on So olds news number waiter roused was in
         elim (noted_or to.0.notice) [
@@ -150,11 +161,13 @@ roused_due So olds news number roused none = by_old (slice_get olds number) refl
           | inr one ↦ absurd (let clash : Left ≡ Waiting one.0 = one.1 in cc)
         ]
 
-notice_at : (places : List Place) (number : ℕ) (waiter : Waiter) → slice_get places number ≡ Some (Waiting waiter) → slice_get (notices_in places) number ≡ Some waiter.notice
+notice_at : (places : List Place) (number : ℕ) (waiter : Waiter) → slice_get places number ≡ Some (Waiting waiter)
+    → slice_get (notices_in places) number ≡ Some waiter.notice
 notice_at places number waiter found = slice_get-map notice_by places number ∙ ap (option_map notice_by) found
 
 -- whether a seat is due is what it was before one was woken
-wake_due : (mids news : List Place) (given : Option ℕ) (number : ℕ) → WakesNext mids news given → place_due false (slice_get news number) ≡ place_due false (slice_get mids number)
+wake_due : (mids news : List Place) (given : Option ℕ) (number : ℕ) → WakesNext mids news given
+    → place_due false (slice_get news number) ≡ place_due false (slice_get mids number)
 wake_due mids news None number woken = ap (λ l. place_due false (slice_get l number)) woken.0
 wake_due mids news (Some k) number woken = elim (this_or_other number k) [
   | inl here ↦
@@ -167,7 +180,8 @@ wake_due mids news (Some k) number woken = elim (this_or_other number k) [
       ∙ ap (place_due false) (slice_get-set_other mids k number (Waiting (record woken.0 { notice = Woken })) other)
 ]
 
-all_woken : (o : Option Place) → ((waiter : Waiter) → o ≡ Some (Waiting waiter) → ¬ (waiter.notice ≡ Due)) → place_due false o ≡ true → option_map notice_by o ≡ Some Woken
+all_woken : (o : Option Place) → ((waiter : Waiter) → o ≡ Some (Waiting waiter) → ¬ (waiter.notice ≡ Due)) → place_due false o ≡ true
+    → option_map notice_by o ≡ Some Woken
 all_woken None none is = absurd (false≢true is)
 all_woken (Some Free) none is = absurd (false≢true is)
 all_woken (Some Left) none is = absurd (false≢true is)
@@ -184,15 +198,18 @@ free_by_state (Some Free) is = refl
 free_by_state (Some Left) is = absurd (let clash : state.Left ≡ state.Free = same_Some _ _ is in cc)
 free_by_state (Some (Waiting waiter)) is = absurd (let clash : state.Parked waiter.want ≡ state.Free = same_Some _ _ is in cc)
 
-pub free_place : (places : List Place) (number : ℕ) → slice_get (states_in places) number ≡ Some state.Free → slice_get places number ≡ Some Free
+pub free_place : (places : List Place) (number : ℕ) → slice_get (states_in places) number ≡ Some state.Free
+    → slice_get places number ≡ Some Free
 free_place places number is = free_by_state (slice_get places number) (sym (slice_get-map state_by places number) ∙ is)
 
 module _ {M : Type 0} where
   pub due_is : (floor : FloorShown M) (places : List Place) (all : Bool) (number : ℕ)
       → is_due (room_of floor (states_in places) (notices_in places) all) number ≡ place_due all (slice_get places number)
   due_is floor places all number =
-      ap (λ (s : Option State). is_parked s && (all || has_notice (slice_get (notices_in places) number))) (slice_get-map state_by places number)
-      ∙ (ap (λ (n : Option Notice). is_parked (option_map state_by (slice_get places number)) && (all || has_notice n)) (slice_get-map notice_by places number)
+      ap (λ (s : Option State). is_parked s && (all || has_notice (slice_get (notices_in places) number)))
+      (slice_get-map state_by places number)
+      ∙ (ap (λ (n : Option Notice). is_parked (option_map state_by (slice_get places number)) && (all || has_notice n))
+      (slice_get-map notice_by places number)
       ∙ due_by all (slice_get places number))
 
   -- a seat that waits and isn't due sleeps rightly
@@ -208,7 +225,8 @@ module _ {M : Type 0} where
           | inl would ↦ inl (subst (WouldWait floor.board) here.2 would)
           | inr mate ↦ inr (record {
             number = mate.number;
-            waits = slice_get-map state_by places mate.number ∙ (ap (option_map state_by) mate.here ∙ ap (λ w. Some (state.Parked w)) (mate.same ∙ here.2));
+            waits = slice_get-map state_by places mate.number
+                ∙ (ap (option_map state_by) mate.here ∙ ap (λ w. Some (state.Parked w)) (mate.same ∙ here.2));
             due = due_is floor places all mate.number ∙ (ap (place_due all) mate.here ∙ or_noted all mate.waiter.notice mate.due);
           })
         ];
@@ -222,8 +240,10 @@ module _ {M : Type 0} where
   pub alike_at : (history : List (Entry M)) (olds news : List Place) → AreAlike olds news → AreAt history olds → AreAt history news
   alike_at history olds news alike at = λ number waiter is.
       let old = alike.back number waiter is in
-      let was = at number old.0 old.1 in
-      (subst (λ (w : Want). Fits history (wanting w)) old.2 was.0, sym old.3 ∙ (was.1 ∙ ap (λ (w : Want). source_of history (object_of w)) old.2))
+      let was = at number old.0 old.1 in (
+        subst (λ (w : Want). Fits history (wanting w)) old.2 was.0,
+        sym old.3 ∙ (was.1 ∙ ap (λ (w : Want). source_of history (object_of w)) old.2),
+      )
 
   -- seats that are alike sleep as rightly
   pub alike_watched : (floor : FloorShown M) (olds news : List Place) (all all' : Bool) → AreAlike olds news → IsWatched floor olds all
@@ -238,15 +258,18 @@ module _ {M : Type 0} where
         ];
     stalls = λ now number waiter quiet.
         let was = alike_quiet olds news number waiter alike quiet in
-        subst (λ (s : List State). ¬ (IsStalled floor s)) (sym alike.states) (watched.stalls (none now number waiter quiet) number was.0 was.1);
+        subst (λ (s : List State). ¬ (IsStalled floor s)) (sym alike.states)
+        (watched.stalls (none now number waiter quiet) number was.0 was.1);
   }
 
   -- somebody can go on where a seat is free
-  pub free_moves : (floor : FloorShown M) (places : List Place) (number : ℕ) → slice_get places number ≡ Some Free → ¬ (IsStalled floor (states_in places))
+  pub free_moves : (floor : FloorShown M) (places : List Place) (number : ℕ) → slice_get places number ≡ Some Free
+      → ¬ (IsStalled floor (states_in places))
   free_moves floor places number found = λ stalled. idle_at floor.board.history places number Free stalled.1 found
 
   -- a seat more is free
-  pub added_watched : (floor : FloorShown M) (places : List Place) (all : Bool) → IsWatched floor places all → IsWatched floor (places ++ Free ∷ []) all
+  pub added_watched : (floor : FloorShown M) (places : List Place) (all : Bool) → IsWatched floor places all
+      → IsWatched floor (places ++ Free ∷ []) all
   added_watched floor places all watched = record {
     placed = λ number waiter is. elim (pushed_cases places Free (Waiting waiter) number is) [
       | inl before ↦ watched.placed number waiter before
@@ -269,16 +292,20 @@ module _ {M : Type 0} where
   }
 
   -- a free seat left: where none is free then, all are due
-  pub left_watched : (floor : FloorShown M) (places : List Place) (seat : ℕ) (all all' : Bool) → slice_get places seat ≡ Some Free → IsWatched floor places all
-      → (all' ≡ false → (all ≡ false) × (free_in (states_in (slice_set places seat Left)) ≢ 0)) → IsWatched floor (slice_set places seat Left) all'
+  pub left_watched : (floor : FloorShown M) (places : List Place) (seat : ℕ) (all all' : Bool)
+      → slice_get places seat ≡ Some Free → IsWatched floor places all
+      → (all' ≡ false → (all ≡ false) × (free_in (states_in (slice_set places seat Left)) ≢ 0))
+      → IsWatched floor (slice_set places seat Left) all'
   left_watched floor places seat all all' free watched some = record {
     placed = λ number waiter is. watched.placed number waiter (not_set places seat number waiter is);
     rests = λ now number waiter quiet.
-        elim (watched.rests (some now).0 number waiter (record { here = not_set places seat number waiter quiet.here; nothing = quiet.nothing })) [
+        elim (watched.rests (some now).0 number waiter
+        (record { here = not_set places seat number waiter quiet.here; nothing = quiet.nothing })) [
           | inl would ↦ inl would
           | inr mate ↦
               let apart : mate.number ≢ seat = λ same.
-              absurd (let clash : Free ≡ Waiting mate.waiter = same_Some _ _ (sym free ∙ ap (slice_get places) (sym same) ∙ mate.here) in cc) in
+              absurd (let clash : Free ≡ Waiting mate.waiter = same_Some _ _ (sym free ∙ ap (slice_get places) (sym same) ∙ mate.here) in
+              cc) in
               inr (record {
                 number = mate.number;
                 waiter = mate.waiter;
@@ -294,7 +321,8 @@ module _ {M : Type 0} where
   -- the seat that is given was due and not woken, and is woken
   pub next_given : (floor : FloorShown M) (olds mids news : List Place) (all : Bool) (given : Option ℕ) → AreAlike olds mids
       → ((number : ℕ) → place_due false (slice_get mids number) ≡ place_due all (slice_get olds number)) → WakesNext mids news given
-      → IfSome given (λ number. (is_due (room_of floor (states_in olds) (notices_in olds) all) number ≡ true) × (slice_get (notices_in olds) number ≢ Some Woken)
+      → IfSome given (λ number. (is_due (room_of floor (states_in olds) (notices_in olds) all) number ≡ true)
+      × (slice_get (notices_in olds) number ≢ Some Woken)
       × (slice_get (notices_in news) number ≡ Some Woken))
   next_given floor olds mids news all None alike same woken = tt
   next_given floor olds mids news all (Some number) alike same woken = (
@@ -303,7 +331,8 @@ module _ {M : Type 0} where
         let old = alike.back number woken.0 woken.1 in
         let notice : old.0.notice ≡ Woken = same_Some _ _ (sym (notice_at olds number old.0 old.1) ∙ was) in
         let kept = alike.woken number old.0 old.1 notice in
-        absurd (let clash : Woken ≡ Due = sym kept.2 ∙ (ap (λ (w : Waiter). w.notice) (same_waiter kept.0 woken.0 (same_Some _ _ (sym kept.1 ∙ woken.1))) ∙ woken.2) in cc),
+        absurd (let clash : Woken ≡ Due = sym kept.2
+        ∙ (ap (λ (w : Waiter). w.notice) (same_waiter kept.0 woken.0 (same_Some _ _ (sym kept.1 ∙ woken.1))) ∙ woken.2) in cc),
     ap (λ l. slice_get (notices_in l) number) woken.3
         ∙ notice_at (slice_set mids number (Waiting (record woken.0 { notice = Woken }))) number (record woken.0 { notice = Woken })
         (slice_get-set_same mids number (Waiting woken.0) (Waiting (record woken.0 { notice = Woken })) woken.1),
@@ -311,7 +340,8 @@ module _ {M : Type 0} where
 
   -- where no seat is given each that is due was woken
   pub next_all : (floor : FloorShown M) (mids news : List Place) (all : Bool) (given : Option ℕ) → all ≡ false → WakesNext mids news given
-      → IfNone given ((number : ℕ) → is_due (room_of floor (states_in news) (notices_in news) all) number ≡ true → slice_get (notices_in news) number ≡ Some Woken)
+      → IfNone given ((number : ℕ) → is_due (room_of floor (states_in news) (notices_in news) all) number ≡ true
+      → slice_get (notices_in news) number ≡ Some Woken)
   next_all floor mids news all (Some number) none woken = tt
   next_all floor mids news all None none woken = λ number is.
       slice_get-map notice_by news number
@@ -320,7 +350,9 @@ module _ {M : Type 0} where
 
   pub next_same : (floor : FloorShown M) (olds mids news : List Place) (all all' : Bool) (given : Option ℕ) (number : ℕ) → all' ≡ false
       → ((k : ℕ) → place_due false (slice_get mids k) ≡ place_due all (slice_get olds k)) → WakesNext mids news given
-      → is_due (room_of floor (states_in news) (notices_in news) all') number ≡ is_due (room_of floor (states_in olds) (notices_in olds) all) number
+      → is_due (room_of floor (states_in news) (notices_in news) all') number
+      ≡ is_due (room_of floor (states_in olds) (notices_in olds) all) number
   next_same floor olds mids news all all' given number none same woken =
       due_is floor news all' number
-      ∙ (ap (λ a. place_due a (slice_get news number)) none ∙ (wake_due mids news given number woken ∙ (same number ∙ sym (due_is floor olds all number))))
+      ∙ (ap (λ a. place_due a (slice_get news number)) none
+      ∙ (wake_due mids news given number woken ∙ (same number ∙ sym (due_is floor olds all number))))

@@ -1,5 +1,6 @@
 -- Whether anybody can go on, told by those that are due alone.
-use Rattle.std.proofs.Common.{◌≡◌, ℕ, ◌<◌, inl, inr, Bool, true, false, MatchBool, List, length, get_or, slice_get, Some, refl, ap, subst, ◌∙◌, arith}
+use Rattle.std.proofs.Common.{◌≡◌, ℕ, ◌<◌, inl, inr, Bool, true, false, MatchBool, List, length, get_or, slice_get}
+use Rattle.std.proofs.Common.{Some, refl, ap, subst, ◌∙◌, arith}
 use Rattle.std.specs.Option.{option_map}
 use Rattle.std.proofs.lemmas.Option.{slice_get-map, slice_get_within, get_or_from_slice_get}
 use Rattle.std.proofs.lemmas.List.{length-map}
@@ -27,7 +28,8 @@ none_free places k none found =
 
 module _ {M : Type 0} where
   -- who is due is in one of the two queues
-  noted_waits : (history : List (Entry M)) (notice : Notice) (on : Want) → (noted_as notice 1 ≡ true → Waits history on) → (noted_as notice 0 ≡ true → Waits history on)
+  noted_waits : (history : List (Entry M)) (notice : Notice) (on : Want) → (noted_as notice 1 ≡ true → Waits history on)
+      → (noted_as notice 0 ≡ true → Waits history on)
       → is_noted notice ≡ true → Waits history on
   noted_waits history Nothing on woken due is = absurd (false≢true is)
   noted_waits history Due on woken due is = due refl
@@ -35,20 +37,25 @@ module _ {M : Type 0} where
 
   -- no seat can go on if none is free, and each that is due would wait
   pub idle_by_due : (board : Shown M) (places : List Place) → free_in (states_in places) ≡ 0 → NoneForgotten board places
-      → ((k : ℕ) (waiter : Waiter) → slice_get places k ≡ Some (Waiting waiter) → noted_as waiter.notice 1 ≡ true → Waits board.history waiter.want)
-      → ((k : ℕ) (waiter : Waiter) → slice_get places k ≡ Some (Waiting waiter) → noted_as waiter.notice 0 ≡ true → Waits board.history waiter.want)
+      → ((k : ℕ) (waiter : Waiter) → slice_get places k ≡ Some (Waiting waiter) → noted_as waiter.notice 1 ≡ true
+      → Waits board.history waiter.want)
+      → ((k : ℕ) (waiter : Waiter) → slice_get places k ≡ Some (Waiting waiter) → noted_as waiter.notice 0 ≡ true
+      → Waits board.history waiter.want)
       → AreIdle board.history (states_in places)
   idle_by_due board places none rests woken due = all_idle board.history places each
     where
-      quiet_waits : (k : ℕ) (waiter : Waiter) → slice_get places k ≡ Some (Waiting waiter) → waiter.notice ≡ Nothing → Waits board.history waiter.want
+      quiet_waits : (k : ℕ) (waiter : Waiter) → slice_get places k ≡ Some (Waiting waiter)
+          → waiter.notice ≡ Nothing → Waits board.history waiter.want
       quiet_waits k waiter found nothing = elim (rests k waiter (record { here = found; nothing = nothing })) [
         | inl would ↦ would.waits
         | inr mate ↦
             subst (Waits board.history) mate.same
-            (noted_waits board.history mate.waiter.notice mate.waiter.want (woken mate.number mate.waiter mate.here) (due mate.number mate.waiter mate.here) mate.due)
+            (noted_waits board.history mate.waiter.notice mate.waiter.want (woken mate.number mate.waiter mate.here)
+            (due mate.number mate.waiter mate.here) mate.due)
       ]
 
-      by_notice : (k : ℕ) (waiter : Waiter) (notice : Notice) → waiter.notice ≡ notice → slice_get places k ≡ Some (Waiting waiter) → Waits board.history waiter.want
+      by_notice : (k : ℕ) (waiter : Waiter) (notice : Notice) → waiter.notice ≡ notice
+          → slice_get places k ≡ Some (Waiting waiter) → Waits board.history waiter.want
       by_notice k waiter Nothing is found = quiet_waits k waiter found is
       by_notice k waiter Due is found = due k waiter found (ap (λ n. noted_as n 0) is)
       by_notice k waiter Woken is found = woken k waiter found (ap (λ n. noted_as n 1) is)
@@ -60,7 +67,8 @@ module _ {M : Type 0} where
 
   -- nor if each that waits would wait
   pub idle_by_waiting : (history : List (Entry M)) (places : List Place) → free_in (states_in places) ≡ 0
-      → ((k : ℕ) (waiter : Waiter) → slice_get places k ≡ Some (Waiting waiter) → Waits history waiter.want) → AreIdle history (states_in places)
+      → ((k : ℕ) (waiter : Waiter) → slice_get places k ≡ Some (Waiting waiter) → Waits history waiter.want)
+      → AreIdle history (states_in places)
   idle_by_waiting history places none waits = all_idle history places each
     where
       each : (k : ℕ) (place : Place) → slice_get places k ≡ Some place → IsIdle history (state_by place)

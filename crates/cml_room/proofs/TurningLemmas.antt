@@ -24,7 +24,8 @@ module _ {M : Type 0} where
   may_ask chunk sure may old new number call (Refused Unseen back) can turn = (can, turn.1, turn.2)
 
   -- a call that isn't refused is not barred
-  reached : (chunk : ℕ) (sure : Bool) (old new : FloorShown M) (number : ℕ) (call : Call M) (outcome : Outcome M) (barred : Bool) → is_barred old.feeds call ≡ barred
+  reached : (chunk : ℕ) (sure : Bool) (old new : FloorShown M) (number : ℕ) (call : Call M) (outcome : Outcome M) (barred : Bool)
+      → is_barred old.feeds call ≡ barred
       → ((refusal : Refusal) (back : Call M) → outcome ≡ Refused refusal back → ⊥)
       → (is_barred old.feeds call ≡ true → (outcome ≡ Refused WrongKind call) × (new ≡ old))
       → (is_barred old.feeds call ≡ false → Applies chunk sure old.board new.board (Seat number) call outcome)
@@ -47,7 +48,8 @@ module _ {M : Type 0} where
       reached chunk sure old new number call (WouldWait back) (is_barred old.feeds call) refl (λ refusal same_back same. cc)
 
   -- a call that is refused was refused by the board, or is barred
-  refused_cases : (chunk : ℕ) (sure : Bool) (old new : FloorShown M) (number : ℕ) (call back : Call M) (refusal : Refusal) (barred : Bool) → is_barred old.feeds call ≡ barred
+  refused_cases : (chunk : ℕ) (sure : Bool) (old new : FloorShown M) (number : ℕ) (call back : Call M) (refusal : Refusal) (barred : Bool)
+      → is_barred old.feeds call ≡ barred
       → (is_barred old.feeds call ≡ true → (Refused refusal back ≡ Refused WrongKind call) × (new ≡ old))
       → (is_barred old.feeds call ≡ false → Applies chunk sure old.board new.board (Seat number) call (Refused refusal back))
       → Reaches chunk sure old new number call (Refused refusal back) ⊎ IsBarred old new call refusal back
@@ -64,7 +66,8 @@ module _ {M : Type 0} where
       refused_cases chunk sure old new number call back refusal (is_barred old.feeds call) refl
 
   -- whether all are stalled stays, where no lane and no entry is another
-  still_stalled : (old new : FloorShown M) (seats : List State) → new.lanes ≡ old.lanes → new.board.history ≡ old.board.history → IsStalled new seats → IsStalled old seats
+  still_stalled : (old new : FloorShown M) (seats : List State) → new.lanes ≡ old.lanes → new.board.history ≡ old.board.history
+      → IsStalled new seats → IsStalled old seats
   still_stalled old new seats lanes history stalled = (
     subst NoneOpen lanes stalled.0,
     subst (λ h. AreIdle h seats) history stalled.1,
@@ -72,10 +75,12 @@ module _ {M : Type 0} where
 
   -- a room of these parts
   abbrev pub room_of : FloorShown M → List State → List Notice → Bool → RoomShown M
-  room_of floor seats notices all_due = record { board = floor.board; lanes = floor.lanes; feeds = floor.feeds; seats = seats; notices = notices; all_due = all_due }
+  room_of floor seats notices all_due =
+      record { board = floor.board; lanes = floor.lanes; feeds = floor.feeds; seats = seats; notices = notices; all_due = all_due }
 
   -- what becomes of the call by what became of it on the floor
-  pub answered_asks : (chunk : ℕ) (sure : Bool) (room : RoomShown M) (floor new : FloorShown M) (seats seats' : List State) (notices notices' : List Notice) (all all' : Bool) (number : ℕ)
+  pub answered_asks : (chunk : ℕ) (sure : Bool) (room : RoomShown M) (floor new : FloorShown M) (seats seats' : List State)
+      (notices notices' : List Notice) (all all' : Bool) (number : ℕ)
       (call : Call M) (answer : Answer M) → room_of floor seats notices all ≡ room
       → (is_barred floor.feeds call ≡ true → (Answered answer ≡ Refused WrongKind call) × (new ≡ floor))
       → (is_barred floor.feeds call ≡ false → Applies chunk sure floor.board new.board (Seat number) call (Answered answer))
@@ -83,17 +88,20 @@ module _ {M : Type 0} where
       → Asks chunk sure ⊤ room (room_of new seats' notices' all') number call (Answered answer)
   answered_asks chunk sure room floor new seats seats' notices notices' all all' number call answer view bars applies lanes feeds set =
       let reaches = answered_reaches chunk sure floor new number call answer bars applies in
-      let told : Asks chunk sure ⊤ (room_of floor seats notices all) (room_of new seats' notices' all') number call (Answered answer) = (tt, reaches, set, lanes, feeds) in
+      let told : Asks chunk sure ⊤ (room_of floor seats notices all) (room_of new seats' notices' all') number call (Answered answer) =
+      (tt, reaches, set, lanes, feeds) in
       subst (λ (r : RoomShown M). Asks chunk sure ⊤ r (room_of new seats' notices' all') number call (Answered answer)) view told
 
-  pub parked_asks : (chunk : ℕ) (sure : Bool) (room : RoomShown M) (floor new : FloorShown M) (seats seats' : List State) (notices notices' : List Notice) (all all' : Bool) (number : ℕ)
+  pub parked_asks : (chunk : ℕ) (sure : Bool) (room : RoomShown M) (floor new : FloorShown M) (seats seats' : List State)
+      (notices notices' : List Notice) (all all' : Bool) (number : ℕ)
       (call back : Call M) (on : Want) → room_of floor seats notices all ≡ room
       → (is_barred floor.feeds call ≡ true → (WouldWait back ≡ Refused WrongKind call) × (new ≡ floor))
       → (is_barred floor.feeds call ≡ false → Applies chunk sure floor.board new.board (Seat number) call (WouldWait back))
       → new.lanes ≡ floor.lanes → new.feeds ≡ floor.feeds → want_in back ≡ Some on
       → ¬ (IsStalled new (slice_set seats number (Parked on))) × (seats' ≡ slice_set seats number (Parked on))
       → Asks chunk sure ⊤ room (room_of new seats' notices' all') number call (WouldWait back)
-  parked_asks chunk sure room floor new seats seats' notices notices' all all' number call back on view bars applies lanes feeds wants goes_on =
+  parked_asks chunk sure room floor new seats seats' notices notices' all all' number call back on view bars
+      applies lanes feeds wants goes_on =
       let reaches = waiting_reaches chunk sure floor new number call back bars applies in
       let moving : ¬ (IsStalled floor (slice_set seats number (Parked on))) = λ stalled.
       goes_on.0 (still_stalled new floor (slice_set seats number (Parked on)) (sym lanes) (sym reaches.applies.4.history) stalled) in
@@ -107,18 +115,21 @@ module _ {M : Type 0} where
       ) in
       subst (λ (r : RoomShown M). Asks chunk sure ⊤ r (room_of new seats' notices' all') number call (WouldWait back)) view told
 
-  pub stalled_asks : (chunk : ℕ) (sure : Bool) (room : RoomShown M) (floor new : FloorShown M) (seats seats' : List State) (notices notices' : List Notice) (all all' : Bool) (number : ℕ)
+  pub stalled_asks : (chunk : ℕ) (sure : Bool) (room : RoomShown M) (floor new : FloorShown M) (seats seats' : List State)
+      (notices notices' : List Notice) (all all' : Bool) (number : ℕ)
       (call back : Call M) (on : Want) → room_of floor seats notices all ≡ room
       → (is_barred floor.feeds call ≡ true → (WouldWait back ≡ Refused WrongKind call) × (new ≡ floor))
       → (is_barred floor.feeds call ≡ false → Applies chunk sure floor.board new.board (Seat number) call (WouldWait back))
       → new.lanes ≡ floor.lanes → new.feeds ≡ floor.feeds → want_in back ≡ Some on
       → IsStalled new (slice_set seats number (Parked on)) × (seats' ≡ slice_set seats number Free)
       → Asks chunk sure ⊤ room (room_of new seats' notices' all') number call (Refused Stalled back)
-  stalled_asks chunk sure room floor new seats seats' notices notices' all all' number call back on view bars applies lanes feeds wants stuck =
+  stalled_asks chunk sure room floor new seats seats' notices notices' all all' number call back on
+      view bars applies lanes feeds wants stuck =
       let reaches = waiting_reaches chunk sure floor new number call back bars applies in
       let stalled : IsStalled floor (slice_set seats number (Parked on)) =
       still_stalled floor new (slice_set seats number (Parked on)) lanes reaches.applies.4.history stuck.0 in
-      let told : Asks chunk sure ⊤ (room_of floor seats notices all) (room_of new seats' notices' all') number call (Refused Stalled back) = (
+      let told : Asks chunk sure ⊤ (room_of floor seats notices all)
+      (room_of new seats' notices' all') number call (Refused Stalled back) = (
         tt,
         reaches,
         on,
@@ -130,7 +141,8 @@ module _ {M : Type 0} where
 
   -- neither the board nor a feed gives the refusals of a room
   by_refusal : (chunk : ℕ) (sure : Bool) (old new : RoomShown M) (number : ℕ) (call back : Call M) (refusal : Refusal)
-      → Reaches chunk sure (floor_of old) (floor_of new) number call (Refused refusal back) ⊎ IsBarred (floor_of old) (floor_of new) call refusal back
+      → Reaches chunk sure (floor_of old) (floor_of new) number call (Refused refusal back)
+      ⊎ IsBarred (floor_of old) (floor_of new) call refusal back
       → Moves old new number Free → Asks chunk sure ⊤ old new number call (Refused refusal back)
   by_refusal chunk sure old new number call back Gone (inl reaches) moves = absurd reaches.applies.0
   by_refusal chunk sure old new number call back Gone (inr barred) moves = absurd (let clash : Gone ≡ WrongKind = barred.wrong in cc)
@@ -143,7 +155,8 @@ module _ {M : Type 0} where
   by_refusal chunk sure old new number call back NoMemory why moves = (tt, why, moves)
   by_refusal chunk sure old new number call back Unseen why moves = (tt, why, moves)
 
-  pub refused_asks : (chunk : ℕ) (sure : Bool) (room : RoomShown M) (floor new : FloorShown M) (seats seats' : List State) (notices notices' : List Notice) (all all' : Bool) (number : ℕ)
+  pub refused_asks : (chunk : ℕ) (sure : Bool) (room : RoomShown M) (floor new : FloorShown M) (seats seats' : List State)
+      (notices notices' : List Notice) (all all' : Bool) (number : ℕ)
       (call back : Call M) (refusal : Refusal) → room_of floor seats notices all ≡ room
       → (is_barred floor.feeds call ≡ true → (Refused refusal back ≡ Refused WrongKind call) × (new ≡ floor))
       → (is_barred floor.feeds call ≡ false → Applies chunk sure floor.board new.board (Seat number) call (Refused refusal back))
@@ -151,6 +164,7 @@ module _ {M : Type 0} where
       → Asks chunk sure ⊤ room (room_of new seats' notices' all') number call (Refused refusal back)
   refused_asks chunk sure room floor new seats seats' notices notices' all all' number call back refusal view bars applies lanes feeds set =
       let why = refused_reaches chunk sure floor new number call back refusal bars applies in
-      let moves : Moves (room_of floor seats notices all) (room_of new seats' notices' all') number Free = record { seats = set; lanes = lanes; feeds = feeds } in
+      let moves : Moves (room_of floor seats notices all) (room_of new seats' notices' all') number Free =
+      record { seats = set; lanes = lanes; feeds = feeds } in
       subst (λ (r : RoomShown M). Asks chunk sure ⊤ r (room_of new seats' notices' all') number call (Refused refusal back)) view
       (by_refusal chunk sure (room_of floor seats notices all) (room_of new seats' notices' all') number call back refusal why moves)

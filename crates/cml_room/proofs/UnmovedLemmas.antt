@@ -1,5 +1,6 @@
 -- Who sleeps rightly still does, where the entries are the same, the journal has room still, and no lane was closed.
-use Rattle.std.proofs.Common.{◌≡◌, ℕ, ◌+◌, ◌≤◌, ◌⊎◌, inl, inr, Bool, cond, List, [], ◌∷◌, ◌++◌, length, Option, Some, Result, Ok, Err, subst, sym, ap, ◌∙◌, arith, length-append}
+use Rattle.std.proofs.Common.{◌≡◌, ℕ, ◌+◌, ◌≤◌, ◌⊎◌, inl, inr, Bool, cond, List, [], ◌∷◌, ◌++◌, length, Option, Some, Result}
+use Rattle.std.proofs.Common.{Ok, Err, subst, sym, ap, ◌∙◌, arith, length-append}
 use Rattle.std.specs.Prelude.{⊤, min, is_some, count_by, MatchResult}
 use Rattle.std.proofs.lemmas.List.Sums.{sum_by-append}
 use Rattle.cml_board.specs.Prelude.{Entry, Name, Refusal, entries_in, HasRoom, IsAsBefore, Shown, full_at, Waits}
@@ -9,7 +10,8 @@ use Rattle.cml_lanes.specs.Prelude.{Reserves, IsFloorAsBefore}
 use Rattle.cml_room.specs.Prelude.{Place, Waiter, states_in, IsMate, NoneOpen, AreIdle, WouldWait, AreAt, IsWatched}
 
 -- what holds of both reasons holds of each refusal
-pub by_reason : {P : Type 0} (none : Type 0) (why : Refusal → Type 0) (refusal : Refusal) → (none → P) → (why refusal → P) → NoSuchOr none why refusal → P
+pub by_reason : {P : Type 0} (none : Type 0) (why : Refusal → Type 0) (refusal : Refusal) → (none → P)
+    → (why refusal → P) → NoSuchOr none why refusal → P
 by_reason none why NoSuch first second is = first is
 by_reason none why refusal first second is = second is
 
@@ -24,7 +26,8 @@ module _ {M : Type 0} where
       inl (record { waits = subst (λ h. Waits h waiter.want) (sym history) would.waits; room = room would.room })
   still_rests old new places waiter history room (inr mate) = inr mate
 
-  pub same_watched : (old new : FloorShown M) (places : List Place) (all_due : Bool) → IsWatched old places all_due → new.board.history ≡ old.board.history
+  pub same_watched : (old new : FloorShown M) (places : List Place) (all_due : Bool) → IsWatched old places all_due
+      → new.board.history ≡ old.board.history
       → (HasRoom old.board → HasRoom new.board) → (NoneOpen new.lanes → NoneOpen old.lanes) → IsWatched new places all_due
   same_watched old new places all_due was history room lanes = record {
     placed = subst (λ h. AreAt h places) (sym history) was.placed;
@@ -33,7 +36,8 @@ module _ {M : Type 0} where
         was.stalls none number waiter quiet (lanes stalled.0, subst (λ h. AreIdle h (states_in places)) history stalled.1);
   }
 
-  same_floor_watched : (old new : FloorShown M) (places : List Place) (all_due : Bool) → new ≡ old → IsWatched old places all_due → IsWatched new places all_due
+  same_floor_watched : (old new : FloorShown M) (places : List Place) (all_due : Bool) → new ≡ old
+      → IsWatched old places all_due → IsWatched new places all_due
   same_floor_watched old new places all_due same was = subst (λ (f : FloorShown M). IsWatched f places all_due) (sym same) was
 
   -- the board is as it was: its journal has as much room
@@ -44,14 +48,16 @@ module _ {M : Type 0} where
       omega (arith, room, full, ap entries_in same.history)
 
   -- a cut makes room
-  room_cut : (old new : FloorShown M) → entries_in old.board.past ≤ entries_in old.board.history → CutsFloor old new → HasRoom old.board → HasRoom new.board
+  room_cut : (old new : FloorShown M) → entries_in old.board.past ≤ entries_in old.board.history → CutsFloor old new
+      → HasRoom old.board → HasRoom new.board
   room_cut old new past cut room =
       let full : full_at new.board ≡ min (entries_in old.board.history + old.board.limit) 18446744073709551615 =
       ap (λ p. min (entries_in p + new.board.limit) 18446744073709551615) cut.board.past
       ∙ ap (λ l. min (entries_in old.board.history + l) 18446744073709551615) cut.board.limit in
       omega (arith, room, past, full, ap entries_in cut.board.history)
 
-  cut_watched : (old new : FloorShown M) (places : List Place) (all_due : Bool) → entries_in old.board.past ≤ entries_in old.board.history → CutsFloor old new
+  cut_watched : (old new : FloorShown M) (places : List Place) (all_due : Bool)
+      → entries_in old.board.past ≤ entries_in old.board.history → CutsFloor old new
       → IsWatched old places all_due → IsWatched new places all_due
   cut_watched old new places all_due past cut was =
       same_watched old new places all_due was cut.board.history (room_cut old new past cut) (λ none. subst NoneOpen cut.lanes none)
@@ -64,38 +70,47 @@ module _ {M : Type 0} where
   past_within journal past history all = omega (arith, length-append journal past, ap length all)
 
   pub cuts_watched : (old new : FloorShown M) (places : List Place) (all_due : Bool) (journal : List (Entry M)) (told : Result ⊤ Refusal)
-      → journal ++ old.board.past ≡ old.board.history → CutsAFloor old new told → IsWatched old places all_due → IsWatched new places all_due
-  cuts_watched old new places all_due journal (Ok done) all cut was = cut_watched old new places all_due (past_within journal old.board.past old.board.history all) cut was
+      → journal ++ old.board.past ≡ old.board.history → CutsAFloor old new told
+      → IsWatched old places all_due → IsWatched new places all_due
+  cuts_watched old new places all_due journal (Ok done) all cut was =
+      cut_watched old new places all_due (past_within journal old.board.past old.board.history all) cut was
   cuts_watched old new places all_due journal (Err refusal) all not was = not_cut_watched old new places all_due refusal not was
 
-  pub taken_watched : {X : Type 0} (old new : FloorShown M) (places : List Place) (all_due : Bool) (journal : X → List (Entry M)) (told : Result X Refusal)
+  pub taken_watched : {X : Type 0} (old new : FloorShown M) (places : List Place) (all_due : Bool)
+      (journal : X → List (Entry M)) (told : Result X Refusal)
       → MatchResult told (λ taken. journal taken ++ old.board.past ≡ old.board.history) (λ _. ⊤)
       → MatchResult told (λ _. CutsFloor old new) (NotCut old new) → IsWatched old places all_due → IsWatched new places all_due
   taken_watched old new places all_due journal (Ok taken) all cut was =
       cut_watched old new places all_due (past_within (journal taken) old.board.past old.board.history all) cut was
   taken_watched old new places all_due journal (Err refusal) all not was = not_cut_watched old new places all_due refusal not was
 
-  as_before_watched : (old new : FloorShown M) (places : List Place) (all_due : Bool) → IsFloorAsBefore old new → IsWatched old places all_due → IsWatched new places all_due
+  as_before_watched : (old new : FloorShown M) (places : List Place) (all_due : Bool) → IsFloorAsBefore old new
+      → IsWatched old places all_due → IsWatched new places all_due
   as_before_watched old new places all_due same was =
-      same_watched old new places all_due was same.board.history (room_kept old.board new.board same.board) (λ none. subst NoneOpen same.lanes none)
+      same_watched old new places all_due was same.board.history (room_kept old.board new.board same.board)
+      (λ none. subst NoneOpen same.lanes none)
 
-  pub reserved_watched : (old new : FloorShown M) (places : List Place) (all_due : Bool) (n : ℕ) (told : Result ⊤ Refusal) → Reserves old new n told
+  pub reserved_watched : (old new : FloorShown M) (places : List Place) (all_due : Bool) (n : ℕ) (told : Result ⊤ Refusal)
+      → Reserves old new n told
       → IsWatched old places all_due → IsWatched new places all_due
   reserved_watched old new places all_due n (Ok done) same was = as_before_watched old new places all_due same.0 was
   reserved_watched old new places all_due n (Err refusal) same was = as_before_watched old new places all_due same.0 was
 
-  pub opened_watched : (old new : FloorShown M) (places : List Place) (all_due : Bool) (target : Name) (capacity : ℕ) (told : Result (LaneShown M × ℕ) Refusal)
+  pub opened_watched : (old new : FloorShown M) (places : List Place) (all_due : Bool) (target : Name) (capacity : ℕ)
+      (told : Result (LaneShown M × ℕ) Refusal)
       → OpensALane old new target capacity told → IsWatched old places all_due → IsWatched new places all_due
   opened_watched old new places all_due target capacity (Ok lane) opens was =
       same_watched old new places all_due was (ap (λ (b : Shown M). b.history) opens.board) (λ room. subst HasRoom (sym opens.board) room)
       (λ none. absurd (one_open old.lanes _ (subst NoneOpen opens.lanes none)))
   opened_watched old new places all_due target capacity (Err refusal) not was = same_floor_watched old new places all_due not.1 was
 
-  pub ended_watched : (old new : FloorShown M) (places : List Place) (all_due : Bool) (number : ℕ) (told : Result (Option (Ended M)) Refusal)
+  pub ended_watched : (old new : FloorShown M) (places : List Place) (all_due : Bool) (number : ℕ)
+      (told : Result (Option (Ended M)) Refusal)
       → Ends number old new told → IsWatched old places all_due → IsWatched new places all_due
   ended_watched old new places all_due number (Ok end) ends was =
       same_watched old new places all_due was (ap (λ (f : FloorShown M). f.board.history) ends.floor)
       (λ room. subst (λ (f : FloorShown M). HasRoom f.board) (sym ends.floor) room)
       (λ none. subst (λ (f : FloorShown M). NoneOpen f.lanes) ends.floor none)
   ended_watched old new places all_due number (Err refusal) not was =
-      by_reason (FindsNoFeed number old new) (λ other. ⊥) refusal (λ none. same_floor_watched old new places all_due none.1 was) (λ never. absurd never) not
+      by_reason (FindsNoFeed number old new) (λ other. ⊥) refusal
+      (λ none. same_floor_watched old new places all_due none.1 was) (λ never. absurd never) not

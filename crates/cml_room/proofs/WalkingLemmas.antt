@@ -1,5 +1,6 @@
 -- A walk along a queue: what was seen of its members.
-use Rattle.std.proofs.Common.{◌≡◌, ℕ, zero, suc, ◌+◌, ◌<◌, ◌≤◌, inl, inr, true, List, [], ◌∷◌, length, slice_get, Option, Some, None, sym, ap, subst, ◌∙◌, arith}
+use Rattle.std.proofs.Common.{◌≡◌, ℕ, zero, suc, ◌+◌, ◌<◌, ◌≤◌, inl, inr, true, List, [], ◌∷◌, length, slice_get, Option}
+use Rattle.std.proofs.Common.{Some, None, sym, ap, subst, ◌∙◌, arith}
 use Rattle.std.proofs.lemmas.Option.{none-some, same_Some, slice_get_within}
 use Rattle.std.proofs.lemmas.Bool.{cases_lt}
 use Rattle.cml_queues.specs.Prelude.{has}
@@ -30,7 +31,8 @@ pub walk_stops : (queue : List ℕ) (next : Option ℕ) (count : ℕ) (Seen : �
 walk_stops queue next count Seen walked none = walk_ends queue next count Seen walked (past_none queue count (sym walked.next_is ∙ none))
 
 -- one more was seen
-pub walk_goes : (queue : List ℕ) (next next' : Option ℕ) (count k : ℕ) (Seen : ℕ → Type 0) → Walked queue next count Seen → next ≡ Some k → Seen k
+pub walk_goes : (queue : List ℕ) (next next' : Option ℕ) (count k : ℕ) (Seen : ℕ → Type 0)
+    → Walked queue next count Seen → next ≡ Some k → Seen k
     → next' ≡ slice_get queue (count + 1) → Walked queue next' (count + 1) Seen
 walk_goes queue next next' count k Seen walked is seen then = record {
   next_is = then;
@@ -45,4 +47,5 @@ walk_goes queue next next' count k Seen walked is seen then = record {
 -- what was seen of each still is so
 pub walk_kept : (queue : List ℕ) (next : Option ℕ) (count : ℕ) (Seen Seen' : ℕ → Type 0) → Walked queue next count Seen
     → ((k : ℕ) → Seen k → Seen' k) → Walked queue next count Seen'
-walk_kept queue next count Seen Seen' walked kept = record { next_is = walked.next_is; seen = λ i k less found. kept k (walked.seen i k less found) }
+walk_kept queue next count Seen Seen' walked kept =
+    record { next_is = walked.next_is; seen = λ i k less found. kept k (walked.seen i k less found) }

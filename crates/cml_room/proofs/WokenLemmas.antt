@@ -1,5 +1,6 @@
 -- Who counts as woken, over what is done with a seat.
-use Rattle.std.proofs.Common.{◌≡◌, ◌≢◌, ℕ, zero, suc, ◌<◌, inl, inr, true, false, List, [], ◌∷◌, ◌++◌, length, replicate, get_or, slice_get, slice_set, Option, Some, None, IfSome, IfNone, refl, sym, ap, subst, ◌∙◌, arith}
+use Rattle.std.proofs.Common.{◌≡◌, ◌≢◌, ℕ, zero, suc, ◌<◌, inl, inr, true, false, List, [], ◌∷◌, ◌++◌, length, replicate, get_or}
+use Rattle.std.proofs.Common.{slice_get, slice_set, Option, Some, None, IfSome, IfNone, refl, sym, ap, subst, ◌∙◌, arith}
 use Rattle.std.specs.Option.{option_map}
 use Rattle.std.proofs.lemmas.Option.{slice_get-map, slice_get_past, slice_get-get_or}
 use Rattle.cml_board.proofs.ListLemmas.{slice_get-set_same, slice_get-set_other}
@@ -13,10 +14,12 @@ use Rattle.cml_room.proofs.RousingLemmas.{roused_to, free_kept}
 use Rattle.cml_room.proofs.WalkingLemmas.{past_none}
 
 -- told by its place
-pub woken_by : (places : List Place) (seat : ℕ) → was_woken (notices_in places) seat ≡ woken_in (option_map notice_by (slice_get places seat))
+pub woken_by : (places : List Place) (seat : ℕ)
+    → was_woken (notices_in places) seat ≡ woken_in (option_map notice_by (slice_get places seat))
 woken_by places seat = ap woken_in (slice_get-map notice_by places seat)
 
-same_woken : (olds news : List Place) (seat : ℕ) → slice_get news seat ≡ slice_get olds seat → was_woken (notices_in news) seat ≡ was_woken (notices_in olds) seat
+same_woken : (olds news : List Place) (seat : ℕ) → slice_get news seat ≡ slice_get olds seat
+    → was_woken (notices_in news) seat ≡ was_woken (notices_in olds) seat
 same_woken olds news seat same =
     woken_by news seat ∙ (ap (λ (o : Option Place). woken_in (option_map notice_by o)) same ∙ sym (woken_by olds seat))
 
@@ -51,12 +54,14 @@ roused_keeps So olds news are = λ seat. by_old seat (slice_get olds seat) refl
               ∙ sym (woken_by olds seat ∙ ap (λ (o : Option Place). woken_in (option_map notice_by o)) was)))
         ]
 
-pub keeps_on : (olds mids news : List Place) → KeepsWoken (notices_in olds) (notices_in mids) → KeepsWoken (notices_in mids) (notices_in news)
+pub keeps_on : (olds mids news : List Place) → KeepsWoken (notices_in olds) (notices_in mids)
+    → KeepsWoken (notices_in mids) (notices_in news)
     → KeepsWoken (notices_in olds) (notices_in news)
 keeps_on olds mids news one two = λ seat. two seat ∙ one seat
 
 -- a seat whose place is another now, with no notice
-pub set_asked : (places news : List Place) (seat : ℕ) (old new : Place) → slice_get places seat ≡ Some old → notice_by new ≡ Nothing → news ≡ slice_set places seat new
+pub set_asked : (places news : List Place) (seat : ℕ) (old new : Place) → slice_get places seat ≡ Some old → notice_by new ≡ Nothing
+    → news ≡ slice_set places seat new
     → HasAsked seat (notices_in places) (notices_in news)
 set_asked places news seat old new found nothing set = record {
   quiet =
@@ -67,7 +72,8 @@ set_asked places news seat old new found nothing set = record {
       same_woken places news other (ap (λ (l : List Place). slice_get l other) set ∙ slice_get-set_other places seat other new apart);
 }
 
-pub set_asked_within : (places news : List Place) (seat : ℕ) (new : Place) → seat < length places → notice_by new ≡ Nothing → news ≡ slice_set places seat new
+pub set_asked_within : (places news : List Place) (seat : ℕ) (new : Place) → seat < length places → notice_by new ≡ Nothing
+    → news ≡ slice_set places seat new
     → HasAsked seat (notices_in places) (notices_in news)
 set_asked_within places news seat new within nothing set =
     set_asked places news seat (get_or places seat Free) new (slice_get-get_or places seat Free within) nothing set
@@ -83,29 +89,34 @@ quieted_nothing Left = refl
 quieted_nothing (Waiting waiter) = refl
 
 -- one that is free has asked
-pub free_asked : (places : List Place) (seat : ℕ) → slice_get places seat ≡ Some Free → HasAsked seat (notices_in places) (notices_in places)
+pub free_asked : (places : List Place) (seat : ℕ) → slice_get places seat ≡ Some Free
+    → HasAsked seat (notices_in places) (notices_in places)
 free_asked places seat free = record {
   quiet = slice_get-map notice_by places seat ∙ ap (option_map notice_by) free;
   others = λ other apart. refl;
 }
 
 -- the seat asked and is free, and others were roused
-pub asked_roused : (So : Waiter → Type 0) (olds mids news : List Place) (seat : ℕ) → HasAsked seat (notices_in olds) (notices_in mids) → AreRoused So mids news
+pub asked_roused : (So : Waiter → Type 0) (olds mids news : List Place) (seat : ℕ)
+    → HasAsked seat (notices_in olds) (notices_in mids) → AreRoused So mids news
     → slice_get mids seat ≡ Some Free → HasAsked seat (notices_in olds) (notices_in news)
 asked_roused So olds mids news seat asked roused free = record {
   quiet = (free_asked news seat (free_kept So mids news seat roused free)).quiet;
   others = λ other apart. roused_keeps So mids news roused other ∙ asked.others other apart;
 }
 
-pub asked_on : (olds mids news : List Place) (seat : ℕ) → HasAsked seat (notices_in olds) (notices_in mids) → HasAsked seat (notices_in mids) (notices_in news)
+pub asked_on : (olds mids news : List Place) (seat : ℕ) → HasAsked seat (notices_in olds) (notices_in mids)
+    → HasAsked seat (notices_in mids) (notices_in news)
     → HasAsked seat (notices_in olds) (notices_in news)
 asked_on olds mids news seat one two = record { quiet = two.quiet; others = λ other apart. two.others other apart ∙ one.others other apart }
 
-pub asked_same : (olds mids news : List Place) (seat : ℕ) → HasAsked seat (notices_in olds) (notices_in mids) → news ≡ mids → HasAsked seat (notices_in olds) (notices_in news)
+pub asked_same : (olds mids news : List Place) (seat : ℕ) → HasAsked seat (notices_in olds) (notices_in mids) → news ≡ mids
+    → HasAsked seat (notices_in olds) (notices_in news)
 asked_same olds mids news seat asked same = subst (λ (l : List Place). HasAsked seat (notices_in olds) (notices_in l)) (sym same) asked
 
 -- the seat that wakes next, and no other, is woken by that
-pub wakes_only : (olds mids news : List Place) (given : Option ℕ) → KeepsWoken (notices_in olds) (notices_in mids) → WakesNext mids news given
+pub wakes_only : (olds mids news : List Place) (given : Option ℕ)
+    → KeepsWoken (notices_in olds) (notices_in mids) → WakesNext mids news given
     → (seat : ℕ) → given ≢ Some seat → was_woken (notices_in news) seat ≡ was_woken (notices_in olds) seat
 wakes_only olds mids news None kept woken = λ seat other. same_keeps mids news woken.0 seat ∙ kept seat
 wakes_only olds mids news (Some number) kept woken = λ seat other.
@@ -115,7 +126,8 @@ wakes_only olds mids news (Some number) kept woken = λ seat other.
     ∙ kept seat
 
 -- a seat whose place is another now, with as little notice
-pub set_keeps : (places news : List Place) (seat : ℕ) (old new : Place) → slice_get places seat ≡ Some old → is_woken (notice_by new) ≡ is_woken (notice_by old)
+pub set_keeps : (places news : List Place) (seat : ℕ) (old new : Place) → slice_get places seat ≡ Some old
+    → is_woken (notice_by new) ≡ is_woken (notice_by old)
     → news ≡ slice_set places seat new → KeepsWoken (notices_in places) (notices_in news)
 set_keeps places news seat old new found alike set = λ k. elim (this_or_other k seat) [
   | inl here ↦
@@ -132,16 +144,19 @@ set_keeps places news seat old new found alike set = λ k. elim (this_or_other k
 pub added_keeps : (places news : List Place) → news ≡ places ++ Free ∷ [] → KeepsWoken (notices_in places) (notices_in news)
 added_keeps places news added = λ seat.
     woken_by news seat
-    ∙ (ap (λ (l : List Place). woken_in (option_map notice_by (slice_get l seat))) added ∙ (pushed places seat ∙ sym (woken_by places seat)))
+    ∙ (ap (λ (l : List Place). woken_in (option_map notice_by (slice_get l seat))) added
+    ∙ (pushed places seat ∙ sym (woken_by places seat)))
   where
-    pushed : (ps : List Place) (k : ℕ) → woken_in (option_map notice_by (slice_get (ps ++ Free ∷ []) k)) ≡ woken_in (option_map notice_by (slice_get ps k))
+    pushed : (ps : List Place) (k : ℕ)
+        → woken_in (option_map notice_by (slice_get (ps ++ Free ∷ []) k)) ≡ woken_in (option_map notice_by (slice_get ps k))
     pushed [] zero = refl
     pushed [] (suc k) = refl
     pushed (p ∷ ps) zero = refl
     pushed (p ∷ ps) (suc k) = pushed ps k
 
 -- seats that have left have no notice
-pub left_quiet : (places : List Place) (count : ℕ) → places ≡ replicate count Left → (seat : ℕ) → has_notice (slice_get (notices_in places) seat) ≡ false
+pub left_quiet : (places : List Place) (count : ℕ) → places ≡ replicate count Left → (seat : ℕ)
+    → has_notice (slice_get (notices_in places) seat) ≡ false
 left_quiet places count left = λ seat.
     ap has_notice (slice_get-map notice_by places seat)
     ∙ (ap (λ (l : List Place). has_notice (option_map notice_by (slice_get l seat))) left ∙ none count seat)
@@ -160,7 +175,8 @@ not_woken (Some Woken) isnt = absurd (isnt refl)
 module _ {M : Type 0} where
   -- what `next_due` does
   pub gives_next : (given : Option ℕ) (old new : RoomShown M)
-      → IfSome given (λ seat. (is_due old seat ≡ true) × (slice_get old.notices seat ≢ Some Woken) × (slice_get new.notices seat ≡ Some Woken))
+      → IfSome given (λ seat. (is_due old seat ≡ true) × (slice_get old.notices seat ≢ Some Woken)
+      × (slice_get new.notices seat ≡ Some Woken))
       → ((seat : ℕ) → given ≢ Some seat → was_woken new.notices seat ≡ was_woken old.notices seat)
       → IfNone given ((seat : ℕ) → is_due new seat ≡ true → slice_get new.notices seat ≡ Some Woken) → new.all_due ≡ false
       → ((seat : ℕ) → is_due new seat ≡ is_due old seat) → new.seats ≡ old.seats → floor_of new ≡ floor_of old → GivesNext given old new

@@ -102,6 +102,7 @@ pub record AreAlike (olds news : List Place) : Type 0 where
       → (old : Waiter) × (slice_get olds number ≡ Some (place.Waiting old)) × (old.want ≡ waiter.want) × (old.source ≡ waiter.source)
       × (waiter.notice ≡ Nothing → old.notice ≡ Nothing)
   pub on : (number : ℕ) (old : Waiter) → slice_get olds number ≡ Some (place.Waiting old)
-      → (waiter : Waiter) × (slice_get news number ≡ Some (place.Waiting waiter)) × (waiter.want ≡ old.want) × (is_noted old.notice ≡ true → is_noted waiter.notice ≡ true)
+      → (waiter : Waiter) × (slice_get news number ≡ Some (place.Waiting waiter)) × (waiter.want ≡ old.want)
+      × (is_noted old.notice ≡ true → is_noted waiter.notice ≡ true)
   pub woken : (number : ℕ) (old : Waiter) → slice_get olds number ≡ Some (place.Waiting old) → old.notice ≡ Woken
       → (waiter : Waiter) × (slice_get news number ≡ Some (place.Waiting waiter)) × (waiter.notice ≡ Woken)

@@ -60,7 +60,8 @@ module _ {M : Type 0} where
 
   -- each seat that waits and is not due sleeps rightly. Whether a due seat was woken is for the law in `Running`
   abbrev pub AllSleepRightly : RoomShown M → Type 0
-  AllSleepRightly room = (number : ℕ) (on : Want) → state_of room number ≡ Some (Parked on) → is_due room number ≡ false → SleepsRightly room on
+  AllSleepRightly room = (number : ℕ) (on : Want) → state_of room number ≡ Some (Parked on)
+      → is_due room number ≡ false → SleepsRightly room on
 
   -- the seats, where this one's state is this, and no other's is changed
   abbrev pub with_state : RoomShown M → ℕ → State → List State

@@ -1,7 +1,8 @@
 -- The law of waking: what each call of a room does to who was woken, and what holds after a run of calls. A seat counts as woken by a
 -- bit that the room keeps. What the bit means is shown over runs: a `next_due` returned the seat, and it has not asked since. It is
 -- not said that the thread of such a seat does ask, nor in which order `next_due` returns seats.
-use Rattle.std.specs.Prelude.{ℕ, ◌≡◌, ◌≢◌, ◌==◌, ◌&&◌, ◌||◌, ◌⊎◌, not, Bool, true, false, List, [], ◌∷◌, slice_get, Option, Some, None, IfSome, IfNone, Result, Ok, Err, ⊤}
+use Rattle.std.specs.Prelude.{ℕ, ◌≡◌, ◌≢◌, ◌==◌, ◌&&◌, ◌||◌, ◌⊎◌, not, Bool, true, false, List, [], ◌∷◌, slice_get, Option}
+use Rattle.std.specs.Prelude.{Some, None, IfSome, IfNone, Result, Ok, Err, ⊤}
 use Rattle.cml_board.specs.Prelude.{Outcome, Refusal, Want}
 use Rattle.cml_board.specs.declared.outcome.Outcome.TheVariants.{Refused}
 use Rattle.cml_board.specs.declared.outcome.Refusal.TheVariants.{Gone}
@@ -97,7 +98,8 @@ module _ {M : Type 0} where
 
   -- each seat that waits was returned in the run, and has not asked since; or it may sleep
   abbrev pub NobodyForgotten : List RoomCall → RoomShown M → Type 0
-  NobodyForgotten calls room = (seat : ℕ) (on : Want) → state_of room seat ≡ Some (Parked on) → (is_returned calls seat ≡ true) ⊎ MaySleep calls room on
+  NobodyForgotten calls room = (seat : ℕ) (on : Want) → state_of room seat ≡ Some (Parked on)
+      → (is_returned calls seat ≡ true) ⊎ MaySleep calls room on
 
   -- each seat that was returned has asked since, or no longer waits
   abbrev pub HaveAllAsked : List RoomCall → RoomShown M → Type 0
@@ -105,4 +107,5 @@ module _ {M : Type 0} where
 
   -- each seat that waits would wait again if it asked now, and there is no stall
   abbrev pub AllWouldWait : RoomShown M → Type 0
-  AllWouldWait room = (seat : ℕ) (on : Want) → state_of room seat ≡ Some (Parked on) → WouldWait room.board on × ¬ (IsStalled (floor_of room) room.seats)
+  AllWouldWait room = (seat : ℕ) (on : Want) → state_of room seat ≡ Some (Parked on)
+      → WouldWait room.board on × ¬ (IsStalled (floor_of room) room.seats)

@@ -27,7 +27,8 @@ module _ {M : Type 0} where
 
   -- a seat that isn't due would wait if it asked now, or another that waits for the very same is due
   abbrev pub NoneForgotten : Shown M → List Place → Type 0
-  NoneForgotten board places = (number : ℕ) (waiter : Waiter) → IsQuiet places number waiter → WouldWait board waiter.want ⊎ IsMate places waiter.want
+  NoneForgotten board places = (number : ℕ) (waiter : Waiter) → IsQuiet places number waiter
+      → WouldWait board waiter.want ⊎ IsMate places waiter.want
 
   -- no seat that isn't due sleeps through a stall
   abbrev pub NoneStalled : FloorShown M → List Place → Type 0

@@ -17,7 +17,8 @@ pub fn woken_is_returned<M>()
 /// Shows that no seat is returned twice until it asks: a `next_due` returns only a seat that no earlier one returned since it last
 /// asked.
 pub fn next_due_returns_anew<M>()
-    ensures { (calls : List RoomCall) (first last : RoomShown M) (seat : ℕ) → NoneDue first → AreMade (NextDue (Some seat) ∷ calls) first last
+    ensures { (calls : List RoomCall) (first last : RoomShown M) (seat : ℕ) → NoneDue first
+        → AreMade (NextDue (Some seat) ∷ calls) first last
         → is_returned calls seat ≡ false }
 {}
 
@@ -50,7 +51,8 @@ pub fn nobody_is_left_asleep<M: Message, L: MessageLog<M>>(room: &Room<M, L>)
 /// if it asked now, and there is no stall. So call `next_due` once after each call, and wake the thread of the seat that it
 /// returns: the thread asks, and calls `next_due` in turn. Once no woken thread is left to ask, nobody is left asleep.
 pub fn one_next_due_is_enough<M: Message, L: MessageLog<M>>(room: &Room<M, L>)
-    ensures { (calls : List RoomCall) (given : Option ℕ) (first : RoomShown M) → NoneDue first → AreMade (NextDue given ∷ calls) first room.now
+    ensures { (calls : List RoomCall) (given : Option ℕ) (first : RoomShown M) → NoneDue first
+        → AreMade (NextDue given ∷ calls) first room.now
         → HaveAllAsked (NextDue given ∷ calls) room.now → AllWouldWait room.now }
 {
     // As above.

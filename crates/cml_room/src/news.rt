@@ -45,7 +45,8 @@ pub fn count_entries<M: Message, L: MessageLog<M>>(floor: &Floor<M, L>) -> u64
 /// Returns what the journal's last entry brings, if there are more than `before` entries.
 pub fn latest_news<M: Message, L: MessageLog<M>>(board: &Board<M, L>, before: u64) -> Option<News>
     ensures none { entries_in board.now.history ≤ before → result ≡ None }
-    ensures latest { (entry : Entry M) (rest : List (Entry M)) → board.now.history ≡ entry ∷ rest → entries_in board.now.past < entries_in board.now.history
+    ensures latest { (entry : Entry M) (rest : List (Entry M)) → board.now.history ≡ entry ∷ rest
+        → entries_in board.now.past < entries_in board.now.history
         → before < entries_in board.now.history → result ≡ news_in entry.call }
 {
     if board.entries() <= before {

@@ -1,4 +1,5 @@
-ghost use Rattle.std.specs.Prelude.{◌≡◌, ◌≢◌, ◌⊎◌, ℕ, true, false, ◌^◌, ◌<◌, ◌≤◌, [], ◌∷◌, ◌++◌, length, replicate, Some, None, IfOk, IfErr, OnOk};
+ghost use Rattle.std.specs.Prelude.{◌≡◌, ◌≢◌, ◌⊎◌, ℕ, true, false, ◌^◌, ◌<◌, ◌≤◌, [], ◌∷◌, ◌++◌, length, replicate};
+ghost use Rattle.std.specs.Prelude.{Some, None, IfOk, IfErr, OnOk};
 ghost use Rattle.cml_board.specs.declared.outcome.Refusal.TheVariants.{Gone, NoMemory};
 ghost use Rattle.cml_board.specs.Prelude.{Want, no_entries, seats_of, lanes_of, feeds_of, IsSound};
 ghost use Rattle.cml_lanes.specs.Prelude.{KeepsLanes, KeepsFeeds};
@@ -34,7 +35,14 @@ impl<M, L: MessageLog<M>> Model for Room<M, L> {
 
     ghost Value = { RoomShown M };
 
-    ghost view = { λ r. record { board = r.floor.board; lanes = r.floor.lanes; feeds = r.floor.feeds; seats = states_in r.seats.places; notices = notices_in r.seats.places; all_due = r.seats.all_due } };
+    ghost view = { λ r. record {
+      board = r.floor.board;
+      lanes = r.floor.lanes;
+      feeds = r.floor.feeds;
+      seats = states_in r.seats.places;
+      notices = notices_in r.seats.places;
+      all_due = r.seats.all_due;
+    } };
 
     ghost invariant = { λ r. IsWatched r.floor r.seats.places r.seats.all_due };
 }

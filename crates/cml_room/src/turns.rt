@@ -79,7 +79,8 @@ pub fn park<M: Message, L: MessageLog<M>>(
     number: u64,
     want: Want,
 ) -> bool
-    requires may { (slice_get (states_in seats.old.places) number ≡ Some State.Free) ⊎ (slice_get (states_in seats.old.places) number ≡ Some (State.Parked want)) }
+    requires may { (slice_get (states_in seats.old.places) number ≡ Some State.Free)
+        ⊎ (slice_get (states_in seats.old.places) number ≡ Some (State.Parked want)) }
     requires would { WouldWait floor.now.board want }
     requires watched { IsWatched floor.now seats.old.places seats.old.all_due }
     ensures parked { let waiting = slice_set (states_in seats.old.places) number (State.Parked want) in MatchBool result
@@ -105,7 +106,8 @@ fn begin_wait<M: Message, L: MessageLog<M>>(
     number: u64,
     want: Want,
 )
-    requires may { (slice_get (states_in seats.old.places) number ≡ Some State.Free) ⊎ (slice_get (states_in seats.old.places) number ≡ Some (State.Parked want)) }
+    requires may { (slice_get (states_in seats.old.places) number ≡ Some State.Free)
+        ⊎ (slice_get (states_in seats.old.places) number ≡ Some (State.Parked want)) }
     requires would { WouldWait floor.now.board want }
     requires watched { IsWatched floor.now seats.old.places seats.old.all_due }
     ensures states { states_in seats.new.places ≡ slice_set (states_in seats.old.places) number (State.Parked want) }

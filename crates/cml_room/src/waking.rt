@@ -97,7 +97,8 @@ pub fn object_of(want: Want) -> Name
 pub fn rouse_due(seats: &mut Seats)
     ensures alike { AreAlike seats.old.places seats.new.places }
     ensures quiet { (number : ℕ) (waiter : Waiter) → IsQuiet seats.new.places number waiter → seats.old.all_due ≡ false }
-    ensures same { (number : ℕ) → place_due false (slice_get seats.new.places number) ≡ place_due seats.old.all_due (slice_get seats.old.places number) }
+    ensures same { (number : ℕ)
+        → place_due false (slice_get seats.new.places number) ≡ place_due seats.old.all_due (slice_get seats.old.places number) }
     ensures due { seats.new.all_due ≡ false }
     ensures woken { KeepsWoken (notices_in seats.old.places) (notices_in seats.new.places) }
 {
@@ -184,7 +185,8 @@ fn rouse_each(seats: &mut Seats, object: u64, source: u64)
 }
 
 fn wants(seats: &Seats, number: u64, want: Want) -> bool
-    ensures { MatchBool result ((waiter : Waiter) × (slice_get seats.now.places number ≡ Some (place.Waiting waiter)) × (waiter.want ≡ want))
+    ensures { MatchBool result ((waiter : Waiter)
+        × (slice_get seats.now.places number ≡ Some (place.Waiting waiter)) × (waiter.want ≡ want))
         ((waiter : Waiter) → slice_get seats.now.places number ≡ Some (place.Waiting waiter) → waiter.want ≢ want) }
 {
     match seats.place(number) {

@@ -1,5 +1,6 @@
 -- What the steps of a history gave the names: each step that was performed and gives a name gave it a port.
-use Rattle.std.proofs.Common.{◌≡◌, ◌≢◌, ℕ, ◌+◌, ◌<◌, ◌≤◌, Bool, true, false, cond, eqb, ltb, [], ◌∷◌, ◌++◌, length, take, slice_get, Option, Some, None, MatchBool, IsTrue, IsSome, IfSome, ◌⊎◌, refl, sym, ap, subst, ◌∙◌, arith, inl, inr, List}
+use Rattle.std.proofs.Common.{◌≡◌, ◌≢◌, ℕ, ◌+◌, ◌<◌, ◌≤◌, Bool, true, false, cond, eqb, ltb, [], ◌∷◌, ◌++◌, length, take, slice_get, Option}
+use Rattle.std.proofs.Common.{Some, None, MatchBool, IsTrue, IsSome, IfSome, ◌⊎◌, refl, sym, ap, subst, ◌∙◌, arith, inl, inr, List}
 use Rattle.std.specs.Prelude.{⊤, not}
 use Rattle.std.specs.Option.{option_map, option_map_or, option_and_then}
 use Rattle.std.proofs.lemmas.Option.{same_Some, none-some, option_and_then_some}
@@ -38,10 +39,12 @@ call_asks (action.Give give at message) name = refl
 call_asks (action.Ask ask.NewPort at) name = refl
 call_asks (action.Ask ask at) name = refl
 
-step_asks : (script : Lines) (before : History) (i : ℕ) (c : Call (List ℕ)) (line : SourceLine) → AsksForPorts script → slice_get script.steps i ≡ Some line → step_call script before i ≡ Some c → is_giving line ≡ true → asks_port c ≡ true
+step_asks : (script : Lines) (before : History) (i : ℕ) (c : Call (List ℕ)) (line : SourceLine) → AsksForPorts script
+    → slice_get script.steps i ≡ Some line → step_call script before i ≡ Some c → is_giving line ≡ true → asks_port c ≡ true
 step_asks script before i c line asks found calls gives =
     option_and_then_some (call_of (object_of script before)) (action_of (names_of script) line.words) c
-    (sym (ap (option_and_then (λ (l : SourceLine). option_and_then (call_of (object_of script before)) (action_of (names_of script) l.words))) found) ∙ calls)
+    (sym (ap (option_and_then
+    (λ (l : SourceLine). option_and_then (call_of (object_of script before)) (action_of (names_of script) l.words))) found) ∙ calls)
     (λ a is called.
     let on = called_on (object_of script before) a c called in
     ap asks_port (sym on.1) ∙ call_asks a on.0 ∙ asks i line a found is ∙ gives)
@@ -54,7 +57,8 @@ record IsPortAt (history : History) (n : ℕ) : Type 0 where
   start : ℕ
   origin : origin_of history n ≡ Some (port channel start)
 
-port_origin : (o : Option Origin) → IsSome (option_map kind_by o) → IfSome (option_map kind_by o) (λ k. IsTrue (is_port k)) → (c : ℕ) × (s : ℕ) × (o ≡ Some (port c s))
+port_origin : (o : Option Origin) → IsSome (option_map kind_by o) → IfSome (option_map kind_by o) (λ k. IsTrue (is_port k))
+    → (c : ℕ) × (s : ℕ) × (o ≡ Some (port c s))
 port_origin (Some (port c s)) some is = (c, s, refl)
 port_origin o some is = cc
 
@@ -64,7 +68,8 @@ record Binds (before : History) (asked : Call (List ℕ)) (r : Reply (List ℕ))
   bound : port_bound (bound_by asked r) ≡ Some object
   kind : (entry : Entry (List ℕ)) → entry.call ≡ asked → entry.reply ≡ r → kind_of (entry ∷ before) object ≡ Some kind.Port
 
-made_port : (before : History) (asked : Call (List ℕ)) (c s : ℕ) → begun_by (made before) before asked ≡ port c s ∷ [] → Binds before asked (new_name before)
+made_port : (before : History) (asked : Call (List ℕ)) (c s : ℕ) → begun_by (made before) before asked ≡ port c s ∷ []
+    → Binds before asked (new_name before)
 made_port before asked c s begun = record {
   object = length (made before);
   bound = refl;
@@ -75,9 +80,11 @@ made_port before asked c s begun = record {
       ∙ ap (option_map kind_by) (slice_get_pushed (made before) (port c s) (length (made before)) refl);
 }
 
-binds : (before : History) (asked : Call (List ℕ)) (r : Reply (List ℕ)) → asks_port asked ≡ true → Fits before asked → answer before asked ≡ Some r → Binds before asked r
+binds : (before : History) (asked : Call (List ℕ)) (r : Reply (List ℕ)) → asks_port asked ≡ true → Fits before asked
+    → answer before asked ≡ Some r → Binds before asked r
 binds before (call.NewPort name) r asks fits answers =
-    subst (Binds before (call.NewPort name)) (same_Some _ _ answers) (made_port before (call.NewPort name) name.0 (length (sent before name.0)) refl)
+    subst (Binds before (call.NewPort name)) (same_Some _ _ answers)
+    (made_port before (call.NewPort name) name.0 (length (sent before name.0)) refl)
 binds before (call.CopyPort name) r asks fits answers = by_open (is_open before name.0) answers
   where
     original : (c : ℕ) × (s : ℕ) × (origin_of before name.0 ≡ Some (port c s))
@@ -86,7 +93,8 @@ binds before (call.CopyPort name) r asks fits answers = by_open (is_open before 
     by_open : (t : Bool) → cond t (Some (new_name before)) (Some reply.Closed) ≡ Some r → Binds before (call.CopyPort name) r
     by_open true e =
         subst (Binds before (call.CopyPort name)) (same_Some _ _ e)
-        (made_port before (call.CopyPort name) original.0 (original.1 + length (got before name.0)) (ap (λ o. copy_of o (length (got before name.0))) original.2))
+        (made_port before (call.CopyPort name) original.0 (original.1 + length (got before name.0))
+        (ap (λ o. copy_of o (length (got before name.0))) original.2))
     by_open false e = subst (Binds before (call.CopyPort name)) (same_Some _ _ e) (record {
       object = name.0;
       bound = refl;
@@ -101,26 +109,32 @@ GivesPort entry = asks_port entry.call ≡ true → IsSome (port_bound (bound_by
 -- each entry is no thread's, or the next step of its thread
 abbrev pub AreSteps : Lines → History → Type 0
 AreSteps script [] = ⊤
-AreSteps script (entry ∷ before) = ((is_of_thread entry.who ≡ false) ⊎ (IsNextOfThread script before entry × GivesPort entry)) × AreSteps script before
+AreSteps script (entry ∷ before) =
+    ((is_of_thread entry.who ≡ false) ⊎ (IsNextOfThread script before entry × GivesPort entry)) × AreSteps script before
 
 -- a declared object is made by no thread
 pub maker_is_none : (script : Lines) (k : ℕ) → is_of_thread (maker script k) ≡ false
 maker_is_none script k =
-    elim (option_map_or (is_feed script) (slice_get (objects_of script) k) false) as (λ t. is_of_thread (cond t (Feed (how_many (is_feed script) (take k (objects_of script)))) (Seat 0)) ≡ false) [ true ↦ refl | false ↦ refl ]
+    elim (option_map_or (is_feed script) (slice_get (objects_of script) k) false) as (λ t.
+    is_of_thread (cond t (Feed (how_many (is_feed script) (take k (objects_of script)))) (Seat 0)) ≡ false) [ true ↦ refl | false ↦ refl ]
 
-pub lawful_gives : (before : History) (entry : Entry (List ℕ)) → Fits before entry.call → answer before entry.call ≡ Some entry.reply → GivesPort entry
+pub lawful_gives : (before : History) (entry : Entry (List ℕ)) → Fits before entry.call
+    → answer before entry.call ≡ Some entry.reply → GivesPort entry
 lawful_gives before entry fits answers = λ asks. subst IsSome (sym (binds before entry.call entry.reply asks fits answers).bound) refl
 
 pub script_steps : (script : Lines) (history : History) → IsOfScript script history → Lawful history → AreSteps script history
 script_steps script [] own lawful = tt
-script_steps script (entry ∷ before) own lawful = (by_bool (ltb (length before) (declared_count script)) own.0, script_steps script before own.1 lawful.2)
+script_steps script (entry ∷ before) own lawful =
+    (by_bool (ltb (length before) (declared_count script)) own.0, script_steps script before own.1 lawful.2)
   where
-    by_caller : (w : Who) → entry.who ≡ w → IsOfCaller script before entry w → (is_of_thread entry.who ≡ false) ⊎ (IsNextOfThread script before entry × GivesPort entry)
+    by_caller : (w : Who) → entry.who ≡ w → IsOfCaller script before entry w
+        → (is_of_thread entry.who ≡ false) ⊎ (IsNextOfThread script before entry × GivesPort entry)
     by_caller (Seat s) e next = inr (next, lawful_gives before entry lawful.0 lawful.1)
     by_caller (Lane l) e laid = inl (ap is_of_thread e)
     by_caller (Feed f) e fed = inl (ap is_of_thread e)
 
-    by_bool : (t : Bool) → MatchBool t (IsDeclaration script before entry) (IsOfCaller script before entry entry.who) → (is_of_thread entry.who ≡ false) ⊎ (IsNextOfThread script before entry × GivesPort entry)
+    by_bool : (t : Bool) → MatchBool t (IsDeclaration script before entry) (IsOfCaller script before entry entry.who)
+        → (is_of_thread entry.who ≡ false) ⊎ (IsNextOfThread script before entry × GivesPort entry)
     by_bool true declares = inl (ap is_of_thread declares.by ∙ maker_is_none script (length before))
     by_bool false own = by_caller entry.who refl own
 
@@ -128,7 +142,8 @@ script_steps script (entry ∷ before) own lawful = (by_bool (ltb (length before
 pub none_seated : (seat : ℕ) → 1 ≤ seat → (who : Who) → is_of_thread who ≡ false → is_seat seat who ≡ false
 none_seated seat low (Lane l) other = refl
 none_seated seat low (Feed f) other = refl
-none_seated seat low (Seat s) other = ne_eqb s seat (λ same. true≢false (ap not (sym (ne_eqb s 0 (λ first. omega (arith, low, same, first)))) ∙ other))
+none_seated seat low (Seat s) other =
+    ne_eqb s seat (λ same. true≢false (ap not (sym (ne_eqb s 0 (λ first. omega (arith, low, same, first)))) ∙ other))
 
 -- the next step is of some thread
 next_seat : (script : Lines) (before : History) (who : Who) (i : ℕ) → next_position script before who ≡ Some i → (s : ℕ) × (who ≡ Seat s)
@@ -137,7 +152,8 @@ next_seat script before who i e = cc
 
 module _ (script : Lines) (asks : AsksForPorts script) (seats : HasSeats script) where
   -- a step that gives a name asks for a port
-  next_asks : (before : History) (entry : Entry (List ℕ)) (at : ℕ) → IsNextOfThread script before entry → giver script before entry.who ≡ Some at → asks_port entry.call ≡ true
+  next_asks : (before : History) (entry : Entry (List ℕ)) (at : ℕ) → IsNextOfThread script before entry
+      → giver script before entry.who ≡ Some at → asks_port entry.call ≡ true
   next_asks before entry at n gives =
       let line = given_line script n.step at (sym (ap (option_and_then (given_by script)) n.next) ∙ gives) in
       step_asks script before n.step entry.call line.0 asks line.1 n.calls line.2
@@ -146,15 +162,21 @@ module _ (script : Lines) (asks : AsksForPorts script) (seats : HasSeats script)
   other_gives_nothing before entry by = ap (option_and_then (given_by script)) (none_other script before seats entry.who by)
 
   -- one entry more
-  pub bound_more : (before : History) (entry : Entry (List ℕ)) (at : ℕ) (g : Option ℕ) → giver script before entry.who ≡ g → binding_of script (entry ∷ before) at ≡ cond (option_map_or (λ n. eqb n at) g false) (bound_by entry.call entry.reply) (binding_of script before at)
-  bound_more before entry at g e = ap (λ t. cond t (bound_by entry.call entry.reply) (binding_of script before at)) (gives_as script before entry.who at g e)
+  pub bound_more : (before : History) (entry : Entry (List ℕ)) (at : ℕ) (g : Option ℕ) → giver script before entry.who ≡ g
+      → binding_of script (entry ∷ before) at
+      ≡ cond (option_map_or (λ n. eqb n at) g false) (bound_by entry.call entry.reply) (binding_of script before at)
+  bound_more before entry at g e =
+      ap (λ t. cond t (bound_by entry.call entry.reply) (binding_of script before at)) (gives_as script before entry.who at g e)
 
   -- the object of a name that a step gave is a port
-  pub bound_port : (history : History) (at n : ℕ) → IsOfScript script history → Lawful history → port_bound (binding_of script history at) ≡ Some n → kind_of history n ≡ Some kind.Port
+  pub bound_port : (history : History) (at n : ℕ) → IsOfScript script history → Lawful history
+      → port_bound (binding_of script history at) ≡ Some n → kind_of history n ≡ Some kind.Port
   bound_port [] at n own lawful bound = absurd (none-some n bound)
-  bound_port (entry ∷ before) at n own lawful bound = by_gives (gives_next script before entry.who at) refl bound (bound_port before at n own.1 lawful.2)
+  bound_port (entry ∷ before) at n own lawful bound =
+      by_gives (gives_next script before entry.who at) refl bound (bound_port before at n own.1 lawful.2)
     where
-      now : giver script before entry.who ≡ Some at → port_bound (bound_by entry.call entry.reply) ≡ Some n → kind_of (entry ∷ before) n ≡ Some kind.Port
+      now : giver script before entry.who ≡ Some at → port_bound (bound_by entry.call entry.reply) ≡ Some n
+          → kind_of (entry ∷ before) n ≡ Some kind.Port
       now gives is = elim (script_steps script (entry ∷ before) own lawful).0 [
         | inl first ↦ absurd (none-some at (sym (other_gives_nothing before entry first) ∙ gives))
         | inr next ↦
@@ -162,14 +184,22 @@ module _ (script : Lines) (asks : AsksForPorts script) (seats : HasSeats script)
             ap (kind_of (entry ∷ before)) (same_Some _ _ (sym is ∙ b.bound)) ∙ b.kind entry refl refl
       ]
 
-      by_gives : (t : Bool) → gives_next script before entry.who at ≡ t → port_bound (cond t (bound_by entry.call entry.reply) (binding_of script before at)) ≡ Some n → (port_bound (binding_of script before at) ≡ Some n → kind_of before n ≡ Some kind.Port) → kind_of (entry ∷ before) n ≡ Some kind.Port
+      by_gives : (t : Bool) → gives_next script before entry.who at ≡ t
+          → port_bound (cond t (bound_by entry.call entry.reply) (binding_of script before at)) ≡ Some n
+          → (port_bound (binding_of script before at) ≡ Some n → kind_of before n ≡ Some kind.Port)
+          → kind_of (entry ∷ before) n ≡ Some kind.Port
       by_gives true e is earlier_one = now (gives_that script before entry.who at e) is
       by_gives false e is earlier_one = kind_kept entry before n kind.Port (earlier_one is)
 
-  gave_more : (before : History) (entry : Entry (List ℕ)) (i seat : ℕ) (line : SourceLine) → (is_of_thread entry.who ≡ false) ⊎ (IsNextOfThread script before entry × GivesPort entry) → slice_get script.steps i ≡ Some line → is_called script seat line ≡ true → is_giving line ≡ true
-      → (earlier script seat i < performed before seat → IsSome (port_bound (binding_of script before (names_before script.declarations script.steps i)))) → earlier script seat i < performed (entry ∷ before) seat
+  gave_more : (before : History) (entry : Entry (List ℕ)) (i seat : ℕ) (line : SourceLine)
+      → (is_of_thread entry.who ≡ false) ⊎ (IsNextOfThread script before entry × GivesPort entry) → slice_get script.steps i ≡ Some line
+      → is_called script seat line ≡ true → is_giving line ≡ true
+      → (earlier script seat i < performed before seat
+      → IsSome (port_bound (binding_of script before (names_before script.declarations script.steps i))))
+      → earlier script seat i < performed (entry ∷ before) seat
       → IsSome (port_bound (binding_of script (entry ∷ before) (names_before script.declarations script.steps i)))
-  gave_more before entry i seat line either found seated gives ih done = elim either [ inl first ↦ declared first | inr next ↦ stepped next.0 next.1 ]
+  gave_more before entry i seat line either found seated gives ih done =
+      elim either [ inl first ↦ declared first | inr next ↦ stepped next.0 next.1 ]
     where
       at : ℕ
       at = names_before script.declarations script.steps i
@@ -177,8 +207,11 @@ module _ (script : Lines) (asks : AsksForPorts script) (seats : HasSeats script)
       given : given_by script i ≡ Some at
       given = given_at script i line found ∙ ap (λ t. cond t (Some at) None) gives
 
-      same : (g : Option ℕ) → giver script before entry.who ≡ g → option_map_or (λ n. eqb n at) g false ≡ false → IsSome (port_bound (binding_of script before at)) → IsSome (port_bound (binding_of script (entry ∷ before) at))
-      same g e unlike some = subst (λ b. IsSome (port_bound b)) (sym (bound_more before entry at g e ∙ ap (λ t. cond t (bound_by entry.call entry.reply) (binding_of script before at)) unlike)) some
+      same : (g : Option ℕ) → giver script before entry.who ≡ g → option_map_or (λ n. eqb n at) g false ≡ false
+          → IsSome (port_bound (binding_of script before at)) → IsSome (port_bound (binding_of script (entry ∷ before) at))
+      same g e unlike some = subst (λ b. IsSome (port_bound b))
+          (sym (bound_more before entry at g e ∙ ap (λ t. cond t (bound_by entry.call entry.reply) (binding_of script before at)) unlike))
+          some
 
       counted : (by : ℕ) → entry.who ≡ Seat by → performed (entry ∷ before) seat ≡ one_if (eqb by seat) + performed before seat
       counted by e = ap (λ w. one_if (is_seat seat w) + performed before seat) e
@@ -192,10 +225,13 @@ module _ (script : Lines) (asks : AsksForPorts script) (seats : HasSeats script)
       stepped : IsNextOfThread script before entry → GivesPort entry → IsSome (port_bound (binding_of script (entry ∷ before) at))
       stepped next gives_port = elim (cases_eq next.step i) [
         | inl here ↦
-            let gives_now : giver script before entry.who ≡ Some at = ap (option_and_then (given_by script)) next.next ∙ ap (given_by script) here ∙ given in
-            subst (λ x. IsSome (port_bound x)) (sym (bound_more before entry at (Some at) gives_now ∙ ap (λ t. cond t (bound_by entry.call entry.reply) (binding_of script before at)) (eq-eqb at at refl)))
+            let gives_now : giver script before entry.who ≡ Some at = ap (option_and_then (given_by script)) next.next
+            ∙ ap (given_by script) here ∙ given in
+            subst (λ x. IsSome (port_bound x)) (sym (bound_more before entry at (Some at) gives_now
+            ∙ ap (λ t. cond t (bound_by entry.call entry.reply) (binding_of script before at)) (eq-eqb at at refl)))
             (gives_port (next_asks before entry at next gives_now))
-        | inr other ↦ same (given_by script next.step) (ap (option_and_then (given_by script)) next.next) (not_that other) (ih (fewer other))
+        | inr other ↦
+            same (given_by script next.step) (ap (option_and_then (given_by script)) next.next) (not_that other) (ih (fewer other))
       ]
         where
           not_that : next.step ≢ i → option_map_or (λ n. eqb n at) (given_by script next.step) false ≡ false
@@ -212,9 +248,11 @@ module _ (script : Lines) (asks : AsksForPorts script) (seats : HasSeats script)
                 | inl mine ↦ elim (cases_lt (earlier script seat i) (performed before seat)) [
                   | inl lt ↦ lt
                   | inr ge ↦
-                      let equal : earlier script seat i ≡ performed before seat = omega (arith, ge, done, counted by.0 by.1, ap one_if (eq-eqb by.0 seat mine)) in
+                      let equal : earlier script seat i ≡ performed before seat =
+                      omega (arith, ge, done, counted by.0 by.1, ap one_if (eq-eqb by.0 seat mine)) in
                       let there : next_position script before (Seat seat) ≡ Some i = next_at script before seat i line found seated equal in
-                      absurd (other (same_Some _ _ (sym next.next ∙ ap (next_position script before) by.1 ∙ ap (λ s. next_position script before (Seat s)) mine ∙ there)))
+                      absurd (other (same_Some _ _ (sym next.next ∙ ap (next_position script before) by.1
+                      ∙ ap (λ s. next_position script before (Seat s)) mine ∙ there)))
                 ]
                 | inr theirs ↦
                     let test : eqb by.0 seat ≡ false = ne_eqb by.0 seat theirs in
@@ -222,7 +260,8 @@ module _ (script : Lines) (asks : AsksForPorts script) (seats : HasSeats script)
               ]
 
   -- each step that was performed and gives a name gave it a port
-  pub gave : (history : History) (i seat : ℕ) (line : SourceLine) → AreSteps script history → slice_get script.steps i ≡ Some line → is_called script seat line ≡ true → is_giving line ≡ true → earlier script seat i < performed history seat
+  pub gave : (history : History) (i seat : ℕ) (line : SourceLine) → AreSteps script history → slice_get script.steps i ≡ Some line
+      → is_called script seat line ≡ true → is_giving line ≡ true → earlier script seat i < performed history seat
       → IsSome (port_bound (binding_of script history (names_before script.declarations script.steps i)))
   gave [] i seat line steps found seated gives done = absurd (omega (arith, done))
   gave (entry ∷ before) i seat line steps found seated gives done =

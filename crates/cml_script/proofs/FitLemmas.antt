@@ -29,7 +29,8 @@ module _ (names : List Given) (at : ℕ) where
   feed_port (word, owner, found) = (word, called.Feed owner, found, refl)
 
 -- a call on an object of a kind that takes it
-pub fits_kind : (history : History) (name : Name) (k : Kind) (c : Call (List ℕ)) → kind_of history name.0 ≡ Some k → object_in c ≡ Some name → takes k c ≡ true → Fits history c
+pub fits_kind : (history : History) (name : Name) (k : Kind) (c : Call (List ℕ)) → kind_of history name.0 ≡ Some k → object_in c ≡ Some name
+    → takes k c ≡ true → Fits history c
 fits_kind history name k c is on taken = rw (on, is) (refl, taken)
 
 -- A step and the table of calls.
@@ -52,7 +53,8 @@ object_is (action.Ask ask.NewPort at) name = refl
 object_is (action.Ask ask at) name = refl
 
 -- what a call waits for doesn't depend on its message
-pub want_is : {M N : Type 0} (give : Give) (name : Name) (one : M) (other : N) → want_in (given_call give name one) ≡ want_in (given_call give name other)
+pub want_is : {M N : Type 0} (give : Give) (name : Name) (one : M) (other : N)
+    → want_in (given_call give name one) ≡ want_in (given_call give name other)
 want_is give.Send name one other = refl
 want_is give name one other = refl
 
@@ -86,7 +88,9 @@ used_taker names (action.Give give at message) uses = object_taker names (given 
 used_taker names (action.Ask ask at) uses = asked_taker names ask at uses
 
 -- and the call fits it
-pub fits_use : (names : List Given) (a : Action) (history : History) (name : Name) → UsesWell names a → ((k : Kind) → IsObjectAt names (used_by a) k → kind_of history name.0 ≡ Some k) → Fits history (call_on a name)
+pub fits_use : (names : List Given) (a : Action) (history : History) (name : Name) → UsesWell names a
+    → ((k : Kind) → IsObjectAt names (used_by a) k → kind_of history name.0 ≡ Some k) → Fits history (call_on a name)
 fits_use names a history name uses kinds =
     let taker = used_taker names a uses in
-    fits_kind history name taker.0 (call_on a name) (kinds taker.0 taker.1) (object_is a name) (ap (λ (r : Row). admits r.takers taker.0) (row_is a name) ∙ taker.2)
+    fits_kind history name taker.0 (call_on a name) (kinds taker.0 taker.1) (object_is a name)
+    (ap (λ (r : Row). admits r.takers taker.0) (row_is a name) ∙ taker.2)

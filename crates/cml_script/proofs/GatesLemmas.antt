@@ -12,6 +12,7 @@ stop_unheld refusal.JournalFull = λ is. cc
 stop_unheld r = λ is. cc
 
 -- what is played of a run that was not held tells no hold
-pub kept_unheld : (opens : Type 0) (stop : Stop) (r : Result Played Ending) → (opens → stop ≢ Held) → IfOk r (λ p. p.stop ≡ stop) → IfOk r (λ p. opens → p.stop ≢ Held)
+pub kept_unheld : (opens : Type 0) (stop : Stop) (r : Result Played Ending) → (opens → stop ≢ Held) → IfOk r (λ p. p.stop ≡ stop)
+    → IfOk r (λ p. opens → p.stop ≢ Held)
 kept_unheld opens stop (Err ended) unheld same = tt
 kept_unheld opens stop (Ok p) unheld same = λ always is. unheld always (sym same ∙ is)

@@ -1,5 +1,6 @@
 -- Which names the steps give, and which step is a thread's next.
-use Rattle.std.proofs.Common.{◌≡◌, ℕ, ◌+◌, ◌<◌, ◌≤◌, Bool, true, false, cond, eqb, ltb, List, [], ◌∷◌, length, take, slice_get, Option, Some, None, MatchBool, count_by, refl, sym, ap, subst, ◌∙◌, arith, inl, inr, zero-add}
+use Rattle.std.proofs.Common.{◌≡◌, ℕ, ◌+◌, ◌<◌, ◌≤◌, Bool, true, false, cond, eqb, ltb, List, [], ◌∷◌, length, take, slice_get, Option}
+use Rattle.std.proofs.Common.{Some, None, MatchBool, count_by, refl, sym, ap, subst, ◌∙◌, arith, inl, inr, zero-add}
 use Rattle.std.specs.Prelude.{not}
 use Rattle.std.specs.Option.{option_map_or, option_and_then}
 use Rattle.std.proofs.lemmas.Option.{cond_some}
@@ -25,7 +26,8 @@ giver script before who = option_and_then (given_by script) (next_position scrip
 
 module _ (script : Lines) where
   -- names before a giving step are fewer than names before a later step
-  pub names_mono : (i j : ℕ) (line : SourceLine) → i < j → slice_get script.steps i ≡ Some line → is_giving line ≡ true → names_before script.declarations script.steps i < names_before script.declarations script.steps j
+  pub names_mono : (i j : ℕ) (line : SourceLine) → i < j → slice_get script.steps i ≡ Some line → is_giving line ≡ true
+      → names_before script.declarations script.steps i < names_before script.declarations script.steps j
   names_mono i j line lt found gives =
       let counted = counted_mono is_giving script.steps i j line lt found gives in
       omega (arith, counted, counted_same is_giving (take i script.steps), counted_same is_giving (take j script.steps))
@@ -35,17 +37,27 @@ module _ (script : Lines) where
       let counted = taken_count is_giving script.steps i j le in
       omega (arith, counted, counted_same is_giving (take i script.steps), counted_same is_giving (take j script.steps))
 
-  pub names_more : (i : ℕ) (line : SourceLine) → slice_get script.steps i ≡ Some line → names_before script.declarations script.steps (i + 1) ≡ names_before script.declarations script.steps i + one_if (is_giving line)
+  pub names_more : (i : ℕ) (line : SourceLine) → slice_get script.steps i ≡ Some line
+      → names_before script.declarations script.steps (i + 1) ≡ names_before script.declarations script.steps i + one_if (is_giving line)
   names_more i line found =
-      omega (arith, count_taken is_giving script.steps i line found, counted_same is_giving (take i script.steps), counted_same is_giving (take (i + 1) script.steps))
+      omega (
+        arith,
+        count_taken is_giving script.steps i line found,
+        counted_same is_giving (take i script.steps),
+        counted_same is_giving (take (i + 1) script.steps),
+      )
 
-  pub given_at : (i : ℕ) (line : SourceLine) → slice_get script.steps i ≡ Some line → given_by script i ≡ cond (is_giving line) (Some (names_before script.declarations script.steps i)) None
-  given_at i line found = ap (λ (l : Option SourceLine). cond (option_map_or is_giving l false) (Some (names_before script.declarations script.steps i)) None) found
+  pub given_at : (i : ℕ) (line : SourceLine) → slice_get script.steps i ≡ Some line
+      → given_by script i ≡ cond (is_giving line) (Some (names_before script.declarations script.steps i)) None
+  given_at i line found = ap (λ (l : Option SourceLine).
+      cond (option_map_or is_giving l false) (Some (names_before script.declarations script.steps i)) None) found
 
   -- the line of a step that gives this name
-  pub given_line : (i at : ℕ) → given_by script i ≡ Some at → (line : SourceLine) × (slice_get script.steps i ≡ Some line) × (is_giving line ≡ true) × (names_before script.declarations script.steps i ≡ at)
+  pub given_line : (i at : ℕ) → given_by script i ≡ Some at → (line : SourceLine) × (slice_get script.steps i ≡ Some line)
+      × (is_giving line ≡ true) × (names_before script.declarations script.steps i ≡ at)
   given_line i at given =
-      let is = cond_some (option_map_or is_giving (slice_get script.steps i) false) (names_before script.declarations script.steps i) at given in
+      let is =
+      cond_some (option_map_or is_giving (slice_get script.steps i) false) (names_before script.declarations script.steps i) at given in
       let line = passing is_giving (slice_get script.steps i) is.0 in
       (line.0, line.1, line.2, is.1)
 
@@ -62,14 +74,18 @@ module _ (script : Lines) where
 
   module _ (history : History) where
     -- the step that is ready is its thread's next
-    pub next_is : (seat i : ℕ) (asked : Call (List ℕ)) → IsReady script history i seat asked → next_position script history (Seat seat) ≡ Some i
+    pub next_is : (seat i : ℕ) (asked : Call (List ℕ)) → IsReady script history i seat asked
+        → next_position script history (Seat seat) ≡ Some i
     next_is seat i asked ready =
-        ap (slice_get (positions_from script seat 0 script.steps)) (sym ready.next) ∙ position_of_step (is_called script seat) 0 script.steps i ready.line ready.found ready.seated ∙ ap Some (zero-add i)
+        ap (slice_get (positions_from script seat 0 script.steps)) (sym ready.next)
+        ∙ position_of_step (is_called script seat) 0 script.steps i ready.line ready.found ready.seated ∙ ap Some (zero-add i)
 
     -- a step of a thread, behind those that it performed, is its next
-    pub next_at : (seat i : ℕ) (line : SourceLine) → slice_get script.steps i ≡ Some line → is_called script seat line ≡ true → earlier script seat i ≡ performed history seat → next_position script history (Seat seat) ≡ Some i
+    pub next_at : (seat i : ℕ) (line : SourceLine) → slice_get script.steps i ≡ Some line → is_called script seat line ≡ true
+        → earlier script seat i ≡ performed history seat → next_position script history (Seat seat) ≡ Some i
     next_at seat i line found seated same =
-        ap (slice_get (positions_from script seat 0 script.steps)) (sym same) ∙ position_of_step (is_called script seat) 0 script.steps i line found seated ∙ ap Some (zero-add i)
+        ap (slice_get (positions_from script seat 0 script.steps)) (sym same)
+        ∙ position_of_step (is_called script seat) 0 script.steps i line found seated ∙ ap Some (zero-add i)
 
     -- no step is the first seat's
     pub none_first : HasSeats script → next_position script history (Seat 0) ≡ None
@@ -86,7 +102,8 @@ module _ (script : Lines) where
       | inr differs ↦ absurd (true≢false (ap not (sym (ne_eqb s 0 differs)) ∙ other))
     ]
 
-    pub gives_as : (who : Who) (at : ℕ) (g : Option ℕ) → giver script history who ≡ g → gives_next script history who at ≡ option_map_or (λ n. eqb n at) g false
+    pub gives_as : (who : Who) (at : ℕ) (g : Option ℕ) → giver script history who ≡ g
+        → gives_next script history who at ≡ option_map_or (λ n. eqb n at) g false
     gives_as who at g e = ap (λ o. option_map_or (λ n. eqb n at) o false) e
 
     -- a call that gives this name performs the step that gives it
@@ -97,9 +114,11 @@ module _ (script : Lines) where
 -- a step that is the least that is ready is its thread's next, and so what follows the schedule is the script's
 pub follows_own : (script : Lines) (history : History) → Follows script history → IsOfScript script history
 follows_own script [] follows = tt
-follows_own script (entry ∷ before) follows = (by_bool (ltb (length before) (declared_count script)) follows.0, follows_own script before follows.1)
+follows_own script (entry ∷ before) follows =
+    (by_bool (ltb (length before) (declared_count script)) follows.0, follows_own script before follows.1)
   where
-    by_bool : (t : Bool) → MatchBool t (IsDeclaration script before entry) (IsStep script before entry) → MatchBool t (IsDeclaration script before entry) (IsOfCaller script before entry entry.who)
+    by_bool : (t : Bool) → MatchBool t (IsDeclaration script before entry) (IsStep script before entry)
+        → MatchBool t (IsDeclaration script before entry) (IsOfCaller script before entry entry.who)
     by_bool true declares = declares
     by_bool false step = subst (IsOfCaller script before entry) (sym step.by) (record {
       step = step.step;

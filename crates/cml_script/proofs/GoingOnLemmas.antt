@@ -1,5 +1,6 @@
 -- A script has a schedule, and where it ends stalled each thread with steps left waits.
-use Rattle.std.proofs.Common.{◌≡◌, ℕ, zero, suc, ◌+◌, ◌<◌, ◌≤◌, ◌⊎◌, [], ◌∷◌, length, slice_get, Option, Some, None, MatchOption, refl, sym, subst, ◌∙◌, arith, inl, inr, List}
+use Rattle.std.proofs.Common.{◌≡◌, ℕ, zero, suc, ◌+◌, ◌<◌, ◌≤◌, ◌⊎◌, [], ◌∷◌, length, slice_get, Option, Some, None}
+use Rattle.std.proofs.Common.{MatchOption, refl, sym, subst, ◌∙◌, arith, inl, inr, List}
 use Rattle.std.proofs.lemmas.Option.{same_Some, none-some}
 use Rattle.std.proofs.lemmas.Bool.{cases_lt}
 use Rattle.cml_board.specs.Prelude.{Call, Reply, Entry, Lawful, Fits, answer, new_name}
@@ -33,10 +34,12 @@ module _ (script : Lines) (read : CanBeRead script) (plain : first_ring script �
       record {
         entry = entry;
         lawful = (making.fits, making.answers, lawful);
-        follows = follows_declaration script history entry lt (record { by = sym (plain_maker script plain (length history)); makes = making.next.makes }) follows;
+        follows = follows_declaration script history entry lt
+            (record { by = sym (plain_maker script plain (length history)); makes = making.next.makes }) follows;
       }
 
-  performs : (history : History) → Lawful history → Follows script history → declared_count script ≤ length history → (i : ℕ) → IsLeast script history i → GoesOn script history
+  performs : (history : History) → Lawful history → Follows script history → declared_count script ≤ length history → (i : ℕ)
+      → IsLeast script history i → GoesOn script history
   performs history lawful follows all i l = by_answer (answer history l.asked) refl
     where
       fits : Fits history l.asked
@@ -61,7 +64,8 @@ module _ (script : Lines) (read : CanBeRead script) (plain : first_ring script �
           }
 
   -- a history that follows the script ends, or goes on where there is room
-  ends_or_goes_on : (limit : ℕ) (history : History) → Lawful history → Follows script history → length history ≤ limit → ((stop : Stop) × Ends script limit history stop) ⊎ ((length history < limit) × GoesOn script history)
+  ends_or_goes_on : (limit : ℕ) (history : History) → Lawful history → Follows script history → length history ≤ limit
+      → ((stop : Stop) × Ends script limit history stop) ⊎ ((length history < limit) × GoesOn script history)
   ends_or_goes_on limit history lawful follows within = elim (cases_lt (length history) (declared_count script)) [
     | inl lt ↦ elim (cases_lt (length history) limit) [
       | inl room ↦ inr (room, declares history lawful follows lt)
@@ -76,25 +80,31 @@ module _ (script : Lines) (read : CanBeRead script) (plain : first_ring script �
     ]
   ]
     where
-      by_least : declared_count script ≤ length history → 0 < left script history → length history < limit → (o : Option ℕ) → MatchOption o (NoneReady script history) (IsLeast script history)
+      by_least : declared_count script ≤ length history → 0 < left script history → length history < limit → (o : Option ℕ)
+          → MatchOption o (NoneReady script history) (IsLeast script history)
           → ((stop : Stop) × Ends script limit history stop) ⊎ ((length history < limit) × GoesOn script history)
       by_least all more room None none = inl (Stalled, (room, all, more, none))
       by_least all more room (Some i) least = inr (room, performs history lawful follows all i least)
 
   -- with room for so many entries more
-  schedule_from : (room limit : ℕ) (history : History) → Lawful history → Follows script history → length history + room ≡ limit → (later : History) × (stop : Stop) × Schedule script limit later stop
+  schedule_from : (room limit : ℕ) (history : History) → Lawful history → Follows script history → length history + room ≡ limit
+      → (later : History) × (stop : Stop) × Schedule script limit later stop
   schedule_from zero limit history lawful follows all = elim (ends_or_goes_on limit history lawful follows (omega (arith, all))) [
-    | inl (stop, ends) ↦ (history, stop, record { plain = plain; lawful = lawful; room = omega (arith, all); follows = follows; ends = ends })
+    | inl (stop, ends) ↦
+        (history, stop, record { plain = plain; lawful = lawful; room = omega (arith, all); follows = follows; ends = ends })
     | inr (less, on) ↦ absurd (omega (arith, less, all))
   ]
   schedule_from (suc room) limit history lawful follows all = elim (ends_or_goes_on limit history lawful follows (omega (arith, all))) [
-    | inl (stop, ends) ↦ (history, stop, record { plain = plain; lawful = lawful; room = omega (arith, all); follows = follows; ends = ends })
+    | inl (stop, ends) ↦
+        (history, stop, record { plain = plain; lawful = lawful; room = omega (arith, all); follows = follows; ends = ends })
     | inr (less, on) ↦ schedule_from room limit (on.entry ∷ history) on.lawful on.follows (omega (arith, all))
   ]
 
-  waits_at_next : (limit : ℕ) (history : History) (seat : ℕ) → Schedule script limit history Stalled → performed history seat < steps_of_seat script seat → WaitsAtNext script history seat
+  waits_at_next : (limit : ℕ) (history : History) (seat : ℕ) → Schedule script limit history Stalled
+      → performed history seat < steps_of_seat script seat → WaitsAtNext script history seat
   waits_at_next limit history seat s behind =
-      let next = stands (positions_from script seat 0 script.steps) (performed history seat) (omega (arith, behind, positions_count (is_called script seat) 0 script.steps, plain_count script plain seat script.steps)) in
+      let next = stands (positions_from script seat 0 script.steps) (performed history seat)
+      (omega (arith, behind, positions_count (is_called script seat) 0 script.steps, plain_count script plain seat script.steps)) in
       let c = next_call script read plain history s.lawful s.follows seat next.0 s.ends.1 next.1 in
       record {
         step = next.0;
@@ -105,7 +115,9 @@ module _ (script : Lines) (read : CanBeRead script) (plain : first_ring script �
         waits = by_answer next.0 c.asked (answer history c.asked) next.1 c.calls refl;
       }
     where
-      by_answer : (i : ℕ) (call : Call (List ℕ)) (r : Option (Reply (List ℕ))) → slice_get (positions_from script seat 0 script.steps) (performed history seat) ≡ Some i → step_call script history i ≡ Some call → answer history call ≡ r → answer history call ≡ None
+      by_answer : (i : ℕ) (call : Call (List ℕ)) (r : Option (Reply (List ℕ)))
+          → slice_get (positions_from script seat 0 script.steps) (performed history seat) ≡ Some i → step_call script history i ≡ Some call
+          → answer history call ≡ r → answer history call ≡ None
       by_answer i call None next calls e = e
       by_answer i call (Some r) next calls e =
           let ready = ready_there script history seat i call next calls (λ none. none-some r (sym none ∙ e)) in

@@ -1,5 +1,6 @@
 -- The declared objects are the first that are made, each of its kind.
-use Rattle.std.proofs.Common.{◌≡◌, ℕ, ◌+◌, ◌<◌, ◌≤◌, ◌⊎◌, Bool, true, false, cond, ltb, List, [], ◌∷◌, ◌++◌, length, take, filter, slice_get, Option, Some, None, MatchBool, refl, sym, ap, subst, ◌∙◌, arith, inl, inr}
+use Rattle.std.proofs.Common.{◌≡◌, ℕ, ◌+◌, ◌<◌, ◌≤◌, ◌⊎◌, Bool, true, false, cond, ltb, List, [], ◌∷◌, ◌++◌, length, take, filter}
+use Rattle.std.proofs.Common.{slice_get, Option, Some, None, MatchBool, refl, sym, ap, subst, ◌∙◌, arith, inl, inr}
 use Rattle.std.specs.Option.{option_map, option_map_or, option_and_then}
 use Rattle.std.proofs.lemmas.Option.{same_Some, none-some, slice_get_within}
 use Rattle.std.proofs.lemmas.List.{length_push, length-append}
@@ -25,23 +26,28 @@ pub record MakesOne (before : History) (entry : Entry (List ℕ)) (k : Option Ki
   pub made : if_made entry.reply (begun_by (made before) before entry.call) ≡ origin ∷ []
   pub kind : Some (kind_by origin) ≡ k
 
-makes_begun : (before : History) (entry : Entry (List ℕ)) (c : Call (List ℕ)) (origin : Origin) → Some c ≡ Some entry.call → begun_by (made before) before c ≡ origin ∷ [] → answer before c ≡ Some (new_name before) → answer before entry.call ≡ Some entry.reply
+makes_begun : (before : History) (entry : Entry (List ℕ)) (c : Call (List ℕ)) (origin : Origin) → Some c ≡ Some entry.call
+    → begun_by (made before) before c ≡ origin ∷ [] → answer before c ≡ Some (new_name before) → answer before entry.call ≡ Some entry.reply
     → MakesOne before entry (Some (kind_by origin))
 makes_begun before entry c origin is begun new answers =
     let same = same_Some _ _ is in
     let reply : new_name before ≡ entry.reply = same_Some _ _ (sym new ∙ ap (answer before) same ∙ answers) in
     record {
       origin = origin;
-      made = ap (λ r. if_made r (begun_by (made before) before entry.call)) (sym reply) ∙ ap (begun_by (made before) before) (sym same) ∙ begun;
+      made = ap (λ r. if_made r (begun_by (made before) before entry.call)) (sym reply)
+          ∙ ap (begun_by (made before) before) (sym same) ∙ begun;
       kind = refl;
     }
 
-makes_port : (before : History) (entry : Entry (List ℕ)) (source : Option ℕ) → option_map (λ n. call.NewPort (record { 0 = n })) source ≡ Some entry.call → answer before entry.call ≡ Some entry.reply → MakesOne before entry (Some kind.Port)
+makes_port : (before : History) (entry : Entry (List ℕ)) (source : Option ℕ) → option_map (λ n. call.NewPort (record { 0 = n })) source
+    ≡ Some entry.call → answer before entry.call ≡ Some entry.reply → MakesOne before entry (Some kind.Port)
 makes_port before entry None none answers = absurd (none-some entry.call none)
-makes_port before entry (Some n) some answers = makes_begun before entry (call.NewPort (record { 0 = n })) (port n (length (sent before n))) some refl refl answers
+makes_port before entry (Some n) some answers =
+    makes_begun before entry (call.NewPort (record { 0 = n })) (port n (length (sent before n))) some refl refl answers
 
 -- a declared object is of its kind
-makes_one : (before : History) (entry : Entry (List ℕ)) (object : ℕ → Option ℕ) (m : Makes) → making_call object m ≡ Some entry.call → answer before entry.call ≡ Some entry.reply → MakesOne before entry (kind_made m)
+makes_one : (before : History) (entry : Entry (List ℕ)) (object : ℕ → Option ℕ) (m : Makes) → making_call object m ≡ Some entry.call
+    → answer before entry.call ≡ Some entry.reply → MakesOne before entry (kind_made m)
 makes_one before entry object makes.Thread e answers = absurd (none-some entry.call e)
 makes_one before entry object makes.Mailbox e answers = makes_begun before entry call.NewMailbox mailbox e refl refl answers
 makes_one before entry object makes.Channel e answers = makes_begun before entry call.NewChannel channel e refl refl answers
@@ -51,12 +57,14 @@ makes_one before entry object (makes.MVarInit message) e answers = makes_begun b
 makes_one before entry object (makes.Port source) e answers = makes_port before entry (object source) e answers
 makes_one before entry object (makes.Feed feed) e answers = makes_port before entry (object feed.channel) e answers
 
-declared_one : (script : Lines) (before : History) (entry : Entry (List ℕ)) (line : Option SourceLine) → option_and_then (call_in script before) line ≡ Some entry.call → answer before entry.call ≡ Some entry.reply
+declared_one : (script : Lines) (before : History) (entry : Entry (List ℕ)) (line : Option SourceLine)
+    → option_and_then (call_in script before) line ≡ Some entry.call → answer before entry.call ≡ Some entry.reply
     → MakesOne before entry (option_and_then (kind_declared script) line)
 declared_one script before entry None e answers = absurd (none-some entry.call e)
 declared_one script before entry (Some line) e answers = by_makes (makes_of (names_of script) line.words) e
   where
-    by_makes : (m : Option Makes) → option_and_then (making_call (declared_object script before)) m ≡ Some entry.call → MakesOne before entry (option_and_then kind_made m)
+    by_makes : (m : Option Makes) → option_and_then (making_call (declared_object script before)) m ≡ Some entry.call
+        → MakesOne before entry (option_and_then kind_made m)
     by_makes None none = absurd (none-some entry.call none)
     by_makes (Some m) some = makes_one before entry (declared_object script before) m some answers
 
@@ -73,12 +81,15 @@ kind_kept : (before : History) (entry : Entry (List ℕ)) (k : ℕ) → k < leng
 kind_kept before entry k lt =
     ap (option_map kind_by) (slice_get-append_within (made before) (if_made entry.reply (begun_by (made before) before entry.call)) k lt)
 
-declared_next : (script : Lines) (before : History) (entry : Entry (List ℕ)) → length before < declared_count script → IsDeclaration script before entry → answer before entry.call ≡ Some entry.reply → MakesDeclared script before → MakesDeclared script (entry ∷ before)
+declared_next : (script : Lines) (before : History) (entry : Entry (List ℕ)) → length before < declared_count script
+    → IsDeclaration script before entry → answer before entry.call ≡ Some entry.reply → MakesDeclared script before
+    → MakesDeclared script (entry ∷ before)
 declared_next script before entry within declares answers m =
     let one = declared_one script before entry (slice_get (objects_of script) (length before)) declares.makes answers in
     let all : length (made before) ≡ length before = m.short (omega arith) in
     let last : slice_get (made (entry ∷ before)) (length before) ≡ Some one.origin =
-    ap (λ os. slice_get (made before ++ os) (length before)) one.made ∙ slice_get_pushed (made before) one.origin (length before) (omega (arith, all)) in
+    ap (λ os. slice_get (made before ++ os) (length before)) one.made
+    ∙ slice_get_pushed (made before) one.origin (length before) (omega (arith, all)) in
     record {
       short = λ _. ap (λ os. length (made before ++ os)) one.made ∙ length_push (made before) one.origin ∙ omega (arith, all);
       each = λ k lt low. elim (cases_lt k (length before)) [
@@ -89,14 +100,16 @@ declared_next script before entry within declares answers m =
       ];
     }
 
-kept_next : (script : Lines) (before : History) (entry : Entry (List ℕ)) → declared_count script ≤ length before → declared_count script ≤ length (made before) → MakesDeclared script before → MakesDeclared script (entry ∷ before)
+kept_next : (script : Lines) (before : History) (entry : Entry (List ℕ)) → declared_count script ≤ length before
+    → declared_count script ≤ length (made before) → MakesDeclared script before → MakesDeclared script (entry ∷ before)
 kept_next script before entry declared many m = record {
   short = λ le. absurd (omega (arith, le));
   each = λ k lt low. kind_kept before entry k (omega arith) ∙ m.each k (omega arith) low;
 }
 
 -- as many are made as are declared, at least
-many_made : (script : Lines) (history : History) → IsOfScript script history → Lawful history → length history ≤ length (made history) ⊎ declared_count script ≤ length (made history)
+many_made : (script : Lines) (history : History) → IsOfScript script history → Lawful history
+    → length history ≤ length (made history) ⊎ declared_count script ≤ length (made history)
 many_made script [] own lawful = inl (omega arith)
 many_made script (entry ∷ before) own lawful = elim (many_made script before own.1 lawful.2) [
   | inr many ↦ inr (omega (arith, many, length-append (made before) (if_made entry.reply (begun_by (made before) before entry.call))))
@@ -106,7 +119,12 @@ many_made script (entry ∷ before) own lawful = elim (many_made script before o
         let test : ltb (length before) (declared_count script) ≡ true = lt-ltb (length before) (declared_count script) lt in
         let declares = subst (λ t. MatchBool t (IsDeclaration script before entry) (IsOfCaller script before entry entry.who)) test own.0 in
         let one = declared_one script before entry (slice_get (objects_of script) (length before)) declares.makes lawful.1 in
-        inl (omega (arith, few, length-append (made before) (if_made entry.reply (begun_by (made before) before entry.call)), ap length one.made))
+        inl (omega (
+          arith,
+          few,
+          length-append (made before) (if_made entry.reply (begun_by (made before) before entry.call)),
+          ap length one.made,
+        ))
   ]
 ]
 
@@ -117,12 +135,16 @@ makes_declared script (entry ∷ before) own lawful =
     elim (cases_lt (length before) (declared_count script)) [
       | inl lt ↦
           let test : ltb (length before) (declared_count script) ≡ true = lt-ltb (length before) (declared_count script) lt in
-          declared_next script before entry lt (subst (λ t. MatchBool t (IsDeclaration script before entry) (IsOfCaller script before entry entry.who)) test own.0) lawful.1 earlier
-      | inr ge ↦ kept_next script before entry ge (elim (many_made script before own.1 lawful.2) [ inl few ↦ omega (arith, few) | inr many ↦ many ]) earlier
+          declared_next script before entry lt
+          (subst (λ t. MatchBool t (IsDeclaration script before entry) (IsOfCaller script before entry entry.who)) test own.0) lawful.1
+          earlier
+      | inr ge ↦ kept_next script before entry ge
+          (elim (many_made script before own.1 lawful.2) [ inl few ↦ omega (arith, few) | inr many ↦ many ]) earlier
     ]
 
 -- fewer objects are declared before an object's declaration than in all
-pub counted_below : (p : SourceLine → Bool) (xs : List SourceLine) (i : ℕ) (x : SourceLine) → slice_get xs i ≡ Some x → p x ≡ true → how_many p (take i xs) < how_many p xs
+pub counted_below : (p : SourceLine → Bool) (xs : List SourceLine) (i : ℕ) (x : SourceLine) → slice_get xs i ≡ Some x → p x ≡ true
+    → how_many p (take i xs) < how_many p xs
 counted_below p xs i x found passes =
     let before = counted_mono p xs i (length xs) x (slice_get_within xs i x found) found passes in
     omega (arith, before, taken_all p xs (length xs))
@@ -131,7 +153,10 @@ pub length_filter : (p : SourceLine → Bool) (xs : List SourceLine) → length 
 length_filter p [] = refl
 length_filter p (x ∷ xs) =
     let ih = length_filter p xs in
-    elim (p x) as (λ t. length (cond t (x ∷ filter p xs) (filter p xs)) ≡ one_if t + how_many p xs) [ true ↦ omega (arith, ih) | false ↦ omega (arith, ih) ]
+    elim (p x) as (λ t. length (cond t (x ∷ filter p xs) (filter p xs)) ≡ one_if t + how_many p xs) [
+      | true ↦ omega (arith, ih)
+      | false ↦ omega (arith, ih)
+    ]
 
 -- what makes an object has a kind
 object_kind : (m : Option Makes) (k : Kind) → option_and_then kind_made m ≡ Some k → option_map_or makes_object m false ≡ true
@@ -143,19 +168,23 @@ pub kind_object : (script : Lines) (line : SourceLine) (k : Kind) → kind_decla
 kind_object script line k e = object_kind (makes_of (names_of script) line.words) k e
 
 -- an object that was made is its name's object
-pub object_made : (script : Lines) (history : History) (at : ℕ) → how_many (is_object script) (take at script.declarations) < length history → declared_object script history at ≡ Some (how_many (is_object script) (take at script.declarations))
+pub object_made : (script : Lines) (history : History) (at : ℕ) → how_many (is_object script) (take at script.declarations) < length history
+    → declared_object script history at ≡ Some (how_many (is_object script) (take at script.declarations))
 object_made script history at lt =
     let test : ltb (how_many (is_object script) (take at script.declarations)) (length history) ≡ true = lt-ltb _ _ lt in
     rw test refl
 
 -- once all declared objects are made, each name has its object
-pub declared_made : (script : Lines) (history : History) (at : ℕ) (line : SourceLine) (k : Kind) → declared_count script ≤ length history → slice_get script.declarations at ≡ Some line → kind_declared script line ≡ Some k
+pub declared_made : (script : Lines) (history : History) (at : ℕ) (line : SourceLine) (k : Kind) → declared_count script ≤ length history
+    → slice_get script.declarations at ≡ Some line → kind_declared script line ≡ Some k
     → how_many (is_object script) (take at script.declarations) < length history
 declared_made script history at line k declared found kinded =
     omega (arith, counted_below (is_object script) script.declarations at line found (kind_object script line k kinded))
 
-pub object_kind_is : (script : Lines) (history : History) (at : ℕ) (line : SourceLine) (k : Kind) → IsOfScript script history → Lawful history → how_many (is_object script) (take at script.declarations) < length history
-    → slice_get script.declarations at ≡ Some line → kind_declared script line ≡ Some k → kind_of history (how_many (is_object script) (take at script.declarations)) ≡ Some k
+pub object_kind_is : (script : Lines) (history : History) (at : ℕ) (line : SourceLine) (k : Kind) → IsOfScript script history
+    → Lawful history → how_many (is_object script) (take at script.declarations) < length history
+    → slice_get script.declarations at ≡ Some line → kind_declared script line ≡ Some k
+    → kind_of history (how_many (is_object script) (take at script.declarations)) ≡ Some k
 object_kind_is script history at line k own lawful made found kinded =
     let object = kind_object script line k kinded in
     let low = counted_below (is_object script) script.declarations at line found object in
@@ -163,14 +192,17 @@ object_kind_is script history at line k own lawful made found kinded =
     ∙ ap (option_and_then (kind_declared script)) (filter_at (is_object script) script.declarations at line found object) ∙ kinded
 
 -- what a declaration makes is the next object, where those before it are made
-pub next_object : (play : Play) (names : NamesObjects play.script) (i : ℕ) (d : Declaration) → length play.history ≡ how_many (is_object play.script) (take i play.script.declarations)
-    → slice_get play.script.declarations i ≡ Some (source_of d.line) → ReadsDeclaration (names_of play.script) d → IsMadeWell (names_of play.script) i d.makes → IsNext play d.makes
+pub next_object : (play : Play) (names : NamesObjects play.script) (i : ℕ) (d : Declaration)
+    → length play.history ≡ how_many (is_object play.script) (take i play.script.declarations)
+    → slice_get play.script.declarations i ≡ Some (source_of d.line) → ReadsDeclaration (names_of play.script) d
+    → IsMadeWell (names_of play.script) i d.makes → IsNext play d.makes
 next_object play names i d made found reads uses = by_makes d.makes refl uses
   where
     line : SourceLine
     line = source_of d.line
 
-    next : (m : Makes) (c : Call (List ℕ)) → d.makes ≡ m → makes_object m ≡ true → making_call (declared_object play.script play.history) m ≡ Some c → IsNextObject play c
+    next : (m : Makes) (c : Call (List ℕ)) → d.makes ≡ m → makes_object m ≡ true
+        → making_call (declared_object play.script play.history) m ≡ Some c → IsNextObject play c
     next m c e object making =
         let makes : makes_of (names_of play.script) line.words ≡ Some m = reads.makes ∙ ap Some e in
         let is : is_object play.script line ≡ true = ap (λ o. option_map_or makes_object o false) makes ∙ object in
@@ -183,18 +215,27 @@ next_object play names i d made found reads uses = by_makes d.makes refl uses
               ∙ ap (option_and_then (making_call (declared_object play.script play.history))) makes ∙ making;
         }
 
-    port_next : (source : ℕ) (m : Makes) → d.makes ≡ m → makes_object m ≡ true → making_call (declared_object play.script play.history) m ≡ option_map (λ n. call.NewPort (record { 0 = n })) (declared_object play.script play.history source)
+    port_next : (source : ℕ) (m : Makes) → d.makes ≡ m → makes_object m ≡ true → making_call (declared_object play.script play.history) m
+        ≡ option_map (λ n. call.NewPort (record { 0 = n })) (declared_object play.script play.history source)
         → IsChannelAt (names_of play.script) source → source < i → IsNextPort play source
     port_next source m e object making is_channel earlier =
-        let within : source < length play.script.declarations = omega (arith, earlier, slice_get_within play.script.declarations i line found) in
+        let within : source < length play.script.declarations =
+        omega (arith, earlier, slice_get_within play.script.declarations i line found) in
         let given = names source kind.Channel within (is_channel.0, called.Channel, is_channel.1, refl) in
-        let below = counted_mono (is_object play.script) play.script.declarations source i given.0 earlier given.1 (kind_object play.script given.0 kind.Channel given.2) in
+        let below = counted_mono (is_object play.script) play.script.declarations source i given.0 earlier given.1
+        (kind_object play.script given.0 kind.Channel given.2) in
         let there = object_made play.script play.history source (omega (arith, below, made)) in
-        let o : ℕ = how_many (is_object play.script) (take source play.script.declarations) in
-        (is_channel, within, o, there, next m (call.NewPort (record { 0 = o })) e object (making ∙ ap (option_map (λ n. call.NewPort (record { 0 = n }))) there))
+        let o : ℕ = how_many (is_object play.script) (take source play.script.declarations) in (
+          is_channel,
+          within,
+          o,
+          there,
+          next m (call.NewPort (record { 0 = o })) e object (making ∙ ap (option_map (λ n. call.NewPort (record { 0 = n }))) there),
+        )
 
     by_makes : (m : Makes) → d.makes ≡ m → IsMadeWell (names_of play.script) i m → IsNext play m
     by_makes makes.Thread e uses = tt
     by_makes (makes.Port source) e (is_channel, earlier) = port_next source (makes.Port source) e refl refl is_channel earlier
-    by_makes (makes.Feed feed) e (is_channel, earlier, seat, capacity) = port_next feed.channel (makes.Feed feed) e refl refl is_channel earlier
+    by_makes (makes.Feed feed) e (is_channel, earlier, seat, capacity) =
+        port_next feed.channel (makes.Feed feed) e refl refl is_channel earlier
     by_makes m e uses = next m _ e refl refl

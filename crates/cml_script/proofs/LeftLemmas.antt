@@ -12,7 +12,8 @@ use Rattle.cml_script.proofs.LineLemmas.{called_seated, has_seats}
 
 module _ (script : Lines) where
   -- the entries behind the declared objects are threads' steps
-  calls_are : HasSeats script → (history : History) → Follows script history → how_many is_step_entry history ≡ length history - declared_count script
+  calls_are : HasSeats script → (history : History) → Follows script history
+      → how_many is_step_entry history ≡ length history - declared_count script
   calls_are seats [] follows = omega arith
   calls_are seats (entry ∷ before) follows = elim (cases_lt (length before) (declared_count script)) [
     | inl lt ↦
@@ -20,7 +21,8 @@ module _ (script : Lines) where
         omega (arith, lt, none, calls_are seats before follows.1)
     | inr ge ↦
         let step = steps script before entry follows ge in
-        let low = (seats step.step step.ready.line step.seat step.ready.found (called_seated script step.seat step.ready.line step.ready.seated)).0 in
+        let low =
+        (seats step.step step.ready.line step.seat step.ready.found (called_seated script step.seat step.ready.line step.ready.seated)).0 in
         let one = ap one_if (ap is_of_thread step.by ∙ ap not (ne_eqb step.seat 0 (λ e. omega (arith, low, e)))) in
         omega (arith, ge, one, calls_are seats before follows.1)
   ]

@@ -1,5 +1,6 @@
 -- What the lines of a script were read as.
-use Rattle.std.proofs.Common.{◌≡◌, ℕ, zero, suc, ◌+◌, ◌<◌, ◌≤◌, Bool, true, false, ◌&&◌, eqb, [], ◌∷◌, arith, List, length, map, take, get_or, slice_get, Option, Some, None, cond, refl, sym, ap, subst, ◌∙◌}
+use Rattle.std.proofs.Common.{◌≡◌, ℕ, zero, suc, ◌+◌, ◌<◌, ◌≤◌, Bool, true, false, ◌&&◌, eqb, [], ◌∷◌, arith, List, length, map}
+use Rattle.std.proofs.Common.{take, get_or, slice_get, Option, Some, None, cond, refl, sym, ap, subst, ◌∙◌}
 use Rattle.std.specs.Prelude.{All, not}
 use Rattle.std.specs.Option.{option_and_then, option_map_or}
 use Rattle.std.specs.Bool.{then_some}
@@ -27,13 +28,17 @@ all_at P xs i x all found =
     subst P (get_or_from_slice_get xs i x x found) (All-get_or P xs i x (slice_get_within xs i x found) all)
 
 -- a declaration or a step that a loop is at: its line, and what it is read as
-pub declaration_read : (script : Lines) (items : List Declaration) (i : ℕ) (d : Declaration) → map (λ x. source_of x.line) items ≡ script.declarations → All (ReadsDeclaration (names_of script)) items → i < length items → d ≡ get_or items i d
+pub declaration_read : (script : Lines) (items : List Declaration) (i : ℕ) (d : Declaration) → map (λ x. source_of x.line) items
+    ≡ script.declarations → All (ReadsDeclaration (names_of script)) items → i < length items → d ≡ get_or items i d
     → (slice_get script.declarations i ≡ Some (source_of d.line)) × ReadsDeclaration (names_of script) d
 declaration_read script items i d lines reads within is =
-    let here = read_at items i d within is in
-    (mapped_at (λ x. source_of x.line) items script.declarations i d lines here, all_at (ReadsDeclaration (names_of script)) items i d reads here)
+    let here = read_at items i d within is in (
+      mapped_at (λ x. source_of x.line) items script.declarations i d lines here,
+      all_at (ReadsDeclaration (names_of script)) items i d reads here,
+    )
 
-pub step_read : (script : Lines) (items : List Step) (i : ℕ) (s : Step) → map (λ x. source_of x.line) items ≡ script.steps → All (ReadsStep (names_of script)) items → i < length items → s ≡ get_or items i s
+pub step_read : (script : Lines) (items : List Step) (i : ℕ) (s : Step) → map (λ x. source_of x.line) items ≡ script.steps
+    → All (ReadsStep (names_of script)) items → i < length items → s ≡ get_or items i s
     → (slice_get script.steps i ≡ Some (source_of s.line)) × ReadsStep (names_of script) s
 step_read script items i s lines reads within is =
     let here = read_at items i s within is in
@@ -43,7 +48,8 @@ pub and_true : (t : Bool) → (t && true) ≡ t
 and_true true = refl
 and_true false = refl
 
-pub declaration_feed : (script : Lines) (d : Declaration) → ReadsDeclaration (names_of script) d → is_feed script (source_of d.line) ≡ makes_feed d.makes
+pub declaration_feed : (script : Lines) (d : Declaration) → ReadsDeclaration (names_of script) d
+    → is_feed script (source_of d.line) ≡ makes_feed d.makes
 declaration_feed script d reads = ap (λ o. option_map_or makes_feed o false) reads.makes
 
 -- a feed's port is an object
@@ -54,25 +60,30 @@ feed_object script line = by_makes (makes_of (names_of script) line.words)
     by_makes (Some (makes.Feed feed)) e = refl
     by_makes m e = cc
 
-pub declaration_object : (script : Lines) (d : Declaration) → ReadsDeclaration (names_of script) d → is_object script (source_of d.line) ≡ makes_object d.makes
+pub declaration_object : (script : Lines) (d : Declaration) → ReadsDeclaration (names_of script) d
+    → is_object script (source_of d.line) ≡ makes_object d.makes
 declaration_object script d reads = ap (λ o. option_map_or makes_object o false) reads.makes
 
 -- the thread of a step
-pub step_seated : (script : Lines) (s : Step) (seat : ℕ) → ReadsStep (names_of script) s → is_seated script seat (source_of s.line) ≡ eqb s.seat seat
+pub step_seated : (script : Lines) (s : Step) (seat : ℕ) → ReadsStep (names_of script) s
+    → is_seated script seat (source_of s.line) ≡ eqb s.seat seat
 step_seated script s seat reads = ap (λ o. option_map_or (λ t. eqb t seat) o false) reads.seat
 
 -- and how it goes
-pub step_route : (script : Lines) (s : Step) → ReadsStep (names_of script) s → route_of_line script (source_of s.line) ≡ route_of script (Some s.seat) s.action
+pub step_route : (script : Lines) (s : Step) → ReadsStep (names_of script) s
+    → route_of_line script (source_of s.line) ≡ route_of script (Some s.seat) s.action
 step_route script s reads =
     ap (λ o. option_map_or (route_of script o) (action_of (names_of script) (source_of s.line).words) route.Seat) reads.seat
     ∙ ap (λ o. option_map_or (route_of script (Some s.seat)) o route.Seat) reads.action
 
-pub step_called : (script : Lines) (s : Step) (seat : ℕ) → ReadsStep (names_of script) s → is_by_ring (route_of script (Some s.seat) s.action) ≡ false → is_called script seat (source_of s.line) ≡ eqb s.seat seat
+pub step_called : (script : Lines) (s : Step) (seat : ℕ) → ReadsStep (names_of script) s
+    → is_by_ring (route_of script (Some s.seat) s.action) ≡ false → is_called script seat (source_of s.line) ≡ eqb s.seat seat
 step_called script s seat reads apart =
     ap (λ t. is_seated script seat (source_of s.line) && not t) (ap is_by_ring (step_route script s reads) ∙ apart)
     ∙ and_true (is_seated script seat (source_of s.line)) ∙ step_seated script s seat reads
 
-pub step_apart : (script : Lines) (s : Step) (seat : ℕ) → ReadsStep (names_of script) s → is_by_ring (route_of script (Some s.seat) s.action) ≡ true → is_called script seat (source_of s.line) ≡ false
+pub step_apart : (script : Lines) (s : Step) (seat : ℕ) → ReadsStep (names_of script) s
+    → is_by_ring (route_of script (Some s.seat) s.action) ≡ true → is_called script seat (source_of s.line) ≡ false
 step_apart script s seat reads apart =
     ap (λ t. is_seated script seat (source_of s.line) && not t) (ap is_by_ring (step_route script s reads) ∙ apart)
     ∙ and_right (is_seated script seat (source_of s.line)) false refl
@@ -82,7 +93,8 @@ pub called_seated : (script : Lines) (seat : ℕ) (line : SourceLine) → is_cal
 called_seated script seat line called = (and_parts (is_seated script seat line) (not (is_apart script line)) called).0
 
 -- a step that gives a name is performed by its thread's seat
-pub giving_called : (script : Lines) (i seat : ℕ) (line : SourceLine) → AsksForPorts script → slice_get script.steps i ≡ Some line → is_giving line ≡ true → is_seated script seat line ≡ true → is_called script seat line ≡ true
+pub giving_called : (script : Lines) (i seat : ℕ) (line : SourceLine) → AsksForPorts script → slice_get script.steps i ≡ Some line
+    → is_giving line ≡ true → is_seated script seat line ≡ true → is_called script seat line ≡ true
 giving_called script i seat line asks found gives seated =
     ap (λ t. t && not (is_apart script line)) seated ∙ ap not (by_action (action_of (names_of script) line.words) refl)
   where
@@ -96,7 +108,8 @@ giving_called script i seat line asks found gives seated =
 
     by_action : (o : Option Action) → action_of (names_of script) line.words ≡ o → is_apart script line ≡ false
     by_action None e = ap (λ o. is_by_ring (option_map_or (route_of script seat_of) o route.Seat)) e
-    by_action (Some a) e = ap (λ o. is_by_ring (option_map_or (route_of script seat_of) o route.Seat)) e ∙ not_apart a (asks i line a found e ∙ gives)
+    by_action (Some a) e = ap (λ o. is_by_ring (option_map_or (route_of script seat_of) o route.Seat)) e
+        ∙ not_apart a (asks i line a found e ∙ gives)
 
 -- there is an element at each place of a list
 pub stands : {X : Type 0} (xs : List X) (i : ℕ) → i < length xs → (x : X) × (slice_get xs i ≡ Some x)
@@ -111,7 +124,8 @@ none_within (x ∷ xs) zero none = cc
 none_within (x ∷ xs) (suc i) none = let ih = none_within xs i none in omega (arith, ih)
 
 -- an object's name is given by the declaration of such an object
-gives_kind : (names : List Given) (at : ℕ) (k : Kind) (d : Declaration) → IsObjectAt names at k → Gives names at d → kind_made d.makes ≡ Some k
+gives_kind : (names : List Given) (at : ℕ) (k : Kind) (d : Declaration) → IsObjectAt names at k
+    → Gives names at d → kind_made d.makes ≡ Some k
 gives_kind names at k d (word, n, found, kinded) gives = by_makes d.makes gives.2
   where
     same : (m : Named) → slice_get names at ≡ Some (gives.0, m) → kind_named m ≡ Some k
@@ -127,36 +141,45 @@ gives_kind names at k d (word, n, found, kinded) gives = by_makes d.makes gives.
     by_makes makes.Thread g = same (called.Thread g.0) g.1
     by_makes (makes.Feed f) g = same (called.Feed f.seat) g
 
-pub names_objects : (script : Lines) (items : List Declaration) → map (λ d. source_of d.line) items ≡ script.declarations → GivesNames (names_of script) items → All (ReadsDeclaration (names_of script)) items → NamesObjects script
+pub names_objects : (script : Lines) (items : List Declaration) → map (λ d. source_of d.line) items ≡ script.declarations
+    → GivesNames (names_of script) items → All (ReadsDeclaration (names_of script)) items → NamesObjects script
 names_objects script items lines gives reads = λ at k declared object.
     let within : at < length items = omega (arith, declared, ap length lines, length-map items (λ (d : Declaration). source_of d.line)) in
     let there = stands items at within in
     let d = there.0 in (
       source_of d.line,
       mapped_at (λ x. source_of x.line) items script.declarations at d lines there.1,
-      ap (option_and_then kind_made) (all_at (ReadsDeclaration (names_of script)) items at d reads there.1).makes ∙ gives_kind (names_of script) at k d object (gives.each at d there.1),
+      ap (option_and_then kind_made) (all_at (ReadsDeclaration (names_of script)) items at d reads there.1).makes
+          ∙ gives_kind (names_of script) at k d object (gives.each at d there.1),
     )
 
 -- just the steps that ask for a port give a name
 pub step_gives : (script : Lines) (s : Step) → ReadsStep (names_of script) s → gives_name s.action ≡ is_giving (source_of s.line)
 step_gives script s reads = reads.gives
 
-pub asks_for_ports : (script : Lines) (items : List Step) → map (λ s. source_of s.line) items ≡ script.steps → All (ReadsStep (names_of script)) items → AsksForPorts script
+pub asks_for_ports : (script : Lines) (items : List Step) → map (λ s. source_of s.line) items ≡ script.steps
+    → All (ReadsStep (names_of script)) items → AsksForPorts script
 asks_for_ports script items lines reads = λ i line asked found asks.
-    let within : i < length items = omega (arith, slice_get_within script.steps i line found, ap length lines, length-map items (λ (s : Step). source_of s.line)) in
+    let within : i < length items =
+    omega (arith, slice_get_within script.steps i line found, ap length lines, length-map items (λ (s : Step). source_of s.line)) in
     let there = stands items i within in
     let s = there.0 in
-    let same : source_of s.line ≡ line = same_Some _ _ (sym (mapped_at (λ x. source_of x.line) items script.steps i s lines there.1) ∙ found) in
+    let same : source_of s.line ≡ line =
+    same_Some _ _ (sym (mapped_at (λ x. source_of x.line) items script.steps i s lines there.1) ∙ found) in
     let read = all_at (ReadsStep (names_of script)) items i s reads there.1 in
-    let one : s.action ≡ asked = same_Some _ _ (sym read.action ∙ ap (λ (l : SourceLine). action_of (names_of script) l.words) same ∙ asks) in
+    let one : s.action ≡ asked =
+    same_Some _ _ (sym read.action ∙ ap (λ (l : SourceLine). action_of (names_of script) l.words) same ∙ asks) in
     ap gives_name (sym one) ∙ step_gives script s read ∙ ap is_giving same
 
-pub has_seats : (script : Lines) (items : List Step) → map (λ s. source_of s.line) items ≡ script.steps → All (ReadsStep (names_of script)) items → thread_count (names_of script) ≤ 64 → HasSeats script
+pub has_seats : (script : Lines) (items : List Step) → map (λ s. source_of s.line) items ≡ script.steps
+    → All (ReadsStep (names_of script)) items → thread_count (names_of script) ≤ 64 → HasSeats script
 has_seats script items lines reads few = λ i line seat found seated.
-    let within : i < length items = omega (arith, slice_get_within script.steps i line found, ap length lines, length-map items (λ s. source_of s.line)) in
+    let within : i < length items =
+    omega (arith, slice_get_within script.steps i line found, ap length lines, length-map items (λ s. source_of s.line)) in
     let there = stands items i within in
     let s = there.0 in
-    let same : source_of s.line ≡ line = same_Some _ _ (sym (mapped_at (λ x. source_of x.line) items script.steps i s lines there.1) ∙ found) in
+    let same : source_of s.line ≡ line =
+    same_Some _ _ (sym (mapped_at (λ x. source_of x.line) items script.steps i s lines there.1) ∙ found) in
     let read = all_at (ReadsStep (names_of script)) items i s reads there.1 in
     let here : s.seat ≡ seat = eqb-true s.seat seat (sym (step_seated script s seat read) ∙ ap (is_seated script seat) same ∙ seated) in
     let bounds = read.seated in
@@ -171,12 +194,14 @@ one_le true = omega arith
 one_le false = omega arith
 
 -- a count goes on by the byte of a test
-pub byte_more : (n all byte k : ℕ) (t b : Bool) → all ≡ n + one_if b → byte ≡ bool_byte t → t ≡ b → n ≤ k → (n + byte ≡ all) × (n + byte ≤ k + 1)
+pub byte_more : (n all byte k : ℕ) (t b : Bool) → all ≡ n + one_if b → byte ≡ bool_byte t → t ≡ b → n ≤ k
+    → (n + byte ≡ all) × (n + byte ≤ k + 1)
 byte_more n all byte k t b more is same few =
     let one : byte ≡ one_if b = is ∙ ap bool_byte same ∙ byte_one b in
     (omega (arith, more, one), omega (arith, one, one_le b, few))
 
-pub counted_more : {X : Type 0} (p : X → Bool) (xs : List X) (i n byte : ℕ) (x : X) (t : Bool) → slice_get xs i ≡ Some x → n ≡ how_many p (take i xs) → n ≤ i → byte ≡ bool_byte t → t ≡ p x
+pub counted_more : {X : Type 0} (p : X → Bool) (xs : List X) (i n byte : ℕ) (x : X) (t : Bool) → slice_get xs i ≡ Some x
+    → n ≡ how_many p (take i xs) → n ≤ i → byte ≡ bool_byte t → t ≡ p x
     → (n + byte ≡ how_many p (take (i + 1) xs)) × (n + byte ≤ i + 1)
 counted_more p xs i n byte x t found so_far few is same =
     byte_more n (how_many p (take (i + 1) xs)) byte i t (p x) (omega (arith, count_taken p xs i x found, so_far)) is same few

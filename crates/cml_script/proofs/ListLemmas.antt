@@ -1,5 +1,7 @@
 -- The element at a place, and what is counted, filtered and taken up to it.
-use Rattle.std.proofs.Common.{◌≡◌, ◌⊎◌, slice_set, ℕ, zero, suc, ◌+◌, ◌<◌, ◌≤◌, inl, inr, Bool, true, false, cond, List, [], ◌∷◌, ◌++◌, length, get_or, one-add, zero-add, take, take_all, map, filter, slice_get, Option, Some, None, IfSome, refl, sym, ap, ◌∙◌, arith, add-one}
+use Rattle.std.proofs.Common.{◌≡◌, ◌⊎◌, slice_set, ℕ, zero, suc, ◌+◌, ◌<◌, ◌≤◌, inl, inr, Bool, true, false, cond, List, []}
+use Rattle.std.proofs.Common.{◌∷◌, ◌++◌, length, get_or, one-add, zero-add, take, take_all, map, filter, slice_get, Option}
+use Rattle.std.proofs.Common.{Some, None, IfSome, refl, sym, ap, ◌∙◌, arith, add-one}
 use Rattle.std.specs.Option.{option_map, option_map_or}
 use Rattle.std.proofs.lemmas.Option.{same_Some, none-some, slice_get-map, slice_get_read}
 use Rattle.std.proofs.lemmas.List.{length_push}
@@ -21,14 +23,19 @@ module _ {X : Type 0} where
 
   pub how_many-le : (p : X → Bool) (xs : List X) → how_many p xs ≤ length xs
   how_many-le p [] = omega arith
-  how_many-le p (x ∷ xs) = elim (p x) as (λ t. one_if t + how_many p xs ≤ suc (length xs)) [ true ↦ omega (arith, how_many-le p xs) | false ↦ omega (arith, how_many-le p xs) ]
+  how_many-le p (x ∷ xs) = elim (p x) as (λ t. one_if t + how_many p xs ≤ suc (length xs)) [
+    | true ↦ omega (arith, how_many-le p xs)
+    | false ↦ omega (arith, how_many-le p xs)
+  ]
 
-  pub count_taken : (p : X → Bool) (xs : List X) (i : ℕ) (x : X) → slice_get xs i ≡ Some x → how_many p (take (i + 1) xs) ≡ how_many p (take i xs) + one_if (p x)
+  pub count_taken : (p : X → Bool) (xs : List X) (i : ℕ) (x : X) → slice_get xs i ≡ Some x
+      → how_many p (take (i + 1) xs) ≡ how_many p (take i xs) + one_if (p x)
   count_taken p xs i x found =
       ap (how_many p) (taken_more xs i x found) ∙ how_many-append p (take i xs) (x ∷ []) ∙ omega arith
 
   -- fewer pass before an element that passes than before a later one
-  pub counted_mono : (p : X → Bool) (xs : List X) (i j : ℕ) (x : X) → i < j → slice_get xs i ≡ Some x → p x ≡ true → how_many p (take i xs) < how_many p (take j xs)
+  pub counted_mono : (p : X → Bool) (xs : List X) (i j : ℕ) (x : X) → i < j → slice_get xs i ≡ Some x → p x ≡ true
+      → how_many p (take i xs) < how_many p (take j xs)
   counted_mono p [] i j x lt found passes = absurd (none-some x found)
   counted_mono p (y ∷ ys) zero zero x lt found passes = absurd (omega arith)
   counted_mono p (y ∷ ys) zero (suc j) x lt found passes =
@@ -53,7 +60,8 @@ module _ {X : Type 0} where
       omega (arith, le, all)
 
   -- an item that passes is, among all that pass, behind those that passed before it
-  pub filter_at : (p : X → Bool) (xs : List X) (i : ℕ) (x : X) → slice_get xs i ≡ Some x → p x ≡ true → slice_get (filter p xs) (how_many p (take i xs)) ≡ Some x
+  pub filter_at : (p : X → Bool) (xs : List X) (i : ℕ) (x : X) → slice_get xs i ≡ Some x → p x ≡ true
+      → slice_get (filter p xs) (how_many p (take i xs)) ≡ Some x
   filter_at p [] i x found passes = absurd (none-some x found)
   filter_at p (y ∷ ys) zero x found passes =
       let same = same_Some y x found in
@@ -75,7 +83,8 @@ module _ {X : Type 0} where
   set_at (x ∷ xs) (suc i) y lt = set_at xs i y (omega arith)
 
   -- a value at each place, and one more
-  pub each_pushed : (f : ℕ → X) (xs : List X) (y : X) → ((k : ℕ) → k < length xs → slice_get xs k ≡ Some (f k)) → y ≡ f (length xs) → (k : ℕ) → k < length (xs ++ y ∷ []) → slice_get (xs ++ y ∷ []) k ≡ Some (f k)
+  pub each_pushed : (f : ℕ → X) (xs : List X) (y : X) → ((k : ℕ) → k < length xs → slice_get xs k ≡ Some (f k)) → y ≡ f (length xs)
+      → (k : ℕ) → k < length (xs ++ y ∷ []) → slice_get (xs ++ y ∷ []) k ≡ Some (f k)
   each_pushed f xs y each last k within = elim (cases_lt k (length xs)) [
     | inl lt ↦ slice_get-append_within xs (y ∷ []) k lt ∙ each k lt
     | inr ge ↦
@@ -95,7 +104,8 @@ module _ {X : Type 0} where
   read_at xs i x within read = slice_get_read xs (length xs) i x refl within read
 
 module _ {X Y : Type 0} where
-  pub mapped_at : (f : X → Y) (xs : List X) (ys : List Y) (i : ℕ) (x : X) → map f xs ≡ ys → slice_get xs i ≡ Some x → slice_get ys i ≡ Some (f x)
+  pub mapped_at : (f : X → Y) (xs : List X) (ys : List Y) (i : ℕ) (x : X) → map f xs ≡ ys
+      → slice_get xs i ≡ Some x → slice_get ys i ≡ Some (f x)
   mapped_at f xs ys i x e found = ap (λ l. slice_get l i) (sym e) ∙ slice_get-map f xs i ∙ ap (option_map f) found
 
 -- Options.
@@ -116,6 +126,7 @@ module _ {X : Type 0} where
   passing p (Some x) e = (x, refl, e)
 
   -- what is told, if anything, goes on like this
-  pub told_more : (told : X) (adds : X → X) (made later : Option X) → IfSome made (λ tells. tells ≡ told) → later ≡ option_map adds made → IfSome later (λ tells. tells ≡ adds told)
+  pub told_more : (told : X) (adds : X → X) (made later : Option X) → IfSome made (λ tells. tells ≡ told) → later ≡ option_map adds made
+      → IfSome later (λ tells. tells ≡ adds told)
   told_more told adds None later is more = rw more tt
   told_more told adds (Some tells) later is more = rw more (ap adds is)

@@ -1,5 +1,6 @@
 -- What lanes moved, beside what threads sent by them.
-use Rattle.std.proofs.Common.{◌≡◌, ℕ, zero, suc, ◌+◌, ◌≤◌, Bool, true, false, ◌&&◌, ◌||◌, eqb, cond, List, [], ◌∷◌, ◌++◌, length, take, drop, reverse, slice_get, Option, Some, refl, sym, ap, subst, ◌∙◌, append_assoc, inl, inr, arith}
+use Rattle.std.proofs.Common.{◌≡◌, ℕ, zero, suc, ◌+◌, ◌≤◌, Bool, true, false, ◌&&◌, ◌||◌, eqb, cond, List, [], ◌∷◌, ◌++◌, length, take}
+use Rattle.std.proofs.Common.{drop, reverse, slice_get, Option, Some, refl, sym, ap, subst, ◌∙◌, append_assoc, inl, inr, arith}
 use Rattle.std.specs.Prelude.{◌≢◌, ◌↔◌, IsTrue, MatchOption}
 use Rattle.std.specs.Bool.{then_some}
 use Rattle.std.specs.Option.{option_map, option_map_or, option_and_then}
@@ -47,10 +48,12 @@ module _ (script : Lines) (seat at : ℕ) where
       ap (sends_to script seat at) (drop_here script.steps i line found) ∙ ap (λ t. cond t (call_to script at line ∷ rest) rest) other
 
   pub laid_to_is : (s : Step) → ReadsStep (names_of script) s
-      → is_laid_to script seat at (source_of s.line) ≡ (eqb s.seat seat && (is_by_lane (route_of script (Some s.seat) s.action) && eqb (used_by s.action) at))
+      → is_laid_to script seat at (source_of s.line)
+      ≡ (eqb s.seat seat && (is_by_lane (route_of script (Some s.seat) s.action) && eqb (used_by s.action) at))
   laid_to_is s reads =
       let line = source_of s.line in
-      let named : is_of_name script at line ≡ eqb (used_by s.action) at = ap (λ o. option_map_or (λ a. eqb (used_by a) at) o false) reads.action in
+      let named : is_of_name script at line ≡ eqb (used_by s.action) at =
+      ap (λ o. option_map_or (λ a. eqb (used_by a) at) o false) reads.action in
       ap (λ t. t && (is_laid script line && is_of_name script at line)) (step_seated script s seat reads)
       ∙ ap (λ r. eqb s.seat seat && (is_by_lane r && is_of_name script at line)) (step_route script s reads)
       ∙ ap (λ t. eqb s.seat seat && (is_by_lane (route_of script (Some s.seat) s.action) && t)) named
@@ -67,29 +70,40 @@ module _ (script : Lines) (seat at : ℕ) where
 
     pub sent_other : (option_and_then (call_to script at) (slice_get script.steps i) ≡ Some asked → ⊥) → IsNotSent script seat at from asked
     sent_other other rest e =
-        other (ap (option_and_then (call_to script at)) laid.found ∙ same_head (call_to script at laid.line) (Some asked) _ _ (sym laid.more ∙ e))
+        other (ap (option_and_then (call_to script at)) laid.found
+        ∙ same_head (call_to script at laid.line) (Some asked) _ _ (sym laid.more ∙ e))
 
-    pub sent_if : (t : Bool) (r : Option ℕ) → r ≡ then_some t (i + 1) → IsTrue t ↔ (option_and_then (call_to script at) (slice_get script.steps i) ≡ Some asked)
+    pub sent_if : (t : Bool) (r : Option ℕ) → r ≡ then_some t (i + 1)
+        → IsTrue t ↔ (option_and_then (call_to script at) (slice_get script.steps i) ≡ Some asked)
         → MatchOption r (IsNotSent script seat at from asked) (IsSent script seat at from asked)
-    sent_if true r is has = subst (λ o. MatchOption o (IsNotSent script seat at from asked) (IsSent script seat at from asked)) (sym is) (sent_next (has.0 refl))
-    sent_if false r is has = subst (λ o. MatchOption o (IsNotSent script seat at from asked) (IsSent script seat at from asked)) (sym is) (sent_other (λ e. absurd (false≢true (has.1 e))))
+    sent_if true r is has = subst (λ o. MatchOption o (IsNotSent script seat at from asked) (IsSent script seat at from asked)) (sym is)
+        (sent_next (has.0 refl))
+    sent_if false r is has = subst (λ o. MatchOption o (IsNotSent script seat at from asked) (IsSent script seat at from asked)) (sym is)
+        (sent_other (λ e. absurd (false≢true (has.1 e))))
 
-  pub none_sent : (from : ℕ) (asked : Call (List ℕ)) → sends_to script seat at (drop from script.steps) ≡ [] → IsNotSent script seat at from asked
+  pub none_sent : (from : ℕ) (asked : Call (List ℕ)) → sends_to script seat at (drop from script.steps) ≡ []
+      → IsNotSent script seat at from asked
   none_sent from asked none rest e = absurd (none-some (Some asked) (ap (λ l. slice_get l 0) (sym none ∙ e)))
 
-  pub call_is : (s : Step) → ReadsStep (names_of script) s → call_to script at (source_of s.line) ≡ Some (call_on s.action (record { 0 = number_of script at }))
+  pub call_is : (s : Step) → ReadsStep (names_of script) s
+      → call_to script at (source_of s.line) ≡ Some (call_on s.action (record { 0 = number_of script at }))
   call_is s reads = ap (option_map (λ a. call_on a (record { 0 = number_of script at }))) reads.action
 
 -- What lanes move.
 
 module _ (lanes : List ℕ) (seat object : ℕ) where
-  pub moved_one : (entry : Entry (List ℕ)) (past : History) → is_moved_to lanes seat object entry ≡ true → moved_to lanes seat object (entry ∷ past) ≡ moved_to lanes seat object past ++ Some entry.call ∷ []
-  moved_one entry past moved = ap (λ t. cond t (moved_to lanes seat object past ++ Some entry.call ∷ []) (moved_to lanes seat object past)) moved
+  pub moved_one : (entry : Entry (List ℕ)) (past : History) → is_moved_to lanes seat object entry ≡ true
+      → moved_to lanes seat object (entry ∷ past) ≡ moved_to lanes seat object past ++ Some entry.call ∷ []
+  moved_one entry past moved =
+      ap (λ t. cond t (moved_to lanes seat object past ++ Some entry.call ∷ []) (moved_to lanes seat object past)) moved
 
-  pub moved_none : (entry : Entry (List ℕ)) (past : History) → is_moved_to lanes seat object entry ≡ false → moved_to lanes seat object (entry ∷ past) ≡ moved_to lanes seat object past
-  moved_none entry past other = ap (λ t. cond t (moved_to lanes seat object past ++ Some entry.call ∷ []) (moved_to lanes seat object past)) other
+  pub moved_none : (entry : Entry (List ℕ)) (past : History) → is_moved_to lanes seat object entry ≡ false
+      → moved_to lanes seat object (entry ∷ past) ≡ moved_to lanes seat object past
+  moved_none entry past other =
+      ap (λ t. cond t (moved_to lanes seat object past ++ Some entry.call ∷ []) (moved_to lanes seat object past)) other
 
-  moved_behind : (later past : History) → moved_to lanes seat object (later ++ past) ≡ moved_to lanes seat object past ++ moved_to lanes seat object later
+  moved_behind : (later past : History)
+      → moved_to lanes seat object (later ++ past) ≡ moved_to lanes seat object past ++ moved_to lanes seat object later
   moved_behind [] past = sym (append-nil (moved_to lanes seat object past))
   moved_behind (entry ∷ later) past =
       let ih = moved_behind later past in
@@ -108,7 +122,8 @@ whole_journal journal k = ap reverse (sym (take-append-drop k journal)) ∙ reve
 module _ (script : Lines) (lanes : List ℕ) (seat at : ℕ) (journal : List (Entry (List ℕ))) where
   -- so far lanes moved what the thread sent before this step
   abbrev pub IsSoFar : ℕ → ℕ → Type 0
-  IsSoFar k from = moved_to lanes seat (number_of script at) (before journal k) ++ sends_to script seat at (drop from script.steps) ≡ sends_to script seat at script.steps
+  IsSoFar k from = moved_to lanes seat (number_of script at) (before journal k) ++ sends_to script seat at (drop from script.steps)
+      ≡ sends_to script seat at script.steps
 
   pub so_far_all : (k from : ℕ) → length journal ≤ k → IsSoFar k from → IsInOrder script lanes (reverse journal) seat at
   so_far_all k from all so_far =
@@ -118,18 +133,21 @@ module _ (script : Lines) (lanes : List ℕ) (seat at : ℕ) (journal : List (En
   module _ (k from : ℕ) (entry : Entry (List ℕ)) (found : slice_get journal k ≡ Some entry) (so_far : IsSoFar k from) where
     -- a message that the thread sends next
     pub moved_next : (next : ℕ) → is_moved_to lanes seat (number_of script at) entry ≡ true
-        → sends_to script seat at (drop from script.steps) ≡ Some entry.call ∷ sends_to script seat at (drop next script.steps) → IsSoFar (k + 1) next
+        → sends_to script seat at (drop from script.steps) ≡ Some entry.call ∷ sends_to script seat at (drop next script.steps)
+        → IsSoFar (k + 1) next
     moved_next next moved more =
         let past = moved_to lanes seat (number_of script at) (before journal k) in
         let rest = sends_to script seat at (drop next script.steps) in
         let one : List (Option (Call (List ℕ))) = Some entry.call ∷ [] in
-        ap (λ l. l ++ rest) (ap (moved_to lanes seat (number_of script at)) (before_more journal k entry found) ∙ moved_one lanes seat (number_of script at) entry (before journal k) moved)
+        ap (λ l. l ++ rest) (ap (moved_to lanes seat (number_of script at)) (before_more journal k entry found)
+        ∙ moved_one lanes seat (number_of script at) entry (before journal k) moved)
         ∙ append_assoc past one rest ∙ ap (λ l. past ++ l) (sym more) ∙ so_far
 
     -- an entry that is none of those
     pub moved_other : is_moved_to lanes seat (number_of script at) entry ≡ false → IsSoFar (k + 1) from
     moved_other other =
-        ap (λ l. l ++ sends_to script seat at (drop from script.steps)) (ap (moved_to lanes seat (number_of script at)) (before_more journal k entry found) ∙ moved_none lanes seat (number_of script at) entry (before journal k) other) ∙ so_far
+        ap (λ l. l ++ sends_to script seat at (drop from script.steps)) (ap (moved_to lanes seat (number_of script at))
+        (before_more journal k entry found) ∙ moved_none lanes seat (number_of script at) entry (before journal k) other) ∙ so_far
 
     -- what comes behind an entry that may come
     pub so_far_more : (next : ℕ) → IsBehind script lanes seat at from entry next → IsSoFar (k + 1) next
@@ -150,35 +168,43 @@ module _ (script : Lines) (lanes : List ℕ) (seat at : ℕ) (journal : List (En
         let more = moved_to lanes seat object later in
         let whole : moved_to lanes seat object (reverse journal) ≡ (past ++ one) ++ more =
         ap (moved_to lanes seat object) (whole_journal journal (k + 1) ∙ ap (λ b. later ++ b) (before_more journal k entry found))
-        ∙ moved_behind lanes seat object later (entry ∷ before journal k) ∙ ap (λ l. l ++ more) (moved_one lanes seat object entry (before journal k) moved) in
+        ∙ moved_behind lanes seat object later (entry ∷ before journal k)
+        ∙ ap (λ l. l ++ more) (moved_one lanes seat object entry (before journal k) moved) in
         let same : past ++ sends_to script seat at (drop from script.steps) ≡ past ++ (Some entry.call ∷ (more ++ order.0)) =
-        so_far ∙ sym order.1 ∙ ap (λ l. l ++ order.0) whole ∙ append_assoc (past ++ one) more order.0 ∙ append_assoc past one (more ++ order.0) in
+        so_far ∙ sym order.1 ∙ ap (λ l. l ++ order.0) whole ∙ append_assoc (past ++ one) more order.0
+        ∙ append_assoc past one (more ++ order.0) in
         other (more ++ order.0) (append_cancel_left past _ _ same)
 
 -- the thread and the object of a lane line
 pub moved_on_is : (script : Lines) (lanes : List ℕ) (entry : Entry (List ℕ)) (lane : Lane) → ReadsLane (names_of script) lane
     → is_moved_on script lanes entry (source_of lane.line) ≡ is_moved_to lanes lane.seat (number_of script lane.target) entry
-moved_on_is script lanes entry lane reads = ap (λ o. option_map_or (λ (laid : (ℕ × ℕ) × ℕ). is_moved_to lanes laid.0.0 (number_of script laid.0.1) entry) o false) reads.says
+moved_on_is script lanes entry lane reads =
+    ap (λ o. option_map_or (λ (laid : (ℕ × ℕ) × ℕ). is_moved_to lanes laid.0.0 (number_of script laid.0.1) entry) o false) reads.says
 
-pub none_more : (p : SourceLine → Bool) (xs : List SourceLine) (i : ℕ) (x : SourceLine) → slice_get xs i ≡ Some x → list_any p (take i xs) ≡ false → p x ≡ false → list_any p (take (i + 1) xs) ≡ false
+pub none_more : (p : SourceLine → Bool) (xs : List SourceLine) (i : ℕ) (x : SourceLine) → slice_get xs i ≡ Some x
+    → list_any p (take i xs) ≡ false → p x ≡ false → list_any p (take (i + 1) xs) ≡ false
 none_more p xs i x found none fails =
     ap (list_any p) (taken_more xs i x found) ∙ any_pushed p (take i xs) x ∙ ap (λ t. t || p x) none ∙ fails
 
 -- the entries on lane lines before the last ones are so too
-on_lines_before : (script : Lines) (lanes : List ℕ) (later past : History) → AreOnLines script lanes (later ++ past) → AreOnLines script lanes past
+on_lines_before : (script : Lines) (lanes : List ℕ) (later past : History)
+    → AreOnLines script lanes (later ++ past) → AreOnLines script lanes past
 on_lines_before script lanes [] past all = all
 on_lines_before script lanes (entry ∷ later) past all = on_lines_before script lanes later past all.1
 
-pub on_line_at : (script : Lines) (lanes : List ℕ) (journal : List (Entry (List ℕ))) (k : ℕ) (entry : Entry (List ℕ)) → slice_get journal k ≡ Some entry → AreOnLines script lanes (reverse journal) → IsOnLine script lanes entry
+pub on_line_at : (script : Lines) (lanes : List ℕ) (journal : List (Entry (List ℕ))) (k : ℕ) (entry : Entry (List ℕ))
+    → slice_get journal k ≡ Some entry → AreOnLines script lanes (reverse journal) → IsOnLine script lanes entry
 on_line_at script lanes journal k entry found all =
     let whole = whole_journal journal (k + 1) ∙ ap (λ b. reverse (drop (k + 1) journal) ++ b) (before_more journal k entry found) in
     (on_lines_before script lanes (reverse (drop (k + 1) journal)) (entry ∷ before journal k) (subst (AreOnLines script lanes) whole all)).0
 
 -- the order on a lane line is that of its thread and its object
-module _ (script : Lines) (lanes : List ℕ) (history : History) (k : ℕ) (lane : Lane) (found : slice_get script.lanes k ≡ Some (source_of lane.line)) (reads : ReadsLane (names_of script) lane) where
+module _ (script : Lines) (lanes : List ℕ) (history : History) (k : ℕ) (lane : Lane)
+    (found : slice_get script.lanes k ≡ Some (source_of lane.line)) (reads : ReadsLane (names_of script) lane) where
   pub order_at : IsInOrder script lanes history lane.seat lane.target → IsInOrderAt script lanes history k
   order_at order line laid there says =
-      let e : laid ≡ ((lane.seat, lane.target), lane.capacity) = same_Some _ _ (sym says ∙ ap (λ (l : SourceLine). lane_of (names_of script) l.words) (same_Some _ _ (sym there ∙ found)) ∙ reads.says) in
+      let e : laid ≡ ((lane.seat, lane.target), lane.capacity) = same_Some _ _
+      (sym says ∙ ap (λ (l : SourceLine). lane_of (names_of script) l.words) (same_Some _ _ (sym there ∙ found)) ∙ reads.says) in
       subst (λ (x : Laid). IsInOrder script lanes history x.0.0 x.0.1) (sym e) order
 
   pub order_of : IsInOrderAt script lanes history k → IsInOrder script lanes history lane.seat lane.target

@@ -1,6 +1,7 @@
 -- What comes next of a script that was read: the call of each thread's next step is there and fits, and so is that of
 -- the next declared object.
-use Rattle.std.proofs.Common.{◌≡◌, ℕ, zero, suc, ◌+◌, ◌<◌, ◌≤◌, ◌^◌, List, length, slice_get, true, Option, Some, None, MatchOption, refl, sym, ap, subst, ◌∙◌, arith}
+use Rattle.std.proofs.Common.{◌≡◌, ℕ, zero, suc, ◌+◌, ◌<◌, ◌≤◌, ◌^◌, List, length, slice_get, true, Option, Some, None}
+use Rattle.std.proofs.Common.{MatchOption, refl, sym, ap, subst, ◌∙◌, arith}
 use Rattle.std.proofs.lemmas.Option.{same_Some, none-some, slice_get_within}
 use Rattle.std.proofs.lemmas.List.{length-map}
 use Rattle.std.proofs.lemmas.Bool.{false≢true}
@@ -52,7 +53,8 @@ pub record IsMaking (play : Play) : Type 0 where
 abbrev Candidate : Lines → History → ℕ → Type 0
 Candidate script history seat = (o : Option ℕ) × MatchOption o (NoneReadyOf script history seat) (λ i. IsReadyOf script history seat i)
 
-module _ (script : Lines) (read : CanBeRead script) (plain : first_ring script ≡ None) (history : History) (lawful : Lawful history) (follows : Follows script history) where
+module _ (script : Lines) (read : CanBeRead script) (plain : first_ring script ≡ None) (history : History) (lawful : Lawful history)
+    (follows : Follows script history) where
   -- the limit isn't looked at, and is as high as a stage's may be
   abbrev play : Play
   play = record { script = script; history = history; limit = 2 ^ 32 }
@@ -60,7 +62,8 @@ module _ (script : Lines) (read : CanBeRead script) (plain : first_ring script �
   counts : (xs : List ℕ) × (length xs ≡ 64) × ((k : ℕ) → k < length xs → slice_get xs k ≡ Some (performed history (k + 1)))
   counts = listed (λ thread. performed history (thread + 1)) 64
 
-  bindings : (xs : List Binding) × (length xs ≡ length (names_of script)) × ((k : ℕ) → k < length xs → slice_get xs k ≡ Some (binding_of script history k))
+  bindings : (xs : List Binding) × (length xs ≡ length (names_of script))
+      × ((k : ℕ) → k < length xs → slice_get xs k ≡ Some (binding_of script history k))
   bindings = listed (binding_of script history) (length (names_of script))
 
   -- so many entries can't be more than there are lines
@@ -92,24 +95,28 @@ module _ (script : Lines) (read : CanBeRead script) (plain : first_ring script �
 
   -- Steps.
 
-  pub next_call : (seat i : ℕ) → declared_count script ≤ length history → next_position script history (Seat seat) ≡ Some i → IsCall script history i
+  pub next_call : (seat i : ℕ) → declared_count script ≤ length history
+      → next_position script history (Seat seat) ≡ Some i → IsCall script history i
   next_call seat i all next =
       let within = queued_within script history seat i next in
-      let there = stands read.steps i (omega (arith, within, ap length read.asked, length-map read.steps (λ (x : Step). source_of x.line))) in
+      let there =
+      stands read.steps i (omega (arith, within, ap length read.asked, length-map read.steps (λ (x : Step). source_of x.line))) in
       let s = there.0 in
       let uses = (all_at (ReadsStep (names_of script)) read.steps i s read.reading.steps there.1).uses in
       let bound = used_is_bound all_stands read.steps i seat s read.asked read.reading.steps read.reading.earlier there.1 next all in
       let name : Name = record { 0 = bound.object } in
       record {
         asked = call_on s.action name;
-        calls = step_calls script history read.steps i (used_by s.action) s (Some name) read.asked read.reading.steps there.1 refl (sym (ap named bound.stands));
+        calls = step_calls script history read.steps i (used_by s.action) s
+            (Some name) read.asked read.reading.steps there.1 refl (sym (ap named bound.stands));
         fits = fits_use (names_of script) s.action history name uses bound.kind;
       }
 
   candidate : declared_count script ≤ length history → (seat : ℕ) → Candidate script history seat
   candidate all seat = by_next (next_position script history (Seat seat)) refl
     where
-      by_answer : (i : ℕ) (c : Call (List ℕ)) (r : Option (Reply (List ℕ))) → next_position script history (Seat seat) ≡ Some i → step_call script history i ≡ Some c → answer history c ≡ r → Candidate script history seat
+      by_answer : (i : ℕ) (c : Call (List ℕ)) (r : Option (Reply (List ℕ))) → next_position script history (Seat seat) ≡ Some i
+          → step_call script history i ≡ Some c → answer history c ≡ r → Candidate script history seat
       by_answer i c None next calls e = (None, waits_there script history seat i c next calls e)
       by_answer i c (Some r) next calls e = (Some i, ready_there script history seat i c next calls (λ none. none-some r (sym none ∙ e)))
 
@@ -122,11 +129,15 @@ module _ (script : Lines) (read : CanBeRead script) (plain : first_ring script �
   least_below all (suc n) =
       let below = least_below all n in
       let next = candidate all (n + 1) in
-      let same : n + 1 ≡ suc n = omega arith in
-      (earlier_of below.0 next.0, subst (λ m. IsLeastBelow script history m (earlier_of below.0 next.0)) same (least_more script history n below.0 next.0 below.1 next.1))
+      let same : n + 1 ≡ suc n = omega arith in (
+        earlier_of below.0 next.0,
+        subst (λ m. IsLeastBelow script history m (earlier_of below.0 next.0)) same
+            (least_more script history n below.0 next.0 below.1 next.1),
+      )
 
   -- a step is the least that is ready, or none is
-  pub least_ready : declared_count script ≤ length history → (o : Option ℕ) × MatchOption o (NoneReady script history) (IsLeast script history)
+  pub least_ready : declared_count script ≤ length history
+      → (o : Option ℕ) × MatchOption o (NoneReady script history) (IsLeast script history)
   least_ready all =
       let least = least_below all 64 in
       (least.0, least_of_all script history (known script read).seats least.0 least.1)
@@ -135,14 +146,23 @@ module _ (script : Lines) (read : CanBeRead script) (plain : first_ring script �
 
   pub next_making : length history < declared_count script → IsMaking play
   next_making lt =
-      let place = stands (positions_where (is_object script) 0 script.declarations) (length history) (omega (arith, lt, positions_count (is_object script) 0 script.declarations)) in
+      let place = stands (positions_where (is_object script) 0 script.declarations) (length history)
+      (omega (arith, lt, positions_count (is_object script) 0 script.declarations)) in
       let there = position_is (is_object script) 0 script.declarations (length history) place.0 place.1 in
-      let given = stands read.declarations there.place (omega (arith, slice_get_within script.declarations there.place there.line there.found, ap length read.declared, length-map read.declarations (λ (x : Declaration). source_of x.line))) in
+      let given = stands read.declarations there.place (omega (
+        arith,
+        slice_get_within script.declarations there.place there.line there.found,
+        ap length read.declared,
+        length-map read.declarations (λ (x : Declaration). source_of x.line),
+      )) in
       let d = given.0 in
-      let line = mapped_at (λ (x : Declaration). source_of x.line) read.declarations script.declarations there.place d read.declared given.1 in
+      let line =
+      mapped_at (λ (x : Declaration). source_of x.line) read.declarations script.declarations there.place d read.declared given.1 in
       let reads = all_at (ReadsDeclaration (names_of script)) read.declarations there.place d read.reading.declarations given.1 in
-      let object = sym (declaration_object script d reads) ∙ ap (is_object script) (same_Some _ _ (sym line ∙ there.found)) ∙ there.seated in
-      by_makes d.makes object (next_object play (known script read).named there.place d (sym there.behind) line reads (read.reading.gives.made there.place d given.1))
+      let object = sym (declaration_object script d reads)
+      ∙ ap (is_object script) (same_Some _ _ (sym line ∙ there.found)) ∙ there.seated in
+      by_makes d.makes object (next_object play (known script read).named there.place d (sym there.behind) line reads
+      (read.reading.gives.made there.place d given.1))
     where
       by_port : (channel : ℕ) → IsNextPort play channel → IsMaking play
       by_port channel (is_channel, within, o, object, next) =
@@ -150,7 +170,9 @@ module _ (script : Lines) (read : CanBeRead script) (plain : first_ring script �
           record {
             asked = call.NewPort name;
             next = next;
-            fits = fits_kind history name kind.Channel (call.NewPort name) (declared_kind script history all_stands.known.named channel o kind.Channel (follows_own script history all_stands.follows) all_stands.lawful within object (channel_at (names_of script) channel is_channel)) refl refl;
+            fits = fits_kind history name kind.Channel (call.NewPort name)
+                (declared_kind script history all_stands.known.named channel o kind.Channel (follows_own script history all_stands.follows)
+                all_stands.lawful within object (channel_at (names_of script) channel is_channel)) refl refl;
             answers = refl;
           }
 

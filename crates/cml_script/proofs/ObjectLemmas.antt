@@ -1,5 +1,6 @@
 -- Who makes the declared objects, where they are declared, and to which lanes lead.
-use Rattle.std.proofs.Common.{◌≡◌, ℕ, zero, suc, ◌+◌, ◌<◌, ◌≤◌, ◌||◌, Bool, true, false, cond, eqb, List, [], ◌∷◌, ◌++◌, length, take, filter, slice_get, slice_set, Option, Some, refl, sym, ap, ◌∙◌, arith, inl, inr, one-add, zero-add}
+use Rattle.std.proofs.Common.{◌≡◌, ℕ, zero, suc, ◌+◌, ◌<◌, ◌≤◌, ◌||◌, Bool, true, false, cond, eqb, List, [], ◌∷◌, ◌++◌, length, take}
+use Rattle.std.proofs.Common.{filter, slice_get, slice_set, Option, Some, refl, sym, ap, ◌∙◌, arith, inl, inr, one-add, zero-add}
 use Rattle.std.specs.Option.{option_map_or}
 use Rattle.std.specs.List.{list_any}
 use Rattle.std.proofs.lemmas.Option.{same_Some}
@@ -27,16 +28,19 @@ taken_filter p [] (suc i) = refl
 taken_filter p (x ∷ xs) zero = refl
 taken_filter p (x ∷ xs) (suc i) =
     let ih = taken_filter p xs i in
-    elim (p x) as (λ t. take (one_if t + how_many p (take i xs)) (cond t (x ∷ filter p xs) (filter p xs)) ≡ cond t (x ∷ filter p (take i xs)) (filter p (take i xs))) [
+    elim (p x) as (λ t. take (one_if t + how_many p (take i xs)) (cond t (x ∷ filter p xs) (filter p xs))
+    ≡ cond t (x ∷ filter p (take i xs)) (filter p (take i xs))) [
       | true ↦ rw (one-add (how_many p (take i xs))) (ap (λ l. x ∷ l) ih)
       | false ↦ rw (zero-add (how_many p (take i xs))) ih
     ]
 
-pub counted_filter : (p q : SourceLine → Bool) → ((x : SourceLine) → q x ≡ true → p x ≡ true) → (xs : List SourceLine) → how_many q (filter p xs) ≡ how_many q xs
+pub counted_filter : (p q : SourceLine → Bool) → ((x : SourceLine) → q x ≡ true → p x ≡ true) → (xs : List SourceLine)
+    → how_many q (filter p xs) ≡ how_many q xs
 counted_filter p q all [] = refl
 counted_filter p q all (x ∷ xs) = by_test (p x) (q x) refl refl (counted_filter p q all xs)
   where
-    by_test : (t u : Bool) → p x ≡ t → q x ≡ u → how_many q (filter p xs) ≡ how_many q xs → how_many q (cond t (x ∷ filter p xs) (filter p xs)) ≡ one_if (q x) + how_many q xs
+    by_test : (t u : Bool) → p x ≡ t → q x ≡ u → how_many q (filter p xs) ≡ how_many q xs
+        → how_many q (cond t (x ∷ filter p xs) (filter p xs)) ≡ one_if (q x) + how_many q xs
     by_test true u e f ih = omega (arith, ih)
     by_test false false e f ih = omega (arith, ih, ap one_if f)
     by_test false true e f ih = absurd (true≢false (sym (all x f) ∙ e))
@@ -55,13 +59,18 @@ module _ (script : Lines) where
   -- Who makes what.
 
   -- as many feeds are declared before an object as feeds' ports are made before it
-  pub feeds_before : (i : ℕ) → how_many (is_feed script) (take (number_of script i) (objects_of script)) ≡ how_many (is_feed script) (take i script.declarations)
-  feeds_before i = ap (how_many (is_feed script)) (taken_filter (is_object script) script.declarations i) ∙ counted_filter (is_object script) (is_feed script) (feed_object script) (take i script.declarations)
+  pub feeds_before : (i : ℕ)
+      → how_many (is_feed script) (take (number_of script i) (objects_of script)) ≡ how_many (is_feed script) (take i script.declarations)
+  feeds_before i = ap (how_many (is_feed script)) (taken_filter (is_object script) script.declarations i)
+      ∙ counted_filter (is_object script) (is_feed script) (feed_object script) (take i script.declarations)
 
   pub maker_is : (i : ℕ) (line : SourceLine) → slice_get script.declarations i ≡ Some line → is_object script line ≡ true
-      → maker script (number_of script i) ≡ cond (is_feed script line) (Feed (how_many (is_feed script) (take i script.declarations))) (Seat 0)
+      → maker script (number_of script i)
+      ≡ cond (is_feed script line) (Feed (how_many (is_feed script) (take i script.declarations))) (Seat 0)
   maker_is i line found object =
-      ap (λ o. cond (option_map_or (is_feed script) o false) (Feed (how_many (is_feed script) (take (number_of script i) (objects_of script)))) (Seat 0)) (filter_at (is_object script) script.declarations i line found object)
+      ap (λ o. cond (option_map_or (is_feed script) o false)
+      (Feed (how_many (is_feed script) (take (number_of script i) (objects_of script)))) (Seat 0))
+      (filter_at (is_object script) script.declarations i line found object)
       ∙ ap (λ n. cond (is_feed script line) (Feed n) (Seat 0)) (feeds_before i)
 
   -- who makes the objects of the first declarations, and how many of those are feeds
@@ -71,16 +80,21 @@ module _ (script : Lines) where
     pub few : feeds ≤ i
     pub each : (k : ℕ) → k < length makers → slice_get makers k ≡ Some (maker script k)
 
-  module _ {i : ℕ} {makers : List Who} {feeds : ℕ} (so_far : AreListed i makers feeds) (line : SourceLine) (found : slice_get script.declarations i ≡ Some line) where
-    added : (w : Who) → is_object script line ≡ true → w ≡ cond (is_feed script line) (Feed feeds) (Seat 0) → (k : ℕ) → k < length (makers ++ w ∷ []) → slice_get (makers ++ w ∷ []) k ≡ Some (maker script k)
+  module _ {i : ℕ} {makers : List Who} {feeds : ℕ} (so_far : AreListed i makers feeds) (line : SourceLine)
+      (found : slice_get script.declarations i ≡ Some line) where
+    added : (w : Who) → is_object script line ≡ true → w ≡ cond (is_feed script line) (Feed feeds) (Seat 0) → (k : ℕ)
+        → k < length (makers ++ w ∷ []) → slice_get (makers ++ w ∷ []) k ≡ Some (maker script k)
     added w object is = each_pushed (maker script) makers w so_far.each
-        (is ∙ ap (λ n. cond (is_feed script line) (Feed n) (Seat 0)) so_far.fed ∙ sym (maker_is i line found object) ∙ ap (maker script) (sym so_far.long))
+        (is ∙ ap (λ n. cond (is_feed script line) (Feed n) (Seat 0)) so_far.fed ∙ sym (maker_is i line found object)
+        ∙ ap (maker script) (sym so_far.long))
 
     objects : (t : Bool) → is_object script line ≡ t → number_of script (i + 1) ≡ number_of script i + one_if t
     objects t e = count_taken (is_object script) script.declarations i line found ∙ ap (λ b. number_of script i + one_if b) e
 
-    fed_more : (t : Bool) → is_feed script line ≡ t → how_many (is_feed script) (take (i + 1) script.declarations) ≡ how_many (is_feed script) (take i script.declarations) + one_if t
-    fed_more t e = count_taken (is_feed script) script.declarations i line found ∙ ap (λ b. how_many (is_feed script) (take i script.declarations) + one_if b) e
+    fed_more : (t : Bool) → is_feed script line ≡ t
+        → how_many (is_feed script) (take (i + 1) script.declarations) ≡ how_many (is_feed script) (take i script.declarations) + one_if t
+    fed_more t e = count_taken (is_feed script) script.declarations i line found
+        ∙ ap (λ b. how_many (is_feed script) (take i script.declarations) + one_if b) e
 
     pub feed_listed : is_feed script line ≡ true → AreListed (i + 1) (makers ++ Feed feeds ∷ []) (feeds + 1)
     feed_listed feed =
@@ -111,13 +125,17 @@ module _ (script : Lines) where
   -- Where lanes lead.
 
   -- a lane leads to a declared object
-  pub target_declared : (lane : Lane) → IsKnown script → ReadsLane (names_of script) lane → (lane.target < length script.declarations) × (number_of script lane.target < declared_count script)
+  pub target_declared : (lane : Lane) → IsKnown script → ReadsLane (names_of script) lane
+      → (lane.target < length script.declarations) × (number_of script lane.target < declared_count script)
   target_declared lane known reads = elim reads.target [
-    | inl mailbox ↦ by_kind kind.Mailbox (mailbox_at (names_of script) lane.target mailbox) (λ e. let clash : kind.Port ≡ kind.Mailbox = same_Some _ _ e in cc)
-    | inr channel ↦ by_kind kind.Channel (channel_at (names_of script) lane.target channel) (λ e. let clash : kind.Port ≡ kind.Channel = same_Some _ _ e in cc)
+    | inl mailbox ↦ by_kind kind.Mailbox (mailbox_at (names_of script) lane.target mailbox)
+        (λ e. let clash : kind.Port ≡ kind.Mailbox = same_Some _ _ e in cc)
+    | inr channel ↦ by_kind kind.Channel (channel_at (names_of script) lane.target channel)
+        (λ e. let clash : kind.Port ≡ kind.Channel = same_Some _ _ e in cc)
   ]
     where
-      by_kind : (k : Kind) → IsObjectAt (names_of script) lane.target k → (Some kind.Port ≡ Some k → ⊥) → (lane.target < length script.declarations) × (number_of script lane.target < declared_count script)
+      by_kind : (k : Kind) → IsObjectAt (names_of script) lane.target k → (Some kind.Port ≡ Some k → ⊥)
+          → (lane.target < length script.declarations) × (number_of script lane.target < declared_count script)
       by_kind k is other = elim (cases_lt lane.target (length script.declarations)) [
         | inr ge ↦ absurd (other (given_port script [] known lane.target k ge is))
         | inl lt ↦
@@ -130,23 +148,31 @@ module _ (script : Lines) where
     pub all : length laid ≡ declared_count script
     pub each : (k : ℕ) → option_map_or (λ t. t) (slice_get laid k) false ≡ list_any (leads_to script k) (take i script.lanes)
 
-  pub laid_more : (i : ℕ) (laid : List Bool) (line : SourceLine) (object : ℕ) → slice_get script.lanes i ≡ Some line → object < declared_count script → ((k : ℕ) → leads_to script k line ≡ eqb object k) → AreLaidSoFar i laid → AreLaidSoFar (i + 1) (slice_set laid object true)
+  pub laid_more : (i : ℕ) (laid : List Bool) (line : SourceLine) (object : ℕ) → slice_get script.lanes i ≡ Some line
+      → object < declared_count script → ((k : ℕ) → leads_to script k line ≡ eqb object k) → AreLaidSoFar i laid
+      → AreLaidSoFar (i + 1) (slice_set laid object true)
   laid_more i laid line object found lt leads so_far = record {
     all = length-set laid object true ∙ so_far.all;
     each = λ k. elim (cases_eq k object) [
       | inl same ↦
-          let there : slice_get (slice_set laid object true) k ≡ Some true = ap (slice_get (slice_set laid object true)) same ∙ set_at laid object true (omega (arith, lt, so_far.all)) in
+          let there : slice_get (slice_set laid object true) k ≡ Some true = ap (slice_get (slice_set laid object true)) same
+          ∙ set_at laid object true (omega (arith, lt, so_far.all)) in
           ap (λ (o : Option Bool). option_map_or (λ t. t) o false) there
-          ∙ sym (more k ∙ ap (λ t. list_any (leads_to script k) (take i script.lanes) || t) (leads k ∙ eq-eqb object k (sym same)) ∙ or_right (list_any (leads_to script k) (take i script.lanes)) true refl)
+          ∙ sym (more k ∙ ap (λ t. list_any (leads_to script k) (take i script.lanes) || t) (leads k ∙ eq-eqb object k (sym same))
+          ∙ or_right (list_any (leads_to script k) (take i script.lanes)) true refl)
       | inr other ↦
           ap (λ (o : Option Bool). option_map_or (λ t. t) o false) (slice_get-set_other laid object k true other) ∙ so_far.each k
-          ∙ sym (more k ∙ ap (λ t. list_any (leads_to script k) (take i script.lanes) || t) (leads k ∙ ne_eqb object k (λ e. other (sym e))) ∙ or_false (list_any (leads_to script k) (take i script.lanes)))
+          ∙ sym (more k ∙ ap (λ t. list_any (leads_to script k) (take i script.lanes) || t) (leads k ∙ ne_eqb object k (λ e. other (sym e)))
+          ∙ or_false (list_any (leads_to script k) (take i script.lanes)))
     ];
   }
     where
-      more : (k : ℕ) → list_any (leads_to script k) (take (i + 1) script.lanes) ≡ (list_any (leads_to script k) (take i script.lanes) || leads_to script k line)
-      more k = ap (list_any (leads_to script k)) (taken_more script.lanes i line found) ∙ any_pushed (leads_to script k) (take i script.lanes) line
+      more : (k : ℕ) → list_any (leads_to script k) (take (i + 1) script.lanes)
+          ≡ (list_any (leads_to script k) (take i script.lanes) || leads_to script k line)
+      more k = ap (list_any (leads_to script k)) (taken_more script.lanes i line found)
+          ∙ any_pushed (leads_to script k) (take i script.lanes) line
 
   -- the object that a lane line leads to
-  pub lane_leads : (lane : Lane) (k : ℕ) → ReadsLane (names_of script) lane → leads_to script k (source_of lane.line) ≡ eqb (number_of script lane.target) k
+  pub lane_leads : (lane : Lane) (k : ℕ) → ReadsLane (names_of script) lane
+      → leads_to script k (source_of lane.line) ≡ eqb (number_of script lane.target) k
   lane_leads lane k reads = ap (λ o. option_map_or (λ (laid : (ℕ × ℕ) × ℕ). eqb (number_of script laid.0.1) k) o false) reads.says

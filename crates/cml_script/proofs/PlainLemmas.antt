@@ -1,5 +1,6 @@
 -- What is so of a script without rings.
-use Rattle.std.proofs.Common.{◌≡◌, inl, inr, ℕ, zero, suc, ◌&&◌, Bool, true, false, cond, List, [], ◌∷◌, take, filter, slice_get, Option, Some, None, refl, sym, ap, ◌∙◌}
+use Rattle.std.proofs.Common.{◌≡◌, inl, inr, ℕ, zero, suc, ◌&&◌, Bool, true, false, cond, List, [], ◌∷◌, take, filter}
+use Rattle.std.proofs.Common.{slice_get, Option, Some, None, refl, sym, ap, ◌∙◌}
 use Rattle.std.specs.Prelude.{not, min}
 use Rattle.std.specs.Option.{option_map, option_map_or, option_and_then}
 use Rattle.std.specs.List.{find}
@@ -34,7 +35,8 @@ no_lines [] e = refl
 no_lines (line ∷ lines) e = absurd (none-some line (sym e))
 
 -- what is not found is nowhere
-none_found : (p : SourceLine → Bool) (lines : List SourceLine) → find p lines ≡ None → (i : ℕ) (line : SourceLine) → slice_get lines i ≡ Some line → p line ≡ false
+none_found : (p : SourceLine → Bool) (lines : List SourceLine) → find p lines ≡ None → (i : ℕ) (line : SourceLine)
+    → slice_get lines i ≡ Some line → p line ≡ false
 none_found p [] none i line found = absurd (none-some line found)
 none_found p (first ∷ lines) none i line found = by (p first) refl none i found (none_found p lines)
   where
@@ -45,18 +47,24 @@ none_found p (first ∷ lines) none i line found = by (p first) refl none i foun
     by false e none (suc i) found later = later none i line found
 
 -- only the line of a feed makes a feed
-feed_made : (names : List Given) (d : Declares) (rest : List (List ℕ)) → option_map_or makes_feed (makes_by names d rest) false ≡ true → d ≡ declares.Feed
+feed_made : (names : List Given) (d : Declares) (rest : List (List ℕ))
+    → option_map_or makes_feed (makes_by names d rest) false ≡ true → d ≡ declares.Feed
 feed_made names declares.Feed rest e = refl
 feed_made names declares.Port (channel ∷ rest) e =
-    elim (cases_Option (position_of names channel)) [ inl there ↦ absurd (false≢true (rw there.1 at e)) | inr none ↦ absurd (false≢true (rw none at e)) ]
+    elim (cases_Option (position_of names channel)) [
+      | inl there ↦ absurd (false≢true (rw there.1 at e))
+      | inr none ↦ absurd (false≢true (rw none at e))
+    ]
 feed_made names declares.MVar (name ∷ message ∷ []) e = absurd (false≢true e)
 feed_made names d rest e = absurd (false≢true e)
 
-feed_declared : (names : List Given) (words : List (List ℕ)) → option_map_or makes_feed (makes_of names words) false ≡ true → declares_feed words ≡ true
+feed_declared : (names : List Given) (words : List (List ℕ))
+    → option_map_or makes_feed (makes_of names words) false ≡ true → declares_feed words ≡ true
 feed_declared names [] e = absurd (false≢true e)
 feed_declared names (word ∷ rest) e = by_declares (declares_of word) e
   where
-    by_declares : (d : Option Declares) → option_map_or makes_feed (option_and_then (λ x. makes_by names x rest) d) false ≡ true → option_map_or is_feed_word d false ≡ true
+    by_declares : (d : Option Declares) → option_map_or makes_feed (option_and_then (λ x. makes_by names x rest) d) false ≡ true
+        → option_map_or is_feed_word d false ≡ true
     by_declares None e = absurd (false≢true e)
     by_declares (Some d) e = ap is_feed_word (feed_made names d rest e)
 
@@ -69,15 +77,18 @@ module _ (script : Lines) (plain : first_ring script ≡ None) where
 
   pub plain_feed : (i : ℕ) (line : SourceLine) → slice_get script.declarations i ≡ Some line → is_feed script line ≡ false
   plain_feed i line found = false_from_ne_true (is_feed script line) (λ feed.
-      let none = none_mapped (λ (line : SourceLine). line.number) (find (λ (line : SourceLine). declares_feed line.words) script.declarations) both.1 in
-      true≢false (sym (feed_declared (names_of script) line.words feed) ∙ none_found (λ (line : SourceLine). declares_feed line.words) script.declarations none i line found))
+      let none = none_mapped (λ (line : SourceLine). line.number)
+      (find (λ (line : SourceLine). declares_feed line.words) script.declarations) both.1 in
+      true≢false (sym (feed_declared (names_of script) line.words feed)
+      ∙ none_found (λ (line : SourceLine). declares_feed line.words) script.declarations none i line found))
 
   no_capacity : (seat : Option ℕ) (at : ℕ) → option_and_then (λ (s : ℕ). capacity_of (names_of script) script.lanes (s, at)) seat ≡ None
   no_capacity None at = refl
   no_capacity (Some s) at = ap (λ l. capacity_of (names_of script) l (s, at)) plain_lanes
 
   no_feed : (at : ℕ) → feed_at script at ≡ None
-  no_feed at = ap (λ t. cond t (Some (how_many (is_feed script) (take at script.declarations))) None) (false_from_ne_true (option_map_or (is_feed script) (slice_get script.declarations at) false) (λ feed.
+  no_feed at = ap (λ t. cond t (Some (how_many (is_feed script) (take at script.declarations))) None)
+      (false_from_ne_true (option_map_or (is_feed script) (slice_get script.declarations at) false) (λ feed.
       let line = passing (is_feed script) (slice_get script.declarations at) feed in
       true≢false (sym line.2 ∙ plain_feed at line.0 line.1)))
 
@@ -91,7 +102,8 @@ module _ (script : Lines) (plain : first_ring script ≡ None) where
   none_apart : (line : SourceLine) → is_apart script line ≡ false
   none_apart line = by_action (action_of (names_of script) line.words)
     where
-      by_action : (a : Option Action) → is_by_ring (option_map_or (route_of script (seat_of_step (names_of script) line.words)) a route.Seat) ≡ false
+      by_action : (a : Option Action)
+          → is_by_ring (option_map_or (route_of script (seat_of_step (names_of script) line.words)) a route.Seat) ≡ false
       by_action None = refl
       by_action (Some a) = no_route (seat_of_step (names_of script) line.words) a
 
@@ -103,14 +115,18 @@ module _ (script : Lines) (plain : first_ring script ≡ None) where
   plain_count seat (line ∷ lines) = rw (plain_called seat line, plain_count seat lines) refl
 
   -- and each object made by seat 0
-  objects_plain : (lines : List SourceLine) → ((i : ℕ) (line : SourceLine) → slice_get lines i ≡ Some line → is_feed script line ≡ false) → (k : ℕ) → option_map_or (is_feed script) (slice_get (filter (is_object script) lines) k) false ≡ false
+  objects_plain : (lines : List SourceLine) → ((i : ℕ) (line : SourceLine) → slice_get lines i ≡ Some line → is_feed script line ≡ false)
+      → (k : ℕ) → option_map_or (is_feed script) (slice_get (filter (is_object script) lines) k) false ≡ false
   objects_plain [] none k = refl
   objects_plain (line ∷ lines) none k = by_test (is_object script line) k (objects_plain lines (λ i l found. none (suc i) l found))
     where
-      by_test : (t : Bool) (k : ℕ) → ((k : ℕ) → option_map_or (is_feed script) (slice_get (filter (is_object script) lines) k) false ≡ false) → option_map_or (is_feed script) (slice_get (cond t (line ∷ filter (is_object script) lines) (filter (is_object script) lines)) k) false ≡ false
+      by_test : (t : Bool) (k : ℕ)
+          → ((k : ℕ) → option_map_or (is_feed script) (slice_get (filter (is_object script) lines) k) false ≡ false) → option_map_or
+          (is_feed script) (slice_get (cond t (line ∷ filter (is_object script) lines) (filter (is_object script) lines)) k) false ≡ false
       by_test true zero later = none 0 line refl
       by_test true (suc k) later = later k
       by_test false k later = later k
 
   pub plain_maker : (k : ℕ) → maker script k ≡ Seat 0
-  plain_maker k = ap (λ t. cond t (Feed (how_many (is_feed script) (take k (objects_of script)))) (Seat 0)) (objects_plain script.declarations plain_feed k)
+  plain_maker k = ap (λ t. cond t (Feed (how_many (is_feed script) (take k (objects_of script)))) (Seat 0))
+      (objects_plain script.declarations plain_feed k)

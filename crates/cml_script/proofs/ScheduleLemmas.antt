@@ -1,5 +1,6 @@
 -- A script has one schedule: each entry is determined by those before it, and where one history ends no other goes on.
-use Rattle.std.proofs.Common.{◌≡◌, ℕ, ◌+◌, ◌-◌, ◌<◌, ◌≤◌, Bool, true, false, ◌||◌, eqb, ltb, List, [], ◌∷◌, length, slice_get, Option, Some, None, MatchBool, refl, ◌⊎◌, sym, ap, subst, ◌∙◌, arith, inl, inr}
+use Rattle.std.proofs.Common.{◌≡◌, ℕ, ◌+◌, ◌-◌, ◌<◌, ◌≤◌, Bool, true, false, ◌||◌, eqb, ltb, List, [], ◌∷◌, length, slice_get}
+use Rattle.std.proofs.Common.{Option, Some, None, MatchBool, refl, ◌⊎◌, sym, ap, subst, ◌∙◌, arith, inl, inr}
 use Rattle.std.specs.List.{IsDistinct, AllByRecursion, list_any}
 use Rattle.std.specs.Option.{option_map_or}
 use Rattle.std.proofs.lemmas.Option.{same_Some, slice_get_within}
@@ -34,15 +35,20 @@ with_step false None rest = rest
 with_step false (Some i) rest = i ∷ rest
 
 module _ (script : Lines) where
-  pub declares : (before : History) (entry : Entry (List ℕ)) → Follows script (entry ∷ before) → length before < declared_count script → IsDeclaration script before entry
-  declares before entry follows lt = subst (λ t. MatchBool t (IsDeclaration script before entry) (IsStep script before entry)) (lt-ltb (length before) (declared_count script) lt) follows.0
+  pub declares : (before : History) (entry : Entry (List ℕ)) → Follows script (entry ∷ before) → length before < declared_count script
+      → IsDeclaration script before entry
+  declares before entry follows lt = subst (λ t. MatchBool t (IsDeclaration script before entry) (IsStep script before entry))
+      (lt-ltb (length before) (declared_count script) lt) follows.0
 
-  pub steps : (before : History) (entry : Entry (List ℕ)) → Follows script (entry ∷ before) → declared_count script ≤ length before → IsStep script before entry
-  steps before entry follows ge = subst (λ t. MatchBool t (IsDeclaration script before entry) (IsStep script before entry)) (le-ltb (length before) (declared_count script) ge) follows.0
+  pub steps : (before : History) (entry : Entry (List ℕ)) → Follows script (entry ∷ before)
+      → declared_count script ≤ length before → IsStep script before entry
+  steps before entry follows ge = subst (λ t. MatchBool t (IsDeclaration script before entry) (IsStep script before entry))
+      (le-ltb (length before) (declared_count script) ge) follows.0
 
   -- a line is one thread's
   one_seat : (line other : SourceLine) (s t : ℕ) → line ≡ other → is_seated script s line ≡ true → is_seated script t other ≡ true → s ≡ t
-  one_seat line other s t same first second = by_seat (seat_of_step (names_of script) line.words) first (ap (is_seated script t) same ∙ second)
+  one_seat line other s t same first second =
+      by_seat (seat_of_step (names_of script) line.words) first (ap (is_seated script t) same ∙ second)
     where
       by_seat : (o : Option ℕ) → option_map_or (λ n. eqb n s) o false ≡ true → option_map_or (λ n. eqb n t) o false ≡ true → s ≡ t
       by_seat None a b = absurd (false≢true a)
@@ -52,17 +58,21 @@ module _ (script : Lines) where
 
   abbrev steps_of : History → List ℕ
   steps_of [] = []
-  steps_of (entry ∷ before) = with_step (ltb (length before) (declared_count script)) (next_position script before entry.who) (steps_of before)
+  steps_of (entry ∷ before) =
+      with_step (ltb (length before) (declared_count script)) (next_position script before entry.who) (steps_of before)
 
-  declared_steps : (before : History) (entry : Entry (List ℕ)) → length before < declared_count script → steps_of (entry ∷ before) ≡ steps_of before
+  declared_steps : (before : History) (entry : Entry (List ℕ)) → length before < declared_count script
+      → steps_of (entry ∷ before) ≡ steps_of before
   unfolding with_step
   declared_steps before entry lt =
       ap (λ t. with_step t (next_position script before entry.who) (steps_of before)) (lt-ltb (length before) (declared_count script) lt)
 
-  more_steps : (before : History) (entry : Entry (List ℕ)) → declared_count script ≤ length before → (s : IsStep script before entry) → steps_of (entry ∷ before) ≡ s.step ∷ steps_of before
+  more_steps : (before : History) (entry : Entry (List ℕ)) → declared_count script ≤ length before → (s : IsStep script before entry)
+      → steps_of (entry ∷ before) ≡ s.step ∷ steps_of before
   unfolding with_step
   more_steps before entry ge s =
-      let next : next_position script before entry.who ≡ Some s.step = ap (next_position script before) s.by ∙ next_is script before s.seat s.step entry.call s.ready in
+      let next : next_position script before entry.who ≡ Some s.step = ap (next_position script before) s.by
+      ∙ next_is script before s.seat s.step entry.call s.ready in
       ap (λ t. with_step t (next_position script before entry.who) (steps_of before)) (le-ltb (length before) (declared_count script) ge)
       ∙ ap (λ o. with_step false o (steps_of before)) next
 
@@ -83,8 +93,10 @@ module _ (script : Lines) where
     behind = omega (arith, past.behind);
   }
 
-  performed_one : (before : History) (entry : Entry (List ℕ)) (seat : ℕ) → entry.who ≡ Seat seat → performed (entry ∷ before) seat ≡ performed before seat + 1
-  performed_one before entry seat by = ap (λ w. one_if (is_seat seat w) + performed before seat) by ∙ ap (λ t. one_if t + performed before seat) (eq-eqb seat seat refl) ∙ omega arith
+  performed_one : (before : History) (entry : Entry (List ℕ)) (seat : ℕ) → entry.who ≡ Seat seat
+      → performed (entry ∷ before) seat ≡ performed before seat + 1
+  performed_one before entry seat by = ap (λ w. one_if (is_seat seat w) + performed before seat) by
+      ∙ ap (λ t. one_if t + performed before seat) (eq-eqb seat seat refl) ∙ omega arith
 
   this_past : (before : History) (entry : Entry (List ℕ)) (s : IsStep script before entry) → IsPast (entry ∷ before) s.step
   this_past before entry s = record {
@@ -101,11 +113,15 @@ module _ (script : Lines) where
     | inl lt ↦ later before entry q (are_past before follows.1 q (ap (list_any (eqb q)) (sym (declared_steps before entry lt)) ∙ there))
     | inr ge ↦
         let s = steps before entry follows ge in
-        by_first before entry q s (are_past before follows.1 q) (eqb q s.step) refl (ap (list_any (eqb q)) (sym (more_steps before entry ge s)) ∙ there)
+        by_first before entry q s (are_past before follows.1 q) (eqb q s.step) refl
+        (ap (list_any (eqb q)) (sym (more_steps before entry ge s)) ∙ there)
   ]
     where
-      by_first : (before : History) (entry : Entry (List ℕ)) (q : ℕ) (s : IsStep script before entry) → (list_any (eqb q) (steps_of before) ≡ true → IsPast before q) → (t : Bool) → eqb q s.step ≡ t → (t || list_any (eqb q) (steps_of before)) ≡ true → IsPast (entry ∷ before) q
-      by_first before entry q s earlier_ones true e there = subst (IsPast (entry ∷ before)) (sym (eqb-true q s.step e)) (this_past before entry s)
+      by_first : (before : History) (entry : Entry (List ℕ)) (q : ℕ) (s : IsStep script before entry)
+          → (list_any (eqb q) (steps_of before) ≡ true → IsPast before q) → (t : Bool) → eqb q s.step ≡ t
+          → (t || list_any (eqb q) (steps_of before)) ≡ true → IsPast (entry ∷ before) q
+      by_first before entry q s earlier_ones true e there =
+          subst (IsPast (entry ∷ before)) (sym (eqb-true q s.step e)) (this_past before entry s)
       by_first before entry q s earlier_ones false e there = later before entry q (earlier_ones there)
 
   -- no step is performed twice
@@ -116,14 +132,18 @@ module _ (script : Lines) where
     | inl lt ↦ subst (IsDistinct eqb) (sym (declared_steps before entry lt)) (distinct before follows.1)
     | inr ge ↦
         let s = steps before entry follows ge in
-        subst (IsDistinct eqb) (sym (more_steps before entry ge s)) (IsDistinct-cons eqb s.step (steps_of before) (all_other (steps_of before) s.step (λ q there. ne_eqb s.step q (λ same. new_step before entry s q (are_past before follows.1 q there) same))) (distinct before follows.1))
+        subst (IsDistinct eqb) (sym (more_steps before entry ge s)) (IsDistinct-cons eqb s.step (steps_of before) (all_other
+        (steps_of before) s.step (λ q there. ne_eqb s.step q (λ same. new_step before entry s q (are_past before follows.1 q there) same)))
+        (distinct before follows.1))
   ]
     where
       new_step : (before : History) (entry : Entry (List ℕ)) (s : IsStep script before entry) (q : ℕ) → IsPast before q → s.step ≡ q → ⊥
       new_step before entry s q past same =
           let line : s.ready.line ≡ past.line = same_Some _ _ (sym s.ready.found ∙ ap (slice_get script.steps) same ∙ past.found) in
-          let seat : s.seat ≡ past.seat = one_seat s.ready.line past.line s.seat past.seat line (called_seated script s.seat s.ready.line s.ready.seated) (called_seated script past.seat past.line past.seated) in
-          let before_it : earlier script s.seat s.step ≡ earlier script past.seat q = ap (λ n. earlier script n s.step) seat ∙ ap (earlier script past.seat) same in
+          let seat : s.seat ≡ past.seat = one_seat s.ready.line past.line s.seat past.seat line
+          (called_seated script s.seat s.ready.line s.ready.seated) (called_seated script past.seat past.line past.seated) in
+          let before_it : earlier script s.seat s.step ≡ earlier script past.seat q = ap (λ n. earlier script n s.step) seat
+          ∙ ap (earlier script past.seat) same in
           absurd (omega (arith, before_it, s.ready.next, past.behind, ap (performed before) seat))
 
   count : (history : History) → Follows script history → length (steps_of history) ≡ length history - declared_count script
@@ -144,7 +164,8 @@ module _ (script : Lines) where
       )
 
   -- where a history ends no entry comes next
-  ended : (limit : ℕ) (history : History) (stop : Stop) (entry : Entry (List ℕ)) → Ends script limit history stop → Follows script (entry ∷ history) → length history < limit → ⊥
+  ended : (limit : ℕ) (history : History) (stop : Stop) (entry : Entry (List ℕ)) → Ends script limit history stop
+      → Follows script (entry ∷ history) → length history < limit → ⊥
   ended limit history Full entry (full, rest) follows room = absurd (omega (arith, full, room))
   ended limit history Held entry ends follows room = absurd ends
   ended limit history Stalled entry (room, declared, rest, none) follows within =
@@ -154,7 +175,8 @@ module _ (script : Lines) where
 
   -- One entry at most comes next.
 
-  one_entry : (before : History) (e f : Entry (List ℕ)) → Follows script (e ∷ before) → Follows script (f ∷ before) → answer before e.call ≡ Some e.reply → answer before f.call ≡ Some f.reply → e ≡ f
+  one_entry : (before : History) (e f : Entry (List ℕ)) → Follows script (e ∷ before) → Follows script (f ∷ before)
+      → answer before e.call ≡ Some e.reply → answer before f.call ≡ Some f.reply → e ≡ f
   one_entry before e f first second answered told = elim (cases_lt (length before) (declared_count script)) [
     | inl lt ↦
         let a = declares before e first lt in
@@ -165,22 +187,26 @@ module _ (script : Lines) where
         let b = steps before f second ge in
         let same : a.step ≡ b.step = omega (arith, a.least b.step b.seat f.call b.ready, b.least a.step a.seat e.call a.ready) in
         let line : a.ready.line ≡ b.ready.line = same_Some _ _ (sym a.ready.found ∙ ap (slice_get script.steps) same ∙ b.ready.found) in
-        let seat : a.seat ≡ b.seat = one_seat a.ready.line b.ready.line a.seat b.seat line (called_seated script a.seat a.ready.line a.ready.seated) (called_seated script b.seat b.ready.line b.ready.seated) in
+        let seat : a.seat ≡ b.seat = one_seat a.ready.line b.ready.line a.seat b.seat line
+        (called_seated script a.seat a.ready.line a.ready.seated) (called_seated script b.seat b.ready.line b.ready.seated) in
         with_calls (a.by ∙ ap Seat seat ∙ sym b.by) (same_Some _ _ (sym a.ready.calls ∙ ap (step_call script before) same ∙ b.ready.calls))
   ]
     where
       with_calls : e.who ≡ f.who → e.call ≡ f.call → e ≡ f
       with_calls who asked = entry_equal e f who asked (same_Some _ _ (sym answered ∙ ap (answer before) asked ∙ told))
 
-  shared : (one other : History) → Follows script one → Lawful one → Follows script other → Lawful other → length one ≡ length other → one ≡ other
+  shared : (one other : History) → Follows script one → Lawful one → Follows script other → Lawful other
+      → length one ≡ length other → one ≡ other
   shared [] [] f l g m same = refl
   shared [] (e ∷ rest) f l g m same = absurd (omega (arith, same))
   shared (e ∷ before) [] f l g m same = absurd (omega (arith, same))
   shared (e ∷ before) (d ∷ rest) f l g m same =
       let tails : before ≡ rest = shared before rest f.1 l.2 g.1 m.2 (omega (arith, same)) in
-      ap (λ entry. entry ∷ before) (one_entry before e d f (subst (λ h. Follows script (d ∷ h)) (sym tails) g) l.1 (subst (λ h. answer h d.call ≡ Some d.reply) (sym tails) m.1)) ∙ ap (λ h. d ∷ h) tails
+      ap (λ entry. entry ∷ before) (one_entry before e d f (subst (λ h. Follows script (d ∷ h)) (sym tails) g) l.1
+      (subst (λ h. answer h d.call ≡ Some d.reply) (sym tails) m.1)) ∙ ap (λ h. d ∷ h) tails
 
-  no_longer : (limit : ℕ) (one other : History) (stop : Stop) → Follows script one → Lawful one → Ends script limit one stop → Follows script other → Lawful other → length other ≤ limit → length one < length other → ⊥
+  no_longer : (limit : ℕ) (one other : History) (stop : Stop) → Follows script one → Lawful one → Ends script limit one stop
+      → Follows script other → Lawful other → length other ≤ limit → length one < length other → ⊥
   no_longer limit one [] stop f l ends g m room lt = absurd (omega (arith, lt))
   no_longer limit one (e ∷ rest) stop f l ends g m room lt = elim (cases_eq (length one) (length rest)) [
     | inl same ↦
@@ -190,11 +216,13 @@ module _ (script : Lines) where
   ]
 
   -- something is left, or nothing is
-  left_over : (history : History) → ((0 < left script history) ⊎ (length history < declared_count script)) → (declared_count script ≤ length history) × (left script history ≡ 0) → ⊥
+  left_over : (history : History) → ((0 < left script history) ⊎ (length history < declared_count script))
+      → (declared_count script ≤ length history) × (left script history ≡ 0) → ⊥
   left_over history (inl more) (all, none) = absurd (omega (arith, more, none))
   left_over history (inr few) (all, none) = absurd (omega (arith, few, all))
 
-  one_stop : (limit : ℕ) (history : History) (first second : Stop) → Ends script limit history first → Ends script limit history second → first ≡ second
+  one_stop : (limit : ℕ) (history : History) (first second : Stop) → Ends script limit history first
+      → Ends script limit history second → first ≡ second
   one_stop limit history Held second a b = absurd a
   one_stop limit history first Held a b = absurd b
   one_stop limit history Full Full a b = refl

@@ -1,5 +1,7 @@
 -- What a stage keeps, and how it goes on with one more entry.
-use Rattle.std.proofs.Common.{◌≡◌, ℕ, ◌+◌, ◌-◌, ◌<◌, ◌≤◌, ◌^◌, Bool, true, false, cond, eqb, ltb, List, [], ◌∷◌, length, take, get_or, slice_get, slice_set, replicate, Option, Some, None, MatchBool, IfSome, IsSome, refl, sym, ap, subst, ◌∙◌, arith, inl, inr}
+use Rattle.std.proofs.Common.{◌≡◌, ℕ, ◌+◌, ◌-◌, ◌<◌, ◌≤◌, ◌^◌, Bool, true, false, cond, eqb, ltb, List, [], ◌∷◌, length}
+use Rattle.std.proofs.Common.{take, get_or, slice_get, slice_set, replicate, Option, Some, None, MatchBool, IfSome, IsSome}
+use Rattle.std.proofs.Common.{refl, sym, ap, subst, ◌∙◌, arith, inl, inr}
 use Rattle.std.specs.Prelude.{map, All}
 use Rattle.cml_board.specs.Prelude.{Reply, Call, Entry, answer, Fits, kind_of, Lawful}
 use Rattle.cml_grammar.specs.Prelude.{Step, thread_count, Lines, names_of, source_of, ReadsStep, names_before, NamesAreGiven}
@@ -30,36 +32,45 @@ stands_at {counts = counts} {bindings = bindings} e s = subst (λ (r : Play). St
 
 module _ (script : Lines) (history : History) (at : ℕ) where
   pub object_declared : at < length script.declarations → object_of script history at ≡ declared_object script history at
-  object_declared lt = ap (λ t. cond t (declared_object script history at) (port_bound (binding_of script history at))) (lt-ltb at (length script.declarations) lt)
+  object_declared lt = ap (λ t. cond t (declared_object script history at) (port_bound (binding_of script history at)))
+      (lt-ltb at (length script.declarations) lt)
 
   pub object_given : length script.declarations ≤ at → object_of script history at ≡ port_bound (binding_of script history at)
-  object_given ge = ap (λ t. cond t (declared_object script history at) (port_bound (binding_of script history at))) (le-ltb at (length script.declarations) ge)
+  object_given ge = ap (λ t. cond t (declared_object script history at) (port_bound (binding_of script history at)))
+      (le-ltb at (length script.declarations) ge)
 
   pub made_declared : at < length script.declarations → made_of script history at ≡ declared_object script history at
   unfolding made_of
-  made_declared lt = ap (λ t. cond t (declared_object script history at) (port_made (binding_of script history at))) (lt-ltb at (length script.declarations) lt)
+  made_declared lt = ap (λ t. cond t (declared_object script history at) (port_made (binding_of script history at)))
+      (lt-ltb at (length script.declarations) lt)
 
   pub made_given : length script.declarations ≤ at → made_of script history at ≡ port_made (binding_of script history at)
   unfolding made_of
-  made_given ge = ap (λ t. cond t (declared_object script history at) (port_made (binding_of script history at))) (le-ltb at (length script.declarations) ge)
+  made_given ge = ap (λ t. cond t (declared_object script history at) (port_made (binding_of script history at)))
+      (le-ltb at (length script.declarations) ge)
 
 -- what is read of the lists that are kept
 
-pub binding_at : (script : Lines) (history : History) (bindings : List Binding) (at : ℕ) (b : Binding) → AreBindings script history bindings → at < length (names_of script) → b ≡ get_or bindings at b → b ≡ binding_of script history at
+pub binding_at : (script : Lines) (history : History) (bindings : List Binding) (at : ℕ) (b : Binding) → AreBindings script history bindings
+    → at < length (names_of script) → b ≡ get_or bindings at b → b ≡ binding_of script history at
 binding_at script history bindings at b bound within read =
     let lt : at < length bindings = omega (arith, within, bound.all) in
     same_Some _ _ (sym (slice_get_read bindings (length bindings) at b refl lt read) ∙ bound.each at lt)
 
-pub count_at : (history : History) (counts : List ℕ) (thread n : ℕ) → AreCounts history counts → thread < 64 → n ≡ get_or counts thread n → n ≡ performed history (thread + 1)
+pub count_at : (history : History) (counts : List ℕ) (thread n : ℕ) → AreCounts history counts → thread < 64 → n ≡ get_or counts thread n
+    → n ≡ performed history (thread + 1)
 count_at history counts thread n counted lt read =
     let within : thread < length counts = omega (arith, counted.seats) in
     same_Some _ _ (sym (slice_get_read counts (length counts) thread n refl within read) ∙ counted.each thread lt)
 
 -- if a declared name has an object, it is the one of the name's number
-pub declared_is : (script : Lines) (history : History) (at n : ℕ) → n ≡ how_many (is_object script) (take at script.declarations) → IsSome (declared_object script history at) → declared_object script history at ≡ Some n
-declared_is script history at n number made = by_test (ltb (how_many (is_object script) (take at script.declarations)) (length history)) made
+pub declared_is : (script : Lines) (history : History) (at n : ℕ) → n ≡ how_many (is_object script) (take at script.declarations)
+    → IsSome (declared_object script history at) → declared_object script history at ≡ Some n
+declared_is script history at n number made =
+    by_test (ltb (how_many (is_object script) (take at script.declarations)) (length history)) made
   where
-    by_test : (t : Bool) → IsSome (cond t (Some (how_many (is_object script) (take at script.declarations))) None) → cond t (Some (how_many (is_object script) (take at script.declarations))) None ≡ Some n
+    by_test : (t : Bool) → IsSome (cond t (Some (how_many (is_object script) (take at script.declarations))) None)
+        → cond t (Some (how_many (is_object script) (take at script.declarations))) None ≡ Some n
     by_test true some = ap Some (sym number)
     by_test false none = absurd (false≢true none)
 
@@ -72,14 +83,16 @@ below object made n e = elim (cases_lt object made) [
 
 module _ (script : Lines) (history : History) (named : NamesObjects script) where
   -- the object of a declared name is of the name's kind
-  pub declared_kind : (at n : ℕ) (k : Kind) → IsOfScript script history → Lawful history → at < length script.declarations → declared_object script history at ≡ Some n → IsObjectAt (names_of script) at k → kind_of history n ≡ Some k
+  pub declared_kind : (at n : ℕ) (k : Kind) → IsOfScript script history → Lawful history → at < length script.declarations
+      → declared_object script history at ≡ Some n → IsObjectAt (names_of script) at k → kind_of history n ≡ Some k
   declared_kind at n k own lawful within e is =
       let here = below (how_many (is_object script) (take at script.declarations)) (length history) n e in
       let d = named at k within is in
       ap (kind_of history) (sym here.1) ∙ object_kind_is script history at d.0 k own lawful here.0 d.1 d.2
 
   -- once all are made, each declared name has its object
-  pub declared_stands : (at : ℕ) → declared_count script ≤ length history → at < length script.declarations → IsObject (names_of script) at → (n : ℕ) × (declared_object script history at ≡ Some n)
+  pub declared_stands : (at : ℕ) → declared_count script ≤ length history → at < length script.declarations → IsObject (names_of script) at
+      → (n : ℕ) × (declared_object script history at ≡ Some n)
   declared_stands at declared within object =
       let d = named at object.0 within object.1 in (
         how_many (is_object script) (take at script.declarations),
@@ -95,44 +108,61 @@ module _ {play : Play} {counts : List ℕ} {bindings : List Binding} (stands : S
 
 -- counts
 
-performed_by : (seat : ℕ) (entry : Entry (List ℕ)) (history : History) (by : ℕ) → entry.who ≡ Seat by → performed (entry ∷ history) seat ≡ one_if (eqb by seat) + performed history seat
+performed_by : (seat : ℕ) (entry : Entry (List ℕ)) (history : History) (by : ℕ) → entry.who ≡ Seat by
+    → performed (entry ∷ history) seat ≡ one_if (eqb by seat) + performed history seat
 performed_by seat entry history by e = ap (λ w. one_if (is_seat seat w) + performed history seat) e
 
-pub counts_declared : (history : History) (entry : Entry (List ℕ)) (counts : List ℕ) → entry.who ≡ Seat 0 → AreCounts history counts → AreCounts (entry ∷ history) counts
+pub counts_declared : (history : History) (entry : Entry (List ℕ)) (counts : List ℕ) → entry.who ≡ Seat 0 → AreCounts history counts
+    → AreCounts (entry ∷ history) counts
 counts_declared history entry counts e c = record {
   seats = c.seats;
   each = λ thread lt.
       let other : eqb 0 (thread + 1) ≡ false = ne_eqb 0 (thread + 1) (λ z. omega arith) in
-      c.each thread lt ∙ ap Some (sym (performed_by (thread + 1) entry history 0 e ∙ ap (λ t. one_if t + performed history (thread + 1)) other ∙ omega arith));
+      c.each thread lt ∙ ap Some
+      (sym (performed_by (thread + 1) entry history 0 e ∙ ap (λ t. one_if t + performed history (thread + 1)) other ∙ omega arith));
 }
 
-pub counts_performed : (history : History) (entry : Entry (List ℕ)) (counts : List ℕ) (at n : ℕ) → entry.who ≡ Seat (at + 1) → at < 64 → n ≡ performed history (at + 1) → AreCounts history counts → AreCounts (entry ∷ history) (slice_set counts at (n + 1))
+pub counts_performed : (history : History) (entry : Entry (List ℕ)) (counts : List ℕ) (at n : ℕ) → entry.who ≡ Seat (at + 1) → at < 64
+    → n ≡ performed history (at + 1) → AreCounts history counts → AreCounts (entry ∷ history) (slice_set counts at (n + 1))
 counts_performed history entry counts at n e lt same c = record {
   seats = length-set counts at (n + 1) ∙ c.seats;
   each = λ thread within. elim (cases_eq thread at) [
     | inl here ↦
         let yes : eqb (at + 1) (at + 1) ≡ true = eq-eqb (at + 1) (at + 1) refl in
-        let more : performed (entry ∷ history) (at + 1) ≡ n + 1 = performed_by (at + 1) entry history (at + 1) e ∙ ap (λ t. one_if t + performed history (at + 1)) yes ∙ omega (arith, same) in
-        subst (λ t. slice_get (slice_set counts at (n + 1)) t ≡ Some (performed (entry ∷ history) (t + 1))) (sym here) (set_at counts at (n + 1) (omega (arith, c.seats)) ∙ ap Some (sym more))
+        let more : performed (entry ∷ history) (at + 1) ≡ n + 1 = performed_by (at + 1) entry history (at + 1) e
+        ∙ ap (λ t. one_if t + performed history (at + 1)) yes ∙ omega (arith, same) in
+        subst (λ t. slice_get (slice_set counts at (n + 1)) t ≡ Some (performed (entry ∷ history) (t + 1))) (sym here)
+        (set_at counts at (n + 1) (omega (arith, c.seats)) ∙ ap Some (sym more))
     | inr other ↦
         let no : eqb (at + 1) (thread + 1) ≡ false = ne_eqb (at + 1) (thread + 1) (λ z. other (omega arith)) in
-        let kept : performed (entry ∷ history) (thread + 1) ≡ performed history (thread + 1) = performed_by (thread + 1) entry history (at + 1) e ∙ ap (λ t. one_if t + performed history (thread + 1)) no ∙ omega arith in
+        let kept : performed (entry ∷ history) (thread + 1) ≡ performed history (thread + 1) =
+        performed_by (thread + 1) entry history (at + 1) e ∙ ap (λ t. one_if t + performed history (thread + 1)) no ∙ omega arith in
         slice_get-set_other counts at thread (n + 1) other ∙ c.each thread within ∙ ap Some (sym kept)
   ];
 }
 
 -- one more entry
 
-pub follows_declaration : (script : Lines) (before : History) (entry : Entry (List ℕ)) → length before < declared_count script → IsDeclaration script before entry → Follows script before → Follows script (entry ∷ before)
-follows_declaration script before entry lt declares follows =
-    (subst (λ t. MatchBool t (IsDeclaration script before entry) (IsStep script before entry)) (sym (lt-ltb (length before) (declared_count script) lt)) declares, follows)
+pub follows_declaration : (script : Lines) (before : History) (entry : Entry (List ℕ)) → length before < declared_count script
+    → IsDeclaration script before entry → Follows script before → Follows script (entry ∷ before)
+follows_declaration script before entry lt declares follows = (
+  subst (λ t. MatchBool t (IsDeclaration script before entry) (IsStep script before entry))
+      (sym (lt-ltb (length before) (declared_count script) lt)) declares,
+  follows,
+)
 
-pub follows_step : (script : Lines) (before : History) (entry : Entry (List ℕ)) → declared_count script ≤ length before → IsStep script before entry → Follows script before → Follows script (entry ∷ before)
-follows_step script before entry ge step follows =
-    (subst (λ t. MatchBool t (IsDeclaration script before entry) (IsStep script before entry)) (sym (le-ltb (length before) (declared_count script) ge)) step, follows)
+pub follows_step : (script : Lines) (before : History) (entry : Entry (List ℕ)) → declared_count script ≤ length before
+    → IsStep script before entry → Follows script before → Follows script (entry ∷ before)
+follows_step script before entry ge step follows = (
+  subst (λ t. MatchBool t (IsDeclaration script before entry) (IsStep script before entry))
+      (sym (le-ltb (length before) (declared_count script) ge)) step,
+  follows,
+)
 
 -- a name that was given something, and all others as they were
-pub bindings_more : (script : Lines) (before : History) (entry : Entry (List ℕ)) (bindings : List Binding) (g : Option ℕ) → AsksForPorts script → HasSeats script → giver script before entry.who ≡ g → AreBindings script before bindings → AreBindings script (entry ∷ before) (with_binding bindings g (bound_by entry.call entry.reply))
+pub bindings_more : (script : Lines) (before : History) (entry : Entry (List ℕ)) (bindings : List Binding) (g : Option ℕ)
+    → AsksForPorts script → HasSeats script → giver script before entry.who ≡ g → AreBindings script before bindings
+    → AreBindings script (entry ∷ before) (with_binding bindings g (bound_by entry.call entry.reply))
 bindings_more script before entry bindings None asks seats e b = record {
   all = b.all;
   each = λ at lt. b.each at lt ∙ ap Some (sym (bound_more script asks seats before entry at None e));
@@ -143,38 +173,51 @@ bindings_more script before entry bindings (Some n) asks seats e b = record {
     | inl here ↦
         let within : n < length bindings = omega (arith, lt, here, length-set bindings n (bound_by entry.call entry.reply)) in
         let test : eqb n at ≡ true = eq-eqb n at here in
-        subst (λ t. slice_get (slice_set bindings n (bound_by entry.call entry.reply)) t ≡ Some (bound_by entry.call entry.reply)) here (set_at bindings n (bound_by entry.call entry.reply) within)
-        ∙ ap Some (sym (bound_more script asks seats before entry at (Some n) e ∙ ap (λ t. cond t (bound_by entry.call entry.reply) (binding_of script before at)) test))
+        subst (λ t. slice_get (slice_set bindings n (bound_by entry.call entry.reply)) t ≡ Some (bound_by entry.call entry.reply)) here
+        (set_at bindings n (bound_by entry.call entry.reply) within)
+        ∙ ap Some (sym (bound_more script asks seats before entry at (Some n) e
+        ∙ ap (λ t. cond t (bound_by entry.call entry.reply) (binding_of script before at)) test))
     | inr other ↦
         let within : at < length bindings = omega (arith, lt, length-set bindings n (bound_by entry.call entry.reply)) in
         let test : eqb n at ≡ false = ne_eqb n at other in
         slice_get-set_other bindings n at (bound_by entry.call entry.reply) (λ z. other (sym z)) ∙ b.each at within
-        ∙ ap Some (sym (bound_more script asks seats before entry at (Some n) e ∙ ap (λ t. cond t (bound_by entry.call entry.reply) (binding_of script before at)) test))
+        ∙ ap Some (sym (bound_more script asks seats before entry at (Some n) e
+        ∙ ap (λ t. cond t (bound_by entry.call entry.reply) (binding_of script before at)) test))
   ];
 }
 
-pub stands_more : (play new : Play) (counts later : List ℕ) (bindings : List Binding) (g : Option ℕ) (entry : Entry (List ℕ)) → new ≡ with_entry play entry → Stands play counts bindings → Fits play.history entry.call → length play.history < play.limit → answer play.history entry.call ≡ Some entry.reply → Follows play.script (entry ∷ play.history) → AreCounts (entry ∷ play.history) later → giver play.script play.history entry.who ≡ g → Stands new later (with_binding bindings g (bound_by entry.call entry.reply))
-stands_more play new counts later bindings g entry e s fits room answers follows counted gives = subst (λ r. Stands r later (with_binding bindings g (bound_by entry.call entry.reply))) (sym e) (record {
-  lawful = (fits, answers, s.lawful);
-  room = room;
-  bounded = s.bounded;
-  follows = follows;
-  plain = s.plain;
-  known = s.known;
-  counted = counted;
-  bound = bindings_more play.script play.history entry bindings g s.known.asks s.known.seats gives s.bound;
-})
+pub stands_more : (play new : Play) (counts later : List ℕ) (bindings : List Binding) (g : Option ℕ) (entry : Entry (List ℕ))
+    → new ≡ with_entry play entry → Stands play counts bindings → Fits play.history entry.call → length play.history < play.limit
+    → answer play.history entry.call ≡ Some entry.reply → Follows play.script (entry ∷ play.history)
+    → AreCounts (entry ∷ play.history) later → giver play.script play.history entry.who ≡ g
+    → Stands new later (with_binding bindings g (bound_by entry.call entry.reply))
+stands_more play new counts later bindings g entry e s fits room answers follows counted gives =
+    subst (λ r. Stands r later (with_binding bindings g (bound_by entry.call entry.reply))) (sym e) (record {
+      lawful = (fits, answers, s.lawful);
+      room = room;
+      bounded = s.bounded;
+      follows = follows;
+      plain = s.plain;
+      known = s.known;
+      counted = counted;
+      bound = bindings_more play.script play.history entry bindings g s.known.asks s.known.seats gives s.bound;
+    })
 
-pub new_play : (script : Lines) (history later : History) (limit same : ℕ) (entry : Entry (List ℕ)) → later ≡ entry ∷ history → same ≡ limit → ◌≡◌ {A = Play} (record { script = script; history = later; limit = same }) (with_entry (record { script = script; history = history; limit = limit }) entry)
+pub new_play : (script : Lines) (history later : History) (limit same : ℕ) (entry : Entry (List ℕ)) → later ≡ entry ∷ history → same ≡ limit
+    → ◌≡◌ {A = Play} (record { script = script; history = later; limit = same })
+    (with_entry (record { script = script; history = history; limit = limit }) entry)
 new_play script history later limit same entry h l = rw (h, l) refl
 
 -- a declared object was made
-pub stands_declared : (p old : Play) (counts : List ℕ) (bindings : List Binding) (later : History) (same : ℕ) (asked : Call (List ℕ)) (r : Reply (List ℕ)) → p ≡ old → Stands p counts bindings → IsNextObject old asked
-    → later ≡ (record { who = Seat 0; call = asked; reply = r }) ∷ p.history → same ≡ p.limit → Fits p.history asked → length p.history < p.limit → answer p.history asked ≡ Some r → Stands (record { script = p.script; history = later; limit = same }) counts bindings
+pub stands_declared : (p old : Play) (counts : List ℕ) (bindings : List Binding) (later : History) (same : ℕ) (asked : Call (List ℕ))
+    (r : Reply (List ℕ)) → p ≡ old → Stands p counts bindings → IsNextObject old asked
+    → later ≡ (record { who = Seat 0; call = asked; reply = r }) ∷ p.history → same ≡ p.limit → Fits p.history asked → length p.history
+    < p.limit → answer p.history asked ≡ Some r → Stands (record { script = p.script; history = later; limit = same }) counts bindings
 stands_declared p old counts bindings later same asked r view s next grown kept fits room answers =
     let entry : Entry (List ℕ) = record { who = Seat 0; call = asked; reply = r } in
     let here = subst (λ (q : Play). IsNextObject q asked) (sym view) next in
-    stands_more p (record { script = p.script; history = later; limit = same }) counts counts bindings None entry (new_play p.script p.history later p.limit same entry grown kept) s fits room answers
+    stands_more p (record { script = p.script; history = later; limit = same }) counts counts bindings None entry
+    (new_play p.script p.history later p.limit same entry grown kept) s fits room answers
     (follows_declaration p.script p.history entry here.left (record {
       by = sym (plain_maker p.script s.plain (length p.history));
       makes = here.makes;
@@ -182,7 +225,8 @@ stands_declared p old counts bindings later same asked r view s next grown kept 
     (counts_declared p.history entry counts refl s.counted)
     (ap (option_and_then (given_by p.script)) (none_first p.script p.history s.known.seats))
 
-pub step_of : (script : Lines) (before : History) (entry : Entry (List ℕ)) (i : ℕ) → IsStepAt script before entry i → IsStep script before entry
+pub step_of : (script : Lines) (before : History) (entry : Entry (List ℕ)) (i : ℕ)
+    → IsStepAt script before entry i → IsStep script before entry
 step_of script before entry i s = record {
   step = i;
   seat = s.least.seat;
@@ -192,30 +236,41 @@ step_of script before entry i s = record {
 }
 
 -- the thread and the seat of the step that is performed
-pub seat_is : (script : Lines) (history : History) (items : List Step) (i : ℕ) (s : Step) → map (λ x. source_of x.line) items ≡ script.steps → All (ReadsStep (names_of script)) items → slice_get items i ≡ Some s → (l : IsLeast script history i) → s.seat ≡ l.seat
+pub seat_is : (script : Lines) (history : History) (items : List Step) (i : ℕ) (s : Step) → map (λ x. source_of x.line) items ≡ script.steps
+    → All (ReadsStep (names_of script)) items → slice_get items i ≡ Some s → (l : IsLeast script history i) → s.seat ≡ l.seat
 seat_is script history items i s lines reads found l =
     let read = all_at (ReadsStep (names_of script)) items i s reads found in
-    let same : source_of s.line ≡ l.ready.line = same_Some _ _ (sym (mapped_at (λ x. source_of x.line) items script.steps i s lines found) ∙ l.ready.found) in
-    eqb-true s.seat l.seat (sym (step_seated script s l.seat read) ∙ ap (is_seated script l.seat) same ∙ called_seated script l.seat l.ready.line l.ready.seated)
+    let same : source_of s.line ≡ l.ready.line =
+    same_Some _ _ (sym (mapped_at (λ x. source_of x.line) items script.steps i s lines found) ∙ l.ready.found) in
+    eqb-true s.seat l.seat (sym (step_seated script s l.seat read) ∙ ap (is_seated script l.seat) same
+    ∙ called_seated script l.seat l.ready.line l.ready.seated)
 
-pub step_at : (script : Lines) (history : History) (i : ℕ) (seat : ℕ) (asked : Call (List ℕ)) (reply : Reply (List ℕ)) (l : IsLeast script history i) → seat ≡ l.seat → step_call script history i ≡ Some asked → IsStepAt script history (record { who = Seat seat; call = asked; reply = reply }) i
+pub step_at : (script : Lines) (history : History) (i : ℕ) (seat : ℕ) (asked : Call (List ℕ)) (reply : Reply (List ℕ))
+    (l : IsLeast script history i) → seat ≡ l.seat → step_call script history i ≡ Some asked
+    → IsStepAt script history (record { who = Seat seat; call = asked; reply = reply }) i
 step_at script history i seat asked reply l same calls = record {
   least = l;
   who = ap Seat same;
   call = same_Some _ _ (sym calls ∙ l.ready.calls);
 }
 
-pub stands_performed : (p new : Play) (counts : List ℕ) (bindings : List Binding) (entry : Entry (List ℕ)) (i seat n : ℕ) (g : Option ℕ) → Stands p counts bindings → new ≡ with_entry p entry → Fits p.history entry.call → length p.history < p.limit → answer p.history entry.call ≡ Some entry.reply → declared_count p.script ≤ length p.history → IsStepAt p.script p.history entry i → entry.who ≡ Seat seat → 1 ≤ seat → seat ≤ 64 → n ≡ get_or counts (seat - 1) n → g ≡ given_by p.script i → Stands new (slice_set counts (seat - 1) (n + 1)) (with_binding bindings g (bound_by entry.call entry.reply))
+pub stands_performed : (p new : Play) (counts : List ℕ) (bindings : List Binding) (entry : Entry (List ℕ)) (i seat n : ℕ) (g : Option ℕ)
+    → Stands p counts bindings → new ≡ with_entry p entry → Fits p.history entry.call → length p.history < p.limit
+    → answer p.history entry.call ≡ Some entry.reply → declared_count p.script ≤ length p.history → IsStepAt p.script p.history entry i
+    → entry.who ≡ Seat seat → 1 ≤ seat → seat ≤ 64 → n ≡ get_or counts (seat - 1) n → g ≡ given_by p.script i
+    → Stands new (slice_set counts (seat - 1) (n + 1)) (with_binding bindings g (bound_by entry.call entry.reply))
 stands_performed p new counts bindings entry i seat n g s e fits room answers declared step who low high read given =
     let here : seat - 1 + 1 ≡ seat = omega (arith, low) in
     let lt : seat - 1 < 64 = omega (arith, low, high) in
-    let next : next_position p.script p.history entry.who ≡ Some i = ap (next_position p.script p.history) step.who ∙ next_is p.script p.history step.least.seat i step.least.asked step.least.ready in
+    let next : next_position p.script p.history entry.who ≡ Some i = ap (next_position p.script p.history) step.who
+    ∙ next_is p.script p.history step.least.seat i step.least.asked step.least.ready in
     stands_more p new counts (slice_set counts (seat - 1) (n + 1)) bindings g entry e s fits room answers
     (follows_step p.script p.history entry declared (step_of p.script p.history entry i step) s.follows)
     (counts_performed p.history entry counts (seat - 1) n (who ∙ ap Seat (sym here)) lt (count_is s (seat - 1) n lt read) s.counted)
     (ap (option_and_then (given_by p.script)) next ∙ sym given)
 
-pub count_fits : (p : Play) (counts : List ℕ) (bindings : List Binding) (seat n : ℕ) → Stands p counts bindings → 1 ≤ seat → seat ≤ 64 → n ≡ get_or counts (seat - 1) n → length p.history < p.limit → n + 1 < 2 ^ 64
+pub count_fits : (p : Play) (counts : List ℕ) (bindings : List Binding) (seat n : ℕ) → Stands p counts bindings → 1 ≤ seat → seat ≤ 64
+    → n ≡ get_or counts (seat - 1) n → length p.history < p.limit → n + 1 < 2 ^ 64
 count_fits p counts bindings seat n s low high read room =
     let lt : seat - 1 < 64 = omega (arith, low, high) in
     omega (arith, count_is s (seat - 1) n lt read, performed_small s (seat - 1 + 1), room, s.bounded)
@@ -227,10 +282,18 @@ pub record IsPerformed (p : Play) (i : ℕ) (s : Step) (asked : Call (List ℕ))
   pub declared : declared_count p.script ≤ length p.history
   pub step : (reply : Reply (List ℕ)) → IsStepAt p.script p.history (record { who = Seat s.seat; call = asked; reply = reply }) i
 
-pub is_performed : (p old : Play) (items : List Step) (i : ℕ) (d : Step) (asked : Call (List ℕ)) → p ≡ old → map (λ x. source_of x.line) items ≡ p.script.steps → All (ReadsStep (names_of p.script)) items → thread_count (names_of p.script) ≤ 64 → IsLeast old.script old.history i → declared_count old.script ≤ length old.history → step_call old.script old.history i ≡ Some asked → IsPerformed p i (get_or items i d) asked
+pub is_performed : (p old : Play) (items : List Step) (i : ℕ) (d : Step) (asked : Call (List ℕ)) → p ≡ old
+    → map (λ x. source_of x.line) items ≡ p.script.steps → All (ReadsStep (names_of p.script)) items → thread_count (names_of p.script) ≤ 64
+    → IsLeast old.script old.history i → declared_count old.script ≤ length old.history → step_call old.script old.history i ≡ Some asked
+    → IsPerformed p i (get_or items i d) asked
 is_performed p old items i d asked view lines reads few ready declared calls =
     let l = subst (λ (r : Play). IsLeast r.script r.history i) (sym view) ready in
-    let within : i < length items = omega (arith, slice_get_within p.script.steps i l.ready.line l.ready.found, ap length lines, length-map items (λ (x : Step). source_of x.line)) in
+    let within : i < length items = omega (
+      arith,
+      slice_get_within p.script.steps i l.ready.line l.ready.found,
+      ap length lines,
+      length-map items (λ (x : Step). source_of x.line),
+    ) in
     let s = get_or items i d in
     let found = slice_get-get_or items i d within in
     let read = all_at (ReadsStep (names_of p.script)) items i s reads found in
@@ -242,33 +305,46 @@ is_performed p old items i d asked view lines reads few ready declared calls =
           (subst (λ (r : Play). step_call r.script r.history i ≡ Some asked) (sym view) calls);
     }
 
-pub performs : (p old new : Play) (i : ℕ) (s : Step) (asked : Call (List ℕ)) (reply : Reply (List ℕ)) → p ≡ old → new ≡ with_entry p (record { who = Seat s.seat; call = asked; reply = reply }) → IsPerformed p i s asked → (entry : Entry (List ℕ)) × (new ≡ with_entry old entry) × IsStepAt old.script old.history entry i
+pub performs : (p old new : Play) (i : ℕ) (s : Step) (asked : Call (List ℕ)) (reply : Reply (List ℕ)) → p ≡ old
+    → new ≡ with_entry p (record { who = Seat s.seat; call = asked; reply = reply }) → IsPerformed p i s asked
+    → (entry : Entry (List ℕ)) × (new ≡ with_entry old entry) × IsStepAt old.script old.history entry i
 performs p old new i s asked reply view e performed = (
   record { who = Seat s.seat; call = asked; reply = reply },
   e ∙ ap (λ (r : Play). with_entry r (record { who = Seat s.seat; call = asked; reply = reply })) view,
-  subst (λ (r : Play). IsStepAt r.script r.history (record { who = Seat s.seat; call = asked; reply = reply }) i) view (performed.step reply),
+  subst (λ (r : Play). IsStepAt r.script r.history (record { who = Seat s.seat; call = asked; reply = reply }) i)
+      view (performed.step reply),
 )
 
 -- a name that a step gives is one of the script's
-pub given_within : (script : Lines) (i at : ℕ) → NamesAreGiven (names_of script) script.declarations script.steps → given_by script i ≡ Some at → at < length (names_of script)
+pub given_within : (script : Lines) (i at : ℕ) → NamesAreGiven (names_of script) script.declarations script.steps
+    → given_by script i ≡ Some at → at < length (names_of script)
 given_within script i at given by =
     let line = given_line script i at by in
     let port = given.steps i line.0 line.1 line.2 in
-    omega (arith, slice_get_within (names_of script) (names_before script.declarations script.steps i) (port.0, called.Port (users.One port.1)) port.4, line.3)
+    omega (
+      arith,
+      slice_get_within (names_of script) (names_before script.declarations script.steps i) (port.0, called.Port (users.One port.1)) port.4,
+      line.3,
+    )
 
-pub bind_within : (script : Lines) (history : History) (bindings : List Binding) (i : ℕ) (g : Option ℕ) → IsKnown script → AreBindings script history bindings → g ≡ given_by script i → IfSome g (λ at. at < length bindings)
+pub bind_within : (script : Lines) (history : History) (bindings : List Binding) (i : ℕ) (g : Option ℕ) → IsKnown script
+    → AreBindings script history bindings → g ≡ given_by script i → IfSome g (λ at. at < length bindings)
 bind_within script history bindings i None known bound given = tt
-bind_within script history bindings i (Some at) known bound given = omega (arith, given_within script i at known.given (sym given), bound.all)
+bind_within script history bindings i (Some at) known bound given =
+    omega (arith, given_within script i at known.given (sym given), bound.all)
 
 slice_get_replicated : {X : Type 0} (n i : ℕ) (x : X) → i < n → slice_get (replicate n x) i ≡ Some x
 slice_get_replicated n i x lt =
-    slice_get_read (replicate n x) (length (replicate n x)) i x refl (omega (arith, lt, length-replicate n x)) (sym (get_or-replicate n i x x lt))
+    slice_get_read (replicate n x) (length (replicate n x)) i x refl (omega (arith, lt, length-replicate n x))
+    (sym (get_or-replicate n i x x lt))
 
 -- nothing was performed
-pub unbound : (script : Lines) (n : ℕ) (history : History) → history ≡ [] → n ≡ length (names_of script) → AreBindings script history (replicate n binding.Unbound)
+pub unbound : (script : Lines) (n : ℕ) (history : History) → history ≡ [] → n ≡ length (names_of script)
+    → AreBindings script history (replicate n binding.Unbound)
 unbound script n history none all = record {
   all = length-replicate n binding.Unbound ∙ all;
-  each = λ at lt. slice_get_replicated n at binding.Unbound (omega (arith, lt, length-replicate n binding.Unbound)) ∙ ap (λ h. Some (binding_of script h at)) (sym none);
+  each = λ at lt. slice_get_replicated n at binding.Unbound (omega (arith, lt, length-replicate n binding.Unbound))
+      ∙ ap (λ h. Some (binding_of script h at)) (sym none);
 }
 
 pub counted_none : (history : History) (counts : List ℕ) → history ≡ [] → counts ≡ replicate 64 0 → AreCounts history counts

@@ -1,5 +1,6 @@
 -- The name that a thread's next step uses has an object of its kind.
-use Rattle.std.proofs.Common.{◌≡◌, ℕ, ◌<◌, ◌≤◌, true, false, eqb, List, length, map, get_or, slice_get, Option, Some, None, IsSome, IfSome, MatchOption, refl, sym, ap, subst, ◌∙◌, arith, inl, inr}
+use Rattle.std.proofs.Common.{◌≡◌, ℕ, ◌<◌, ◌≤◌, true, false, eqb, List, length, map, get_or, slice_get, Option, Some, None, IsSome}
+use Rattle.std.proofs.Common.{IfSome, MatchOption, refl, sym, ap, subst, ◌∙◌, arith, inl, inr}
 use Rattle.std.specs.Prelude.{All}
 use Rattle.std.specs.Option.{option_map, option_map_or}
 use Rattle.std.proofs.lemmas.Option.{none-some, same_Some, slice_get_within, slice_get-get_or}
@@ -30,35 +31,43 @@ the_some : (o : Option ℕ) → IsSome o → (n : ℕ) × (o ≡ Some n)
 the_some None some = absurd (false≢true some)
 the_some (Some n) some = (n, refl)
 
-pub made_option : (r : Option Name) (o p : Option ℕ) → r ≡ option_map (λ n. record { 0 = n }) o → o ≡ p → MatchOption r (p ≡ None) (λ name. p ≡ Some name.0)
+pub made_option : (r : Option Name) (o p : Option ℕ) → r ≡ option_map (λ n. record { 0 = n }) o → o ≡ p
+    → MatchOption r (p ≡ None) (λ name. p ≡ Some name.0)
 made_option r None p e same = subst (λ (x : Option Name). MatchOption x (p ≡ None) (λ name. p ≡ Some name.0)) (sym e) (sym same)
 made_option r (Some n) p e same = subst (λ (x : Option Name). MatchOption x (p ≡ None) (λ name. p ≡ Some name.0)) (sym e) (sym same)
 
 module _ (script : Lines) (history : History) (known : IsKnown script) where
   -- a name that a step of this thread gave, before those that it performs next
-  own_name : (seat i k at : ℕ) (line : SourceLine) → AreSteps script history → next_position script history (Seat seat) ≡ Some i → k < i → slice_get script.steps k ≡ Some line → is_seated script seat line ≡ true → is_giving line ≡ true
-      → at ≡ names_before script.declarations script.steps k → length script.declarations ≤ at → (n : ℕ) × (object_of script history at ≡ Some n)
+  own_name : (seat i k at : ℕ) (line : SourceLine) → AreSteps script history → next_position script history (Seat seat) ≡ Some i → k < i
+      → slice_get script.steps k ≡ Some line → is_seated script seat line ≡ true → is_giving line ≡ true
+      → at ≡ names_before script.declarations script.steps k → length script.declarations ≤ at
+      → (n : ℕ) × (object_of script history at ≡ Some n)
   own_name seat i k at line steps next lt found seated gives same ge =
       let there = position_is (is_called script seat) 0 script.steps (performed history seat) i next in
       let called = giving_called script k seat line known.asks found gives seated in
       let counted = counted_mono (is_called script seat) script.steps k there.place line (omega (arith, lt, there.at)) found called in
       let done : earlier script seat k < performed history seat = omega (arith, counted, there.behind) in
       let bound = gave script known.asks known.seats history k seat line steps found called gives done in
-      let object = the_some (port_bound (binding_of script history at)) (subst (λ n. IsSome (port_bound (binding_of script history n))) (sym same) bound) in
+      let object = the_some (port_bound (binding_of script history at))
+      (subst (λ n. IsSome (port_bound (binding_of script history n))) (sym same) bound) in
       (object.0, object_given script history at ge ∙ object.1)
 
   -- the name that a thread's next step uses has an object
-  pub used_stands_for : (items : List Step) (i seat : ℕ) (s : Step) → AreSteps script history → map (λ x. source_of x.line) items ≡ script.steps → All (ReadsStep (names_of script)) items → UsesEarlier script items → slice_get items i ≡ Some s → next_position script history (Seat seat) ≡ Some i → declared_count script ≤ length history
+  pub used_stands_for : (items : List Step) (i seat : ℕ) (s : Step) → AreSteps script history
+      → map (λ x. source_of x.line) items ≡ script.steps → All (ReadsStep (names_of script)) items → UsesEarlier script items
+      → slice_get items i ≡ Some s → next_position script history (Seat seat) ≡ Some i → declared_count script ≤ length history
       → (n : ℕ) × (object_of script history (used_by s.action) ≡ Some n)
-  used_stands_for items i seat s steps lines reads uses_earlier item next declared = elim (cases_lt (used_by s.action) (length script.declarations)) [
-    | inl lt ↦
-        let d = declared_stands script history known.named (used_by s.action) declared lt (used_object (names_of script) s.action read.uses) in
-        (d.0, object_declared script history (used_by s.action) lt ∙ d.1)
-    | inr ge ↦ elim (known.given.each (used_by s.action) read.yours.0 read.yours.1) [
-      | inl lt ↦ absurd (omega (arith, lt, ge))
-      | inr given ↦ by_step ge given
-    ]
-  ]
+  used_stands_for items i seat s steps lines reads uses_earlier item next declared =
+      elim (cases_lt (used_by s.action) (length script.declarations)) [
+        | inl lt ↦
+            let d =
+            declared_stands script history known.named (used_by s.action) declared lt (used_object (names_of script) s.action read.uses) in
+            (d.0, object_declared script history (used_by s.action) lt ∙ d.1)
+        | inr ge ↦ elim (known.given.each (used_by s.action) read.yours.0 read.yours.1) [
+          | inl lt ↦ absurd (omega (arith, lt, ge))
+          | inr given ↦ by_step ge given
+        ]
+      ]
     where
       read : ReadsStep (names_of script) s
       read = all_at (ReadsStep (names_of script)) items i s reads item
@@ -67,15 +76,19 @@ module _ (script : Lines) (history : History) (known : IsKnown script) where
       mine =
           let there = position_is (is_called script seat) 0 script.steps (performed history seat) i next in
           let here : i ≡ there.place = omega (arith, there.at) in
-          let same : there.line ≡ source_of s.line = same_Some _ _ (sym there.found ∙ ap (slice_get script.steps) (sym here) ∙ mapped_at (λ (x : Step). source_of x.line) items script.steps i s lines item) in
-          eqb-true s.seat seat (sym (step_seated script s seat read) ∙ ap (is_seated script seat) (sym same) ∙ called_seated script seat there.line there.seated)
+          let same : there.line ≡ source_of s.line = same_Some _ _ (sym there.found ∙ ap (slice_get script.steps) (sym here)
+          ∙ mapped_at (λ (x : Step). source_of x.line) items script.steps i s lines item) in
+          eqb-true s.seat seat (sym (step_seated script s seat read) ∙ ap (is_seated script seat) (sym same)
+          ∙ called_seated script seat there.line there.seated)
 
-      by_step : length script.declarations ≤ used_by s.action → IsGivenAt script.declarations script.steps (used_by s.action) → (n : ℕ) × (object_of script history (used_by s.action) ≡ Some n)
+      by_step : length script.declarations ≤ used_by s.action → IsGivenAt script.declarations script.steps (used_by s.action)
+          → (n : ℕ) × (object_of script history (used_by s.action) ≡ Some n)
       by_step ge (k, line, found, gives, same) =
           let port = known.given.steps k line found gives in
           let named = same_Some _ _ (sym read.yours.1 ∙ ap (slice_get (names_of script)) same ∙ port.4) in
           let owner : port.1 ≡ seat = subst (λ (g : Given). MayUse s.seat g.1) named read.yours.2 ∙ mine in
-          let seated : is_seated script seat line ≡ true = ap (λ o. option_map_or (λ t. eqb t seat) o false) port.3 ∙ eq-eqb port.1 seat owner in
+          let seated : is_seated script seat line ≡ true =
+          ap (λ o. option_map_or (λ t. eqb t seat) o false) port.3 ∙ eq-eqb port.1 seat owner in
           let lt : k < i = elim (cases_lt k i) [
             | inl lt ↦ lt
             | inr le ↦ absurd (omega (arith, names_le script i k le, uses_earlier i s item, same))
@@ -92,10 +105,12 @@ module _ (script : Lines) (history : History) (known : IsKnown script) where
   ]
 
   -- a name's object is of the name's kind
-  pub object_kind_at : (at n : ℕ) (k : Kind) → IsOfScript script history → Lawful history → object_of script history at ≡ Some n → IsObjectAt (names_of script) at k → kind_of history n ≡ Some k
+  pub object_kind_at : (at n : ℕ) (k : Kind) → IsOfScript script history → Lawful history → object_of script history at ≡ Some n
+      → IsObjectAt (names_of script) at k → kind_of history n ≡ Some k
   object_kind_at at n k own lawful object named = elim (cases_lt at (length script.declarations)) [
     | inl lt ↦ declared_kind script history known.named at n k own lawful lt (sym (object_declared script history at lt) ∙ object) named
-    | inr ge ↦ bound_port script known.asks known.seats history at n own lawful (sym (object_given script history at ge) ∙ object) ∙ given_port at k ge named
+    | inr ge ↦ bound_port script known.asks known.seats history at n own lawful (sym (object_given script history at ge) ∙ object)
+        ∙ given_port at k ge named
   ]
 
   -- what was made for a name is its object
@@ -111,7 +126,8 @@ module _ (script : Lines) (history : History) (known : IsKnown script) where
       by_binding (binding.Closed name) e = absurd (none-some n e)
 
   -- what is looked up as made for a name is of the name's kind
-  pub made_kind : (at : ℕ) (r : Option Name) → IsOfScript script history → Lawful history → MatchOption r (made_of script history at ≡ None) (λ name. made_of script history at ≡ Some name.0)
+  pub made_kind : (at : ℕ) (r : Option Name) → IsOfScript script history → Lawful history
+      → MatchOption r (made_of script history at ≡ None) (λ name. made_of script history at ≡ Some name.0)
       → IfSome r (λ name. (k : Kind) → IsObjectAt (names_of script) at k → kind_of history name.0 ≡ Some k)
   made_kind at None own lawful made = tt
   made_kind at (Some name) own lawful made = λ k named. object_kind_at at name.0 k own lawful (made_stands at name.0 made) named
@@ -120,10 +136,14 @@ pub object_within : (names : List Given) (at : ℕ) → IsObject names at → at
 object_within names at object = slice_get_within names at (object.1.0, object.1.1) object.1.2
 
 module _ {play : Play} {counts : List ℕ} {bindings : List Binding} (stands : Stands play counts bindings) where
-  pub used_is_bound : (items : List Step) (i seat : ℕ) (s : Step) → map (λ x. source_of x.line) items ≡ play.script.steps → All (ReadsStep (names_of play.script)) items → UsesEarlier play.script items → slice_get items i ≡ Some s → next_position play.script play.history (Seat seat) ≡ Some i → declared_count play.script ≤ length play.history → IsBound play (used_by s.action)
+  pub used_is_bound : (items : List Step) (i seat : ℕ) (s : Step) → map (λ x. source_of x.line) items ≡ play.script.steps
+      → All (ReadsStep (names_of play.script)) items → UsesEarlier play.script items → slice_get items i ≡ Some s
+      → next_position play.script play.history (Seat seat) ≡ Some i
+      → declared_count play.script ≤ length play.history → IsBound play (used_by s.action)
   used_is_bound items i seat s lines reads uses_earlier item next declared =
       let own = follows_own play.script play.history stands.follows in
-      let object = used_stands_for play.script play.history stands.known items i seat s (script_steps play.script play.history own stands.lawful) lines reads uses_earlier item next declared in
+      let object = used_stands_for play.script play.history stands.known items i seat s
+      (script_steps play.script play.history own stands.lawful) lines reads uses_earlier item next declared in
       record {
         named = used_object (names_of play.script) s.action (all_at (ReadsStep (names_of play.script)) items i s reads item).uses;
         object = object.0;
@@ -131,21 +151,34 @@ module _ {play : Play} {counts : List ℕ} {bindings : List Binding} (stands : S
         kind = λ k is. object_kind_at play.script play.history stands.known (used_by s.action) object.0 k own stands.lawful object.1 is;
       }
 
-pub used_stands : (p old : Play) (counts : List ℕ) (bindings : List Binding) → p ≡ old → Stands p counts bindings → (items : List Step) (i : ℕ) (d : Step) → map (λ x. source_of x.line) items ≡ p.script.steps → All (ReadsStep (names_of p.script)) items → UsesEarlier p.script items
-    → i < length old.script.steps → IsNextStep old i → declared_count old.script ≤ length old.history → IsBound old (used_by (get_or items i d).action)
+pub used_stands : (p old : Play) (counts : List ℕ) (bindings : List Binding) → p ≡ old → Stands p counts bindings
+    → (items : List Step) (i : ℕ) (d : Step) → map (λ x. source_of x.line) items ≡ p.script.steps
+    → All (ReadsStep (names_of p.script)) items → UsesEarlier p.script items
+    → i < length old.script.steps → IsNextStep old i → declared_count old.script ≤ length old.history
+    → IsBound old (used_by (get_or items i d).action)
 used_stands p old counts bindings view stands items i d lines reads uses_earlier within next declared =
-    let here : i < length items = omega (arith, within, ap (λ (r : Play). length r.script.steps) view, ap length lines, length-map items (λ (x : Step). source_of x.line)) in
+    let here : i < length items = omega (
+      arith,
+      within,
+      ap (λ (r : Play). length r.script.steps) view,
+      ap length lines,
+      length-map items (λ (x : Step). source_of x.line),
+    ) in
     let step = subst (λ (r : Play). IsNextStep r i) (sym view) next in
     subst (λ (r : Play). IsBound r (used_by (get_or items i d).action)) view
     (used_is_bound stands items i step.0 (get_or items i d) lines reads uses_earlier (slice_get-get_or items i d here) step.1
     (subst (λ (r : Play). declared_count r.script ≤ length r.history) (sym view) declared))
 
-pub declared_length : (items : List Declaration) (script other : Lines) → map (λ d. source_of d.line) items ≡ script.declarations → script ≡ other → length items ≡ length other.declarations
-declared_length items script other lines same = sym (length-map items (λ (d : Declaration). source_of d.line)) ∙ ap length lines ∙ ap (λ (s : Lines). length s.declarations) same
+pub declared_length : (items : List Declaration) (script other : Lines) → map (λ d. source_of d.line) items ≡ script.declarations
+    → script ≡ other → length items ≡ length other.declarations
+declared_length items script other lines same = sym (length-map items (λ (d : Declaration). source_of d.line)) ∙ ap length lines
+    ∙ ap (λ (s : Lines). length s.declarations) same
 
 -- what is looked up for a name that has an object
-pub bound_is : (p old : Play) (counts : List ℕ) (bindings slice : List Binding) (at made : ℕ) (r : Option Name) → p ≡ old → Stands p counts bindings → (bound : IsBound old at) → length p.history ≡ made → slice ≡ bindings
-    → ((history : History) → length history ≡ made → AreBindings p.script history slice → r ≡ option_map (λ o. record { 0 = o }) (object_of p.script history at)) → r ≡ Some (record { 0 = bound.object })
+pub bound_is : (p old : Play) (counts : List ℕ) (bindings slice : List Binding) (at made : ℕ) (r : Option Name) → p ≡ old
+    → Stands p counts bindings → (bound : IsBound old at) → length p.history ≡ made → slice ≡ bindings
+    → ((history : History) → length history ≡ made → AreBindings p.script history slice
+    → r ≡ option_map (λ o. record { 0 = o }) (object_of p.script history at)) → r ≡ Some (record { 0 = bound.object })
 bound_is p old counts bindings slice at made r view stands bound long same told =
     let named = λ (n : ℕ). let name : Name = record { 0 = n } in name in
     told p.history long (subst (AreBindings p.script p.history) (sym same) stands.bound)

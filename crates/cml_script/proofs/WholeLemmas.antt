@@ -6,9 +6,11 @@ use Rattle.cml_board.specs.Prelude.{Entry, entries_in, Shown, full_at, HasRoom}
 
 module _ {M : Type 0} where
   -- its journal has all entries
-  pub whole_journal : (board : Shown M) (journal : List (Entry M)) → board.past ≡ [] → reverse journal ++ board.past ≡ board.history → journal ≡ reverse board.history
+  pub whole_journal : (board : Shown M) (journal : List (Entry M)) → board.past ≡ []
+      → reverse journal ++ board.past ≡ board.history → journal ≡ reverse board.history
   whole_journal board journal whole entries =
-      let all : reverse journal ≡ board.history = sym (append-nil (reverse journal)) ∙ ap (λ past. reverse journal ++ past) (sym whole) ∙ entries in
+      let all : reverse journal ≡ board.history = sym (append-nil (reverse journal))
+      ∙ ap (λ past. reverse journal ++ past) (sym whole) ∙ entries in
       sym (reverse-reverse journal) ∙ ap reverse all
 
   -- its limit is that of all entries

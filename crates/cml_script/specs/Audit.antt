@@ -48,7 +48,8 @@ IsOfCaller script before entry (Feed feed) = IsOfFeed script feed entry.call
 -- what lanes and feeds move
 abbrev pub IsOwn : Lines → History → Entry (List ℕ) → Type 0
 IsOwn script before entry =
-    MatchBool (nat_lt (entries_in before) (declared_count script)) (IsDeclaration script before entry) (IsOfCaller script before entry entry.who)
+    MatchBool (nat_lt (entries_in before) (declared_count script)) (IsDeclaration script before entry)
+    (IsOfCaller script before entry entry.who)
 
 -- each entry is
 abbrev pub IsOfScript : Lines → History → Type 0

@@ -29,7 +29,8 @@ AreSuiting (entry ∷ before) = (suits entry.call entry.reply ≡ true) × AreSu
 pub record IsUnderWay (script : Lines) (seat place : ℕ) (course : Course) (made : Option Made) : Type 0 where
   pub entries : History
   pub apart : List Apart
-  pub told : IfSome made (λ tells. tells ≡ record { seat = seat; entries = entries; opened = []; apart = apart; is_sending = course.is_sending; refused = None })
+  pub told : IfSome made (λ tells.
+      tells ≡ record { seat = seat; entries = entries; opened = []; apart = apart; is_sending = course.is_sending; refused = None })
   pub by : AreBySeat seat entries
   pub count : course.made ≡ declared_count script + entries_in entries
   pub called : entries_in entries ≡ earlier script seat place

@@ -19,5 +19,7 @@ HasCapacity m = ⊤
 -- what a caller made later has this besides: nothing for a thread, a feed with its port, or what its seat was answered
 abbrev pub HasMade : Lines → Makes → Option Made → Option Made → Type 0
 HasMade script makes.Thread before after = after ≡ before
-HasMade script (makes.Feed feed) before after = (port : Name) × (after ≡ option_map (with_feed (record { 0 = number_of script feed.channel }) feed.capacity port) before)
-HasMade script m before after = (asked : Call (List ℕ)) × (answered : Reply (List ℕ)) × (making script m ≡ Some asked) × (after ≡ option_map (with_call asked answered) before)
+HasMade script (makes.Feed feed) before after = (port : Name)
+    × (after ≡ option_map (with_feed (record { 0 = number_of script feed.channel }) feed.capacity port) before)
+HasMade script m before after = (asked : Call (List ℕ)) × (answered : Reply (List ℕ)) × (making script m ≡ Some asked)
+    × (after ≡ option_map (with_call asked answered) before)

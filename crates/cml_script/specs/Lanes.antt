@@ -1,5 +1,6 @@
 -- Whether what lanes moved is what a script's threads sent by them.
-use Rattle.std.specs.Prelude.{ℕ, ◌≡◌, ◌≢◌, ◌+◌, ◌<◌, ◌≤◌, ◌==◌, ◌&&◌, Bool, true, false, List, [], ◌∷◌, ◌++◌, length, drop, slice_get, Option, Some, if◌then◌else◌, ⊤}
+use Rattle.std.specs.Prelude.{ℕ, ◌≡◌, ◌≢◌, ◌+◌, ◌<◌, ◌≤◌, ◌==◌, ◌&&◌, Bool, true, false, List, [], ◌∷◌, ◌++◌, length, drop}
+use Rattle.std.specs.Prelude.{slice_get, Option, Some, if◌then◌else◌, ⊤}
 use Rattle.std.specs.Option.{option_map, option_map_or}
 use Rattle.std.specs.List.{list_any}
 use Rattle.cml_board.specs.Prelude.{Call, Who, Entry}
@@ -49,7 +50,8 @@ is_moved_to lanes seat object entry = is_lane_of lanes seat entry.who && is_sent
 abbrev pub moved_to : List ℕ → ℕ → ℕ → History → List (Option (Call (List ℕ)))
 moved_to lanes seat object [] = []
 moved_to lanes seat object (entry ∷ before) =
-    if is_moved_to lanes seat object entry then moved_to lanes seat object before ++ Some entry.call ∷ [] else moved_to lanes seat object before
+    if is_moved_to lanes seat object entry then moved_to lanes seat object before ++ Some entry.call ∷ []
+    else moved_to lanes seat object before
 
 -- The one is the other.
 
@@ -59,16 +61,19 @@ IsBeginning {X} front whole = (rest : List X) × (front ++ rest ≡ whole)
 
 -- what the lanes of a thread moved to an object is the beginning of what the thread sends to it by lanes: each message, in order
 abbrev pub IsInOrder : Lines → List ℕ → History → ℕ → ℕ → Type 0
-IsInOrder script lanes history seat at = IsBeginning (moved_to lanes seat (number_of script at) history) (sends_to script seat at script.steps)
+IsInOrder script lanes history seat at =
+    IsBeginning (moved_to lanes seat (number_of script at) history) (sends_to script seat at script.steps)
 
 -- it is so of the thread and the object of the lane line at this position
 abbrev pub IsInOrderAt : Lines → List ℕ → History → ℕ → Type 0
-IsInOrderAt script lanes history k = (line : SourceLine) (laid : Laid) → slice_get script.lanes k ≡ Some line → lane_of (names_of script) line.words ≡ Some laid
+IsInOrderAt script lanes history k = (line : SourceLine) (laid : Laid) → slice_get script.lanes k ≡ Some line
+    → lane_of (names_of script) line.words ≡ Some laid
     → IsInOrder script lanes history laid.0.0 laid.0.1
 
 -- a lane of the thread of this lane line moved a message to its object
 abbrev pub is_moved_on : Lines → List ℕ → Entry (List ℕ) → SourceLine → Bool
-is_moved_on script lanes entry line = option_map_or (λ laid. is_moved_to lanes laid.0.0 (number_of script laid.0.1) entry) (lane_of (names_of script) line.words) false
+is_moved_on script lanes entry line =
+    option_map_or (λ laid. is_moved_to lanes laid.0.0 (number_of script laid.0.1) entry) (lane_of (names_of script) line.words) false
 
 -- what a lane moved was moved so on some lane line
 abbrev pub IsOnLine : Lines → List ℕ → Entry (List ℕ) → Type 0
@@ -101,7 +106,8 @@ pub record IsSent (script : Lines) (seat at from : ℕ) (asked : Call (List ℕ)
 
 -- it has another call, or there is none
 abbrev pub IsNotSent : Lines → ℕ → ℕ → ℕ → Call (List ℕ) → Type 0
-IsNotSent script seat at from asked = (rest : List (Option (Call (List ℕ)))) → sends_to script seat at (drop from script.steps) ≢ Some asked ∷ rest
+IsNotSent script seat at from asked = (rest : List (Option (Call (List ℕ))))
+    → sends_to script seat at (drop from script.steps) ≢ Some asked ∷ rest
 
 -- if a lane of the thread moved the entry to the object, it is what the thread sends next, and then come the steps from that
 -- position on

@@ -41,7 +41,8 @@ SomeThreadWaits =
 abbrev pub SomeThreadIsStuck : Type 0
 SomeThreadIsStuck =
     (text : List ℕ) (script : Lines) (limit : ℕ) (history : History) (tally : Tallied)
-    → IsScript text script → NobodyGoesOn script limit history tally → 0 < unperformed script history tally → (seat : ℕ) × WaitsAtNext script history seat
+    → IsScript text script → NobodyGoesOn script limit history tally → 0 < unperformed script history tally
+    → (seat : ℕ) × WaitsAtNext script history seat
 
 -- what a replay's report tells as left is what its schedule has left
 abbrev pub ReportsTellWhatIsLeft : Type 0

@@ -1,5 +1,6 @@
 -- What is known of a script before any of it is performed.
-use Rattle.std.specs.Prelude.{ℕ, ◌≡◌, ◌+◌, ◌<◌, ◌≤◌, Bool, List, true, nat_lt, length, take, map, slice_get, Option, Some, None, if◌then◌else◌, Vec, ⊤}
+use Rattle.std.specs.Prelude.{ℕ, ◌≡◌, ◌+◌, ◌<◌, ◌≤◌, Bool, List, true, nat_lt, length, take, map, slice_get, Option}
+use Rattle.std.specs.Prelude.{Some, None, if◌then◌else◌, Vec, ⊤}
 use Rattle.std.specs.Global.{Global}
 use Rattle.std.specs.Option.{option_map_or, option_and_then}
 use Rattle.cml_calls.specs.Prelude.{Kind}
@@ -35,11 +36,13 @@ IsObject names at = (k : Kind) × IsObjectAt names at k
 
 -- each object's name that a declaration gives is that of such an object
 abbrev pub NamesObjects : Lines → Type 0
-NamesObjects script = (at : ℕ) (k : Kind) → at < length script.declarations → IsObjectAt (names_of script) at k → (line : SourceLine) × (slice_get script.declarations at ≡ Some line) × (kind_declared script line ≡ Some k)
+NamesObjects script = (at : ℕ) (k : Kind) → at < length script.declarations → IsObjectAt (names_of script) at k
+    → (line : SourceLine) × (slice_get script.declarations at ≡ Some line) × (kind_declared script line ≡ Some k)
 
 -- each step is a thread's, whose seat is 1 to 64
 abbrev pub HasSeats : Lines → Type 0
-HasSeats script = (i : ℕ) (line : SourceLine) (seat : ℕ) → slice_get script.steps i ≡ Some line → is_seated script seat line ≡ true → (1 ≤ seat) × (seat ≤ 64)
+HasSeats script = (i : ℕ) (line : SourceLine) (seat : ℕ) → slice_get script.steps i ≡ Some line
+    → is_seated script seat line ≡ true → (1 ≤ seat) × (seat ≤ 64)
 
 -- how the i-th step goes
 abbrev pub route_at : Lines → ℕ → Route
@@ -52,7 +55,8 @@ HasLaneRoom other = ⊤
 
 -- just the steps that ask for a port give a name
 abbrev pub AsksForPorts : Lines → Type 0
-AsksForPorts script = (i : ℕ) (line : SourceLine) (asked : Action) → slice_get script.steps i ≡ Some line → action_of (names_of script) line.words ≡ Some asked → gives_name asked ≡ is_giving line
+AsksForPorts script = (i : ℕ) (line : SourceLine) (asked : Action) → slice_get script.steps i ≡ Some line
+    → action_of (names_of script) line.words ≡ Some asked → gives_name asked ≡ is_giving line
 
 -- what is so of each script without fault
 pub record IsKnown (script : Lines) : Type 0 where
@@ -82,7 +86,8 @@ pub record AreGivings (script : Lines) (givings : List (Option ℕ)) : Type 0 wh
   pub each : (i : ℕ) → i < length givings → slice_get givings i ≡ Some (given_by script i)
 
 -- what a plan keeps is so of its script
-pub record IsPlanned (script : Lines) (names : ℕ) (numbers feeds : List ℕ) (queues turns : List (List ℕ)) (givings : List (Option ℕ)) : Type 0 where
+pub record IsPlanned (script : Lines) (names : ℕ) (numbers feeds : List ℕ) (queues turns : List (List ℕ))
+    (givings : List (Option ℕ)) : Type 0 where
   pub known : IsKnown script
   pub total : names ≡ length (names_of script)
   pub numbered : AreNumbers script numbers

@@ -44,7 +44,8 @@ pub record IsTextForRun (fault : Fault) (text : List ℕ) : Type 0 where
 
 -- the reader's bytes were played so, and the text was written
 abbrev pub IsReplayed : Form → ℕ → Option (List ℕ) → Option (List ℕ) → Option (List ℕ) → Option (List ℕ) → Stop → Type 0
-IsReplayed form limit old new held holds stop = (text : List ℕ) × AreAll old new (IsPlayedTextAs form limit stop text) × Appends held holds text
+IsReplayed form limit old new held holds stop = (text : List ℕ)
+    × AreAll old new (IsPlayedTextAs form limit stop text) × Appends held holds text
 
 -- all of the reader's bytes were read, or more than a script has, and this is their fault
 abbrev pub IsFaulty : Option (List ℕ) → Option (List ℕ) → Fault → Type 0

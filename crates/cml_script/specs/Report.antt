@@ -1,5 +1,6 @@
 -- What a report says of a script and its history.
-use Rattle.std.specs.Prelude.{ℕ, suc, ◌+◌, ◌-◌, ◌==◌, not, Bool, false, nat_lt, List, [], ◌∷◌, ◌++◌, length, filter, slice_get, Option, Some, None, if◌then◌else◌, codes}
+use Rattle.std.specs.Prelude.{ℕ, suc, ◌+◌, ◌-◌, ◌==◌, not, Bool, false, nat_lt, List, [], ◌∷◌, ◌++◌, length, filter}
+use Rattle.std.specs.Prelude.{slice_get, Option, Some, None, if◌then◌else◌, codes}
 use Rattle.std.specs.Option.{option_map_or, option_and_then}
 use Rattle.std.specs.List.{join_with_byte}
 use Rattle.std.specs.Fmt.{decimal}
@@ -61,8 +62,10 @@ given_word line = option_map_or (λ word. word) (option_and_then (λ (l : Source
 
 -- what a lane made: its object is written by its declared name
 abbrev pub sent_text : Lines → Call (List ℕ) → List ℕ
-sent_text script (call.Send name message) = codes " send " ++ given_word (slice_get (objects_of script) name.0) ++ codes " " ++ message_word script.version message
-sent_text script (call.Cast name message) = codes " multicast " ++ given_word (slice_get (objects_of script) name.0) ++ codes " " ++ message_word script.version message
+sent_text script (call.Send name message) =
+    codes " send " ++ given_word (slice_get (objects_of script) name.0) ++ codes " " ++ message_word script.version message
+sent_text script (call.Cast name message) =
+    codes " multicast " ++ given_word (slice_get (objects_of script) name.0) ++ codes " " ++ message_word script.version message
 sent_text script _ = []
 
 -- what its caller made: a step is written as in the script
@@ -73,7 +76,8 @@ made_text script before asked (who.Feed feed) =
     codes "feed " ++ decimal feed ++ codes " recv " ++ given_word (slice_get (filter (is_feed script) script.declarations) feed)
 
 abbrev pub entry_line : Lines → History → Entry (List ℕ) → List ℕ
-entry_line script before entry = made_text script before entry.call entry.who ++ codes ": " ++ reply_word script.version entry.reply ++ line_end
+entry_line script before entry =
+    made_text script before entry.call entry.who ++ codes ": " ++ reply_word script.version entry.reply ++ line_end
 
 abbrev pub entry_lines : Lines → History → List ℕ
 entry_lines script [] = []
@@ -177,11 +181,14 @@ unperformed script history tally = length script.steps - (how_many is_step_entry
 abbrev pub end_line : Lines → History → Tallied → Stop → List ℕ
 end_line script history tally Done = codes "end: done " ++ decimal (performed_count script history) ++ line_end
 end_line script history tally Stalled =
-    codes "end: stalled " ++ decimal (performed_count script history) ++ codes " left " ++ decimal (unperformed script history tally) ++ line_end
+    codes "end: stalled " ++ decimal (performed_count script history) ++ codes " left "
+    ++ decimal (unperformed script history tally) ++ line_end
 end_line script history tally Full =
-    codes "end: full " ++ decimal (performed_count script history) ++ codes " left " ++ decimal (unperformed script history tally) ++ line_end
+    codes "end: full " ++ decimal (performed_count script history) ++ codes " left "
+    ++ decimal (unperformed script history tally) ++ line_end
 end_line script history tally Held =
-    codes "end: held " ++ decimal (performed_count script history) ++ codes " left " ++ decimal (unperformed script history tally) ++ line_end
+    codes "end: held " ++ decimal (performed_count script history) ++ codes " left "
+    ++ decimal (unperformed script history tally) ++ line_end
 
 abbrev pub report : Lines → History → Tallied → Stop → List ℕ
 report script history tally stop =

@@ -43,7 +43,8 @@ pub record MayEnd (script : Lines) (limit : ℕ) (history : History) (tally : Ta
 -- the history is a lawful one of the script, within the limit: the declared objects, and then steps of its threads, each
 -- thread's in order, and what lanes and feeds moved; it may end so, with what went by lanes and feeds; and this is its text in
 -- this form
-pub record IsTextOf (form : Form) (script : Lines) (limit : ℕ) (history : History) (tally : Tallied) (stop : Stop) (text : List ℕ) : Type 0 where
+pub record IsTextOf (form : Form) (script : Lines) (limit : ℕ) (history : History) (tally : Tallied)
+    (stop : Stop) (text : List ℕ) : Type 0 where
   pub lawful : Lawful history
   pub room : entries_in history ≤ limit
   pub own : IsOfScript script history
@@ -101,7 +102,8 @@ EndsUntold old new _ = ⊥
 abbrev pub IsRefused : Lines → ℕ → History → Tallied → Stop → Ending → Type 0
 IsRefused script limit history tally stop ending.NoMemory = ⊤
 IsRefused script limit history tally stop (ending.NotLawful at) =
-    (IsFirstUnlawful (reverse history) at ⊎ IsFirstForeign script (reverse history) at) ⊎ ((at ≡ entries_in history) × (MayEnd script limit history tally stop → ⊥))
+    (IsFirstUnlawful (reverse history) at ⊎ IsFirstForeign script (reverse history) at)
+    ⊎ ((at ≡ entries_in history) × (MayEnd script limit history tally stop → ⊥))
 IsRefused script limit history tally stop _ = ⊥
 
 -- the board is one that a run under this limit leaves: it has this limit, and its journal was never cut
@@ -113,7 +115,8 @@ pub record IsOfRun (limit : ℕ) (board : Shown (List ℕ)) : Type 0 where
 abbrev pub IsUntold : Lines → ℕ → Shown (List ℕ) → Tallied → Stop → Ending → Type 0
 IsUntold script limit board tally stop ending.NoMemory = ⊤
 IsUntold script limit board tally stop (ending.NotLawful at) =
-    IsRefused script limit board.history tally stop (ending.NotLawful at) ⊎ ((at + entries_in board.past ≡ entries_in board.history) × (IsOfRun limit board → ⊥))
+    IsRefused script limit board.history tally stop (ending.NotLawful at)
+    ⊎ ((at + entries_in board.past ≡ entries_in board.history) × (IsOfRun limit board → ⊥))
 IsUntold script limit board tally stop _ = ⊥
 
 -- how it ends where the switchboard is not settled

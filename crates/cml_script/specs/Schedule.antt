@@ -1,5 +1,6 @@
 -- In which order a script's calls are made. A history is a list of entries, the newest first.
-use Rattle.std.specs.Prelude.{ℕ, suc, ◌≡◌, ◌≢◌, ◌-◌, ◌<◌, ◌≤◌, ◌==◌, ◌&&◌, not, ◌⊎◌, Bool, true, false, nat_lt, List, [], ◌∷◌, length, take, filter, slice_get, Option, Some, None, MatchBool, if◌then◌else◌, ⊤}
+use Rattle.std.specs.Prelude.{ℕ, suc, ◌≡◌, ◌≢◌, ◌-◌, ◌<◌, ◌≤◌, ◌==◌, ◌&&◌, not, ◌⊎◌, Bool, true, false, nat_lt, List, [], ◌∷◌, length}
+use Rattle.std.specs.Prelude.{take, filter, slice_get, Option, Some, None, MatchBool, if◌then◌else◌, ⊤}
 use Rattle.std.specs.Option.{option_map, option_map_or, option_and_then}
 use Rattle.cml_script.specs.Counting.{how_many}
 use Rattle.cml_calls.specs.declared.table.Give.TheVariants as give
@@ -51,7 +52,8 @@ declared_count script = how_many (is_object script) script.declarations
 -- who makes the k-th declared object: the feed whose port it is, by its place among the feeds in text order, or else seat 0
 abbrev pub maker : Lines → ℕ → Who
 maker script k =
-    if option_map_or (is_feed script) (slice_get (objects_of script) k) false then Feed (how_many (is_feed script) (take k (objects_of script))) else Seat 0
+    if option_map_or (is_feed script) (slice_get (objects_of script) k) false
+    then Feed (how_many (is_feed script) (take k (objects_of script))) else Seat 0
 
 -- the number of the object that the declaration at this position makes: the k-th declared object is the k-th made
 abbrev pub number_of : Lines → ℕ → ℕ
@@ -86,7 +88,8 @@ is_seated script seat line = option_map_or (λ s. s == seat) (seat_of_step (name
 -- the feed, by its place among the feeds in text order, that the name at this position is
 abbrev pub feed_at : Lines → ℕ → Option ℕ
 feed_at script at =
-    if option_map_or (is_feed script) (slice_get script.declarations at) false then Some (how_many (is_feed script) (take at script.declarations)) else None
+    if option_map_or (is_feed script) (slice_get script.declarations at) false
+    then Some (how_many (is_feed script) (take at script.declarations)) else None
 
 abbrev pub lane_route : Option ℕ → Route
 lane_route None = route.Seat
@@ -99,8 +102,10 @@ feed_route (Some feed) = route.Feed feed
 -- how a step of this seat goes: a send or a multicast by the seat's lane to the object, where a line lays one, a poll of a
 -- feed by that feed, and all else by the seat
 abbrev pub route_of : Lines → Option ℕ → Action → Route
-route_of script seat (action.Give give.Send at message) = lane_route (option_and_then (λ s. capacity_of (names_of script) script.lanes (s, at)) seat)
-route_of script seat (action.Give give.Cast at message) = lane_route (option_and_then (λ s. capacity_of (names_of script) script.lanes (s, at)) seat)
+route_of script seat (action.Give give.Send at message) =
+    lane_route (option_and_then (λ s. capacity_of (names_of script) script.lanes (s, at)) seat)
+route_of script seat (action.Give give.Cast at message) =
+    lane_route (option_and_then (λ s. capacity_of (names_of script) script.lanes (s, at)) seat)
 route_of script seat (action.Ask ask.Poll at) = feed_route (feed_at script at)
 route_of script seat _ = route.Seat
 
@@ -177,7 +182,8 @@ bound_by asked _ = binding.Unbound
 
 -- the caller's next call gives the name at this position
 abbrev pub gives_next : Lines → History → Who → ℕ → Bool
-gives_next script history who at = option_map_or (λ given. given == at) (option_and_then (given_by script) (next_position script history who)) false
+gives_next script history who at =
+    option_map_or (λ given. given == at) (option_and_then (given_by script) (next_position script history who)) false
 
 -- what a step gave a name
 abbrev pub binding_of : Lines → History → ℕ → Binding
@@ -220,7 +226,8 @@ call_of object asked = option_map (λ o. call_on asked (record { 0 = o })) (obje
 -- the call of the i-th step, after this history
 abbrev pub step_call : Lines → History → ℕ → Option (Call (List ℕ))
 step_call script history i =
-    option_and_then (λ line. option_and_then (call_of (object_of script history)) (action_of (names_of script) line.words)) (slice_get script.steps i)
+    option_and_then (λ line. option_and_then (call_of (object_of script history)) (action_of (names_of script) line.words))
+    (slice_get script.steps i)
 
 -- the i-th step is the next of its thread, with this seat and this call, and its call wouldn't wait
 pub record IsReady (script : Lines) (history : History) (i seat : ℕ) (asked : Call (List ℕ)) : Type 0 where
@@ -252,7 +259,8 @@ pub record IsDeclaration (script : Lines) (before : History) (entry : Entry (Lis
 abbrev pub Follows : Lines → History → Type 0
 Follows script [] = ⊤
 Follows script (entry ∷ before) =
-    MatchBool (nat_lt (entries_in before) (declared_count script)) (IsDeclaration script before entry) (IsStep script before entry) × Follows script before
+    MatchBool (nat_lt (entries_in before) (declared_count script)) (IsDeclaration script before entry) (IsStep script before entry)
+    × Follows script before
 
 -- how many steps are left
 abbrev pub left : Lines → History → ℕ

@@ -8,7 +8,8 @@ use Rattle.cml_board.specs.declared.entry.Who.TheVariants.{Seat}
 use Rattle.cml_grammar.specs.Prelude.{Lines, names_of, Makes, IsChannelAt, first_ring}
 use Rattle.cml_grammar.specs.declared.forms.Makes.TheVariants as makes
 use Rattle.cml_script.specs.declared.binding.Binding.{Binding}
-use Rattle.cml_script.specs.Schedule.{objects_of, object_of, declared_object, declared_count, call_in, History, next_position, performed, Follows, IsReady}
+use Rattle.cml_script.specs.Schedule.{objects_of, object_of, declared_object, declared_count, call_in, History, next_position}
+use Rattle.cml_script.specs.Schedule.{performed, Follows, IsReady}
 use Rattle.cml_script.specs.Bindings.{AreBindings}
 use Rattle.cml_script.specs.Plan.{IsKnown, IsObject, IsObjectAt}
 
@@ -74,7 +75,8 @@ IsLeastBelow script history thread (Some i) =
 
 -- this call would be made, on objects that are there and can take it, and it would wait just where the test says so
 abbrev pub WaitsIf : History → Option (Call (List ℕ)) → Bool → Type 0
-WaitsIf history made test = (asked : Call (List ℕ)) × (made ≡ Some asked) × Fits history asked × (IsTrue test ↔ (answer history asked ≡ None))
+WaitsIf history made test = (asked : Call (List ℕ)) × (made ≡ Some asked) × Fits history asked
+    × (IsTrue test ↔ (answer history asked ≡ None))
 
 -- the step is its thread's next
 abbrev pub IsNextStep : Play → ℕ → Type 0
@@ -90,13 +92,15 @@ pub record IsBound (play : Play) (at : ℕ) : Type 0 where
 -- the call makes the next declared object
 pub record IsNextObject (play : Play) (making : Call (List ℕ)) : Type 0 where
   pub left : entries_in play.history < declared_count play.script
-  pub makes : option_and_then (call_in play.script play.history) (slice_get (objects_of play.script) (entries_in play.history)) ≡ Some making
+  pub makes : option_and_then (call_in play.script play.history)
+      (slice_get (objects_of play.script) (entries_in play.history)) ≡ Some making
 
 -- the next object is a port of this channel, which is made
 abbrev pub IsNextPort : Play → ℕ → Type 0
 IsNextPort play channel =
     IsChannelAt (names_of play.script) channel
-    × (channel < length play.script.declarations) × (o : ℕ) × (declared_object play.script play.history channel ≡ Some o) × IsNextObject play (call.NewPort (record { 0 = o }))
+    × (channel < length play.script.declarations) × (o : ℕ) × (declared_object play.script play.history channel ≡ Some o)
+    × IsNextObject play (call.NewPort (record { 0 = o }))
 
 -- the next object is what this declaration makes, of objects that are made
 abbrev pub IsNext : Play → Makes → Type 0

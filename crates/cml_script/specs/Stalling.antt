@@ -29,7 +29,8 @@ is_before i (Some next) = nat_lt i next
 
 abbrev pub is_passed : Lines → History → ℕ → Bool
 is_passed script history i =
-    option_map_or (λ (line : SourceLine). option_map_or (λ seat. is_before i (next_position script history (Seat seat))) (seat_of_step (names_of script) line.words) false) (slice_get script.steps i) false
+    option_map_or (λ (line : SourceLine). option_map_or (λ seat. is_before i (next_position script history (Seat seat)))
+    (seat_of_step (names_of script) line.words) false) (slice_get script.steps i) false
 
 -- how many of the steps that pass a test are passed in this way
 abbrev pub passed_count : (SourceLine → Bool) → Lines → History → ℕ

@@ -41,7 +41,8 @@ AreSmallCounts counts = (history : History) × AreCounts history counts × (entr
 
 -- the same of any history with one more entry by this caller
 abbrev pub CountsOneMore : List ℕ → Who → List ℕ → Type 0
-CountsOneMore counts who later = (history : History) (entry : Entry (List ℕ)) → entry.who ≡ who → AreCounts history counts → AreCounts (entry ∷ history) later
+CountsOneMore counts who later = (history : History) (entry : Entry (List ℕ)) → entry.who ≡ who → AreCounts history counts
+    → AreCounts (entry ∷ history) later
 
 -- the name that the caller's next step gives
 abbrev pub next_given : Lines → History → Who → Option ℕ

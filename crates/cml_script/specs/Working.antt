@@ -1,5 +1,6 @@
 -- What one thread performs of a script, whatever caller makes its calls.
-use Rattle.std.specs.Prelude.{ℕ, ◌≡◌, ◌≢◌, ◌<◌, ◌≤◌, ◌⊎◌, ◌||◌, Bool, true, false, List, [], ◌∷◌, ◌++◌, length, filter, slice_get, Option, Some, None, Result, Ok, Err, IfSome, OnOk, ⊤}
+use Rattle.std.specs.Prelude.{ℕ, ◌≡◌, ◌≢◌, ◌<◌, ◌≤◌, ◌⊎◌, ◌||◌, Bool, true, false, List, [], ◌∷◌, ◌++◌, length, filter, slice_get}
+use Rattle.std.specs.Prelude.{Option, Some, None, Result, Ok, Err, IfSome, OnOk, ⊤}
 use Rattle.std.specs.Option.{option_and_then}
 use Rattle.std.specs.Result.{result_err}
 use Rattle.std.specs.declared.alloc.AllocError.{AllocError}
@@ -43,7 +44,10 @@ is_of_feed entry = is_feed_of entry.who
 
 -- with a feed of this capacity and its port: its number is how many it opened before
 abbrev pub with_feed : Name → ℕ → Name → Made → Made
-with_feed channel capacity port made = record made { entries = (record { who = Feed (how_many is_of_feed made.entries); call = NewPort channel; reply = reply.Made port }) ∷ made.entries; opened = capacity ∷ made.opened }
+with_feed channel capacity port made = record made {
+  entries = (record { who = Feed (how_many is_of_feed made.entries); call = NewPort channel; reply = reply.Made port }) ∷ made.entries;
+  opened = capacity ∷ made.opened;
+}
 
 -- with what went by a lane or a feed
 abbrev pub with_apart : Apart → Made → Made
@@ -67,7 +71,8 @@ MayCall asked made = IfSome made (λ made. waits asked ≡ true → made.is_send
 
 -- it has this seat, and made nothing yet, where it tells what it makes
 abbrev pub BeginsAt : ℕ → Option Made → Type 0
-BeginsAt seat made = IfSome made (λ made. made ≡ record { seat = seat; entries = []; opened = []; apart = []; is_sending = false; refused = None })
+BeginsAt seat made =
+    IfSome made (λ made. made ≡ record { seat = seat; entries = []; opened = []; apart = []; is_sending = false; refused = None })
 
 -- What declares.
 
@@ -79,7 +84,8 @@ capacity_made _ = None
 -- the capacity of the feed of this number: feeds are counted from 0 in text order
 abbrev pub feed_capacity : Lines → ℕ → Option ℕ
 feed_capacity script feed =
-    option_and_then (λ (line : SourceLine). option_and_then capacity_made (makes_of (names_of script) line.words)) (slice_get (filter (is_feed script) script.declarations) feed)
+    option_and_then (λ (line : SourceLine). option_and_then capacity_made (makes_of (names_of script) line.words))
+    (slice_get (filter (is_feed script) script.declarations) feed)
 
 -- each feed was opened with the capacity of its line, in text order: the newest comes first
 abbrev pub AreOpened : Lines → List ℕ → Type 0

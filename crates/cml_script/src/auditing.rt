@@ -31,7 +31,8 @@ fn first_foreign(
     script: &Script,
     entries: &[Entry<Text>],
 ) -> Result<Option<usize>, AllocError>
-    ensures { IfOk result (λ first. MatchOption first (IsOfScript script.now (reverse entries.now)) (IsFirstForeign script.now entries.now)) }
+    ensures { IfOk result (λ first. MatchOption first (IsOfScript script.now (reverse entries.now))
+        (IsFirstForeign script.now entries.now)) }
 {
     let mut trail = Trail::new(alloc, script, entries)?;
     for (k, entry) in entries.iter().enumerate() {

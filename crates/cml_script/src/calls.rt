@@ -40,7 +40,8 @@ pub fn want_on(action: &Action, object: Name) -> Option<Want>
 
 /// Says whether that call fits the object, and would block.
 pub fn would_wait(board: &Board<Text, BoardLog<Text>>, action: &Action, object: Name) -> bool
-    ensures { IsTrue result ↔ (Fits board.now.history (call_on action.now object) × (answer board.now.history (call_on action.now object) ≡ None)) }
+    ensures { IsTrue result
+        ↔ (Fits board.now.history (call_on action.now object) × (answer board.now.history (call_on action.now object) ≡ None)) }
 {
     // A call waits just where one with its want does.
     calls_wait_by_want::<Text>();

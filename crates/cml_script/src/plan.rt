@@ -46,7 +46,8 @@ impl<'a> Model for Plan<'a> {
 
     ghost view = { λ p. p.script.now };
 
-    ghost invariant = { λ p. IsPlanned p.script.now p.names p.numbers.items p.feeds.items (items_of p.queues.items) (items_of p.turns.items) p.givings.items };
+    ghost invariant = { λ p. IsPlanned p.script.now p.names p.numbers.items p.feeds.items (items_of p.queues.items)
+        (items_of p.turns.items) p.givings.items };
 }
 
 impl<'a> Plan<'a> {

@@ -38,7 +38,8 @@ pub fn replay_journal<R: Read, W: Write>(
 ) -> Ending
     requires least { 1 ≤ limit }
     requires most { limit ≤ 2 ^ 32 }
-    ensures { ReplaysJournal limit (R.remaining reader.old) (R.remaining reader.new) (W.contents writer.old) (W.contents writer.new) result }
+    ensures { ReplaysJournal limit (R.remaining reader.old) (R.remaining reader.new)
+        (W.contents writer.old) (W.contents writer.new) result }
 {
     replay_as(alloc, reader, writer, limit, Form::Journal)
 }
@@ -53,7 +54,8 @@ fn replay_as<R: Read, W: Write>(
 ) -> Ending
     requires least { 1 ≤ limit }
     requires most { limit ≤ 2 ^ 32 }
-    ensures { ReplaysAs form limit (R.remaining reader.old) (R.remaining reader.new) (W.contents writer.old) (W.contents writer.new) result }
+    ensures { ReplaysAs form limit (R.remaining reader.old) (R.remaining reader.new)
+        (W.contents writer.old) (W.contents writer.new) result }
 {
     match play_read(alloc, reader, limit, form) {
         Ok(played) => write_played(writer, &played),
@@ -70,7 +72,8 @@ fn play_read<R: Read>(
 ) -> Result<Played, Ending>
     requires least { 1 ≤ limit }
     requires most { limit ≤ 2 ^ 32 }
-    ensures played { IfOk result (λ played. AreAll (R.remaining reader.old) (R.remaining reader.new) (IsPlayedTextAs form limit played.stop (string_bytes played.report))) }
+    ensures played { IfOk result (λ played. AreAll (R.remaining reader.old) (R.remaining reader.new)
+        (IsPlayedTextAs form limit played.stop (string_bytes played.report))) }
     ensures unplayed { IfErr result (λ ending. EndsUnplayed (R.remaining reader.old) (R.remaining reader.new) ending) }
 {
     let text = read_all(alloc, reader)?;

@@ -69,7 +69,8 @@ fn write_entry(
     trail: &Trail<'_>,
     entry: &Entry<Text>,
 ) -> Result<(), AllocError>
-    ensures { OnOk result (string_bytes report.new ≡ string_bytes report.old ++ entry_line trail.now.script (history_of trail.now) entry.now) }
+    ensures { OnOk result (string_bytes report.new
+        ≡ string_bytes report.old ++ entry_line trail.now.script (history_of trail.now) entry.now) }
 {
     match entry.who {
         Who::Seat(_) => report.push_str(trail.next_text(entry.who))?,
@@ -91,7 +92,8 @@ fn write_sent(
     lane: u64,
     call: &Call<Text>,
 ) -> Result<(), AllocError>
-    ensures { OnOk result (string_bytes report.new ≡ string_bytes report.old ++ (codes "lane " ++ decimal lane ++ sent_text trail.now.script call.now)) }
+    ensures { OnOk result (string_bytes report.new
+        ≡ string_bytes report.old ++ (codes "lane " ++ decimal lane ++ sent_text trail.now.script call.now)) }
 {
     let mark = message_mark(trail.script().version());
     match call {
@@ -263,7 +265,8 @@ fn write_held(report: &mut String, scene: &Scene<'_>, variable: Name) -> Result<
 
 /// Adds the last line.
 fn write_end(report: &mut String, scene: &Scene<'_>, stop: Stop) -> Result<(), AllocError>
-    ensures { OnOk result (string_bytes report.new ≡ string_bytes report.old ++ end_line scene.now.script scene.now.history scene.now.tally stop) }
+    ensures { OnOk result (string_bytes report.new
+        ≡ string_bytes report.old ++ end_line scene.now.script scene.now.history scene.now.tally stop) }
 {
     let performed = scene.performed();
     let left = scene.unperformed();

@@ -67,7 +67,8 @@ pub fn run_journal<I: Read, W: Write, R: Threads + Wait + Sync, G: Gate + Sync>(
 ) -> Ending
     requires least { 1 ≤ limit }
     requires most { limit ≤ 2 ^ 32 }
-    ensures runs { RunsJournal limit (I.remaining reader.old) (I.remaining reader.new) (W.contents writer.old) (W.contents writer.new) result }
+    ensures runs { RunsJournal limit (I.remaining reader.old) (I.remaining reader.new)
+        (W.contents writer.old) (W.contents writer.new) result }
     ensures open { G.opens gate.now ≡ true → result ≢ Ending.Held }
 {
     run_as(rt, alloc, reader, writer, limit, Form::Journal, gate)
@@ -85,7 +86,8 @@ fn run_as<I: Read, W: Write, R: Threads + Wait + Sync, G: Gate + Sync>(
 ) -> Ending
     requires least { 1 ≤ limit }
     requires most { limit ≤ 2 ^ 32 }
-    ensures runs { RunsAs form limit (I.remaining reader.old) (I.remaining reader.new) (W.contents writer.old) (W.contents writer.new) result }
+    ensures runs { RunsAs form limit (I.remaining reader.old) (I.remaining reader.new)
+        (W.contents writer.old) (W.contents writer.new) result }
     ensures open { G.opens gate.now ≡ true → result ≢ Ending.Held }
 {
     match run_read(rt, alloc, reader, limit, form, gate) {
@@ -105,7 +107,8 @@ fn run_read<I: Read, R: Threads + Wait + Sync, G: Gate + Sync>(
 ) -> Result<Played, Ending>
     requires least { 1 ≤ limit }
     requires most { limit ≤ 2 ^ 32 }
-    ensures told { IfOk result (λ played. AreAll (I.remaining reader.old) (I.remaining reader.new) (IsRunText form limit played.stop (string_bytes played.report))) }
+    ensures told { IfOk result (λ played. AreAll (I.remaining reader.old) (I.remaining reader.new)
+        (IsRunText form limit played.stop (string_bytes played.report))) }
     ensures untold { IfErr result (λ ending. EndsUntold (I.remaining reader.old) (I.remaining reader.new) ending) }
     ensures open { IfOk result (λ played. G.opens gate.now ≡ true → played.stop ≢ Stop.Held) }
 {

@@ -93,8 +93,10 @@ impl<'a> Scene<'a> {
     /// The object that was made for a name.
     pub fn object(&self, at: usize) -> Option<Name>
         requires { IsObject (names_of self.now.script) at }
-        ensures object { MatchOption result (made_of self.now.script self.now.history at ≡ None) (λ name. made_of self.now.script self.now.history at ≡ Some name.0) }
-        ensures kind { IfSome result (λ name. (k : Kind) → IsObjectAt (names_of self.now.script) at k → kind_of self.now.history name.0 ≡ Some k) }
+        ensures object { MatchOption result (made_of self.now.script self.now.history at ≡ None)
+            (λ name. made_of self.now.script self.now.history at ≡ Some name.0) }
+        ensures kind { IfSome result (λ name. (k : Kind) → IsObjectAt (names_of self.now.script) at k
+            → kind_of self.now.history name.0 ≡ Some k) }
     {
         self.trail.made(at)
     }

@@ -1,5 +1,6 @@
 //! A script under way on a board.
-ghost use Rattle.std.specs.Prelude.{◌≡◌, ◌≢◌, ◌↔◌, ℕ, ◌+◌, ◌-◌, ◌<◌, ◌≤◌, ◌^◌, List, [], ◌∷◌, length, slice_get, false, Some, None, IfOk, OnOk, OnErr, MatchOption, MatchBool, IsTrue, IfSome, IsSome};
+ghost use Rattle.std.specs.Prelude.{◌≡◌, ◌≢◌, ◌↔◌, ℕ, ◌+◌, ◌-◌, ◌<◌, ◌≤◌, ◌^◌, List, [], ◌∷◌, length, slice_get, false, Some, None};
+ghost use Rattle.std.specs.Prelude.{IfOk, OnOk, OnErr, MatchOption, MatchBool, IsTrue, IfSome, IsSome};
 ghost use Rattle.cml_board.specs.Prelude.{no_entries, entries_in, Fits, Lawful, kind_of, Reply, Entry};
 ghost use Rattle.cml_calls.specs.Prelude.{Kind};
 ghost use Rattle.cml_grammar.specs.Prelude.{names_of, UsesWell, used_by, first_ring, makes_feed};
@@ -36,7 +37,8 @@ impl<'a> Model for Stage<'a> {
 
     ghost view = { λ s. record { script = s.plan; history = s.board.history; limit = s.board.limit } };
 
-    ghost invariant = { λ s. Stands (record { script = s.plan; history = s.board.history; limit = s.board.limit }) s.counts.items s.bindings.items × (s.board.past ≡ no_entries) };
+    ghost invariant = { λ s. Stands (record { script = s.plan; history = s.board.history; limit = s.board.limit }) s.counts.items
+        s.bindings.items × (s.board.past ≡ no_entries) };
 }
 
 impl<'a> Stage<'a> {

@@ -1,5 +1,6 @@
 //! How far the threads of a script are in a journal.
-ghost use Rattle.std.specs.Prelude.{◌≡◌, ◌↔◌, ◌&&◌, ℕ, ◌+◌, ◌<◌, ◌≤◌, Some, None, length, filter, slice_get, IfOk, IfSome, IsTrue, MatchOption};
+ghost use Rattle.std.specs.Prelude.{◌≡◌, ◌↔◌, ◌&&◌, ℕ, ◌+◌, ◌<◌, ◌≤◌, Some, None, length, filter, slice_get, IfOk};
+ghost use Rattle.std.specs.Prelude.{IfSome, IsTrue, MatchOption};
 ghost use Rattle.std.specs.Option.{option_map, option_and_then};
 ghost use Rattle.cml_board.specs.Prelude.{entries_in};
 ghost use Rattle.cml_grammar.specs.Prelude.{names_of};
@@ -39,7 +40,8 @@ impl<'a> Model for Trail<'a> {
 
     ghost view = { λ t. record { script = t.plan; journal = t.journal.now; followed = t.followed } };
 
-    ghost invariant = { λ t. IsFollowed (record { script = t.plan; journal = t.journal.now; followed = t.followed }) t.objects t.counts.items t.bindings.items };
+    ghost invariant = { λ t.
+        IsFollowed (record { script = t.plan; journal = t.journal.now; followed = t.followed }) t.objects t.counts.items t.bindings.items };
 }
 
 impl<'a> Trail<'a> {
@@ -112,7 +114,8 @@ impl<'a> Trail<'a> {
     /// The object that was made for a name.
     pub fn made(&self, at: usize) -> Option<Name>
         requires { IsObject (names_of self.now.script) at }
-        ensures object { MatchOption result (made_of self.now.script (history_of self.now) at ≡ None) (λ name. made_of self.now.script (history_of self.now) at ≡ Some name.0) }
+        ensures object { MatchOption result (made_of self.now.script (history_of self.now) at ≡ None)
+            (λ name. made_of self.now.script (history_of self.now) at ≡ Some name.0) }
         ensures known { IsKnown self.now.script }
     {
         if at >= self.plan.script().declarations().len() {

@@ -9,4 +9,5 @@ use Rattle.cml_script.specs.Prelude.{Stop, Made, Declares, Works}
 -- behind just these
 abbrev pub IsPerformed : Lines → Result (Made × Result Stop AllocError) (Made × Refusal) → Type 0
 IsPerformed script (Err undeclared) = Declares script undeclared.0 (Err undeclared.1)
-IsPerformed script (Ok performed) = (declared : Made) × Declares script declared (Ok tt) × Works script 1 performed.0 performed.1 declared.entries
+IsPerformed script (Ok performed) = (declared : Made) × Declares script declared (Ok tt)
+    × Works script 1 performed.0 performed.1 declared.entries

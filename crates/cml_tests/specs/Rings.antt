@@ -33,7 +33,10 @@ with_call seat call reply rings = record rings { asked = (record { who = Seat se
 -- with a feed and its port: its number is how many were opened before
 abbrev pub with_feed : Name → Name → RingsShown → RingsShown
 with_feed channel port rings =
-    record rings { asked = (record { who = Feed rings.feeds; call = NewPort channel; reply = Made port }) ∷ rings.asked; feeds = rings.feeds + 1 }
+    record rings {
+      asked = (record { who = Feed rings.feeds; call = NewPort channel; reply = Made port }) ∷ rings.asked;
+      feeds = rings.feeds + 1;
+    }
 
 -- at most lanes and feeds moved something, and no feed was opened
 pub record IsUnasked (old new : FloorShown (List ℕ)) : Type 0 where

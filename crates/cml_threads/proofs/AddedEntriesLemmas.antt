@@ -66,7 +66,8 @@ module _ {M : Type 0} where
   grown_since entries new book own parts whole was = omega (arith, was.had, (adds (floor_of was.before) (floor_of new) was.deed).grown)
 
   -- those beyond them are counted too
-  pub counted_since : (entries : ℕ) (new : RoomShown M) (book own parts whole book' own' parts' : ℕ) → WasCounted entries new book own parts whole
+  pub counted_since : (entries : ℕ) (new : RoomShown M) (book own parts whole book' own' parts' : ℕ)
+      → WasCounted entries new book own parts whole
       → book' + entries ≡ book + entries_in new.board.history → own' + entries ≡ own + entries_in new.board.history → parts' ≡ parts
       → IsCounted new.board (length new.seats) book' own' parts' whole
   counted_since entries new book own parts whole book' own' parts' was total amount same =
@@ -81,7 +82,8 @@ module _ {M : Type 0} where
       }
 
   -- what a call on a lane or a feed leaves to be counted
-  pub was_counted : {entries book own parts whole : ℕ} {new : RoomShown M} (before : RoomShown M) → entries ≡ entries_in before.board.history
+  pub was_counted : {entries book own parts whole : ℕ} {new : RoomShown M} (before : RoomShown M)
+      → entries ≡ entries_in before.board.history
       → IsCounted before.board (length before.seats) book own parts whole → new.seats ≡ before.seats → Deed (floor_of before) (floor_of new)
       → WasCounted entries new book own parts whole
   was_counted before had counted seats deed = record { before = before; had = had; counted = counted; seats = seats; deed = deed }

@@ -1,5 +1,6 @@
 -- How many entries of a history are of seats, and the lefts in which they are counted.
-use Rattle.std.proofs.Common.{◌≡◌, ℕ, zero, suc, ◌+◌, ◌<◌, ◌≤◌, ◌⊎◌, inl, inr, List, [], ◌∷◌, ◌++◌, length, slice_get, Some, refl, sym, ap, ◌∙◌, arith}
+use Rattle.std.proofs.Common.{◌≡◌, ℕ, zero, suc, ◌+◌, ◌<◌, ◌≤◌, ◌⊎◌, inl, inr, List, [], ◌∷◌, ◌++◌, length, slice_get}
+use Rattle.std.proofs.Common.{Some, refl, sym, ap, ◌∙◌, arith}
 use Rattle.std.proofs.lemmas.Option.{same_Some, none-some}
 use Rattle.std.proofs.lemmas.List.Sums.{sum_by-append, sum_by-cons}
 use Rattle.cml_board.specs.Prelude.{Who, Entry, ring_by, entries_in, rings_in, behind_seat, seats_of}
@@ -28,7 +29,8 @@ module _ {M : Type 0} where
       omega (arith, all_rings before (omega (arith, none)), one_of_no_seat entry.who (omega (arith, none)))
 
 -- what is in a list with one more at its end
-push_cases : {X : Type 0} (xs : List X) (x y : X) (k : ℕ) → slice_get (xs ++ x ∷ []) k ≡ Some y → (slice_get xs k ≡ Some y) ⊎ ((x ≡ y) × (length xs ≡ k))
+push_cases : {X : Type 0} (xs : List X) (x y : X) (k : ℕ) → slice_get (xs ++ x ∷ []) k ≡ Some y
+    → (slice_get xs k ≡ Some y) ⊎ ((x ≡ y) × (length xs ≡ k))
 push_cases [] x y zero found = inr (same_Some x y found, refl)
 push_cases [] x y (suc k) found = absurd (none-some y found)
 push_cases (z ∷ xs) x y zero found = inl found
@@ -37,7 +39,8 @@ push_cases (z ∷ xs) x y (suc k) found = elim (push_cases xs x y k found) [
   | inr new ↦ inr (new.0, ap suc new.1)
 ]
 
-pub numbers_more : (lefts news : List Sitting) (more : Sitting) (count : ℕ) → length lefts ≡ count → more.number ≡ count → news ≡ lefts ++ more ∷ []
+pub numbers_more : (lefts news : List Sitting) (more : Sitting) (count : ℕ) → length lefts ≡ count
+    → more.number ≡ count → news ≡ lefts ++ more ∷ []
     → ((number : ℕ) (left : Sitting) → slice_get lefts number ≡ Some left → left.number ≡ number)
     → (number : ℕ) (left : Sitting) → slice_get news number ≡ Some left → left.number ≡ number
 numbers_more lefts news more count many next pushed numbers = λ number left found.
@@ -51,7 +54,8 @@ pub next_share : (number now answers : ℕ) → (number ≡ 0 → now ≡ answer
 next_share zero now answers first none = first refl
 next_share (suc number) now answers first none = none (omega arith)
 
-pub shares_more : (lefts news : List Sitting) (more : Sitting) (count answers : ℕ) → length lefts ≡ count → more.share ≡ share_at count answers → news ≡ lefts ++ more ∷ []
+pub shares_more : (lefts news : List Sitting) (more : Sitting) (count answers : ℕ) → length lefts ≡ count
+    → more.share ≡ share_at count answers → news ≡ lefts ++ more ∷ []
     → ((number : ℕ) (left : Sitting) → slice_get lefts number ≡ Some left → left.share ≡ share_at number answers)
     → (number : ℕ) (left : Sitting) → slice_get news number ≡ Some left → left.share ≡ share_at number answers
 shares_more lefts news more count answers many next pushed shares = λ number left found.
@@ -63,6 +67,7 @@ shares_more lefts news more count answers many next pushed shares = λ number le
 abbrev share_of : Sitting → ℕ
 share_of left = left.share
 
-pub answers_more : (lefts news : List Sitting) (more : Sitting) → news ≡ lefts ++ more ∷ [] → answers_in news ≡ answers_in lefts + more.share
+pub answers_more : (lefts news : List Sitting) (more : Sitting) → news ≡ lefts ++ more ∷ []
+    → answers_in news ≡ answers_in lefts + more.share
 answers_more lefts news more pushed =
     omega (arith, ap answers_in pushed, sum_by-append share_of lefts (more ∷ []), sum_by-cons share_of more [])

@@ -8,21 +8,33 @@ use Rattle.cml_threads.specs.Asking as hosted
 module _ {M : Type 0} where
   -- a hall of a room and a book
   abbrev hall_of : RoomShown M → ℕ → Hosted M
-  hall_of room book = record { board = room.board; lanes = room.lanes; feeds = room.feeds; seats = room.seats; notices = room.notices; all_due = room.all_due; book = book }
+  hall_of room book = record {
+    board = room.board;
+    lanes = room.lanes;
+    feeds = room.feeds;
+    seats = room.seats;
+    notices = room.notices;
+    all_due = room.all_due;
+    book = book;
+  }
 
   -- what became of the call in the room, seen in the hall
-  pub told_asks : (chunk : ℕ) (sure : Bool) (may : RoomShown M → ℕ → Type 0) (hall : Hosted M) (room new : RoomShown M) (book book' : ℕ) (before after : Sitting) (number : ℕ)
+  pub told_asks : (chunk : ℕ) (sure : Bool) (may : RoomShown M → ℕ → Type 0) (hall : Hosted M) (room new : RoomShown M) (book book' : ℕ)
+      (before after : Sitting) (number : ℕ)
       (call : Call M) (outcome : Outcome M) → hall_of room book ≡ hall → number ≡ before.number
       → Asks chunk sure (may room number) room new number call outcome → Tallies book book' before after outcome
       → hosted.Asks chunk sure (may (room_of hall) before.number) hall (hall_of new book') before after call outcome
   told_asks chunk sure may hall room new book book' before after number call outcome view same asks tallies =
       let moved : Asks chunk sure (may room before.number) room new before.number call outcome =
       subst (λ n. Asks chunk sure (may room n) room new n call outcome) same asks in
-      let here : hosted.Asks chunk sure (may room before.number) (hall_of room book) (hall_of new book') before after call outcome = (moved, tallies) in
-      subst (λ (h : Hosted M). hosted.Asks chunk sure (may (room_of h) before.number) h (hall_of new book') before after call outcome) view here
+      let here : hosted.Asks chunk sure (may room before.number) (hall_of room book) (hall_of new book') before after call outcome =
+      (moved, tallies) in
+      subst (λ (h : Hosted M). hosted.Asks chunk sure (may (room_of h) before.number) h (hall_of new book') before after call outcome)
+      view here
 
   -- what the call left of the room's seats, seen in the hall
-  pub told_turns : (hall : Hosted M) (room new : RoomShown M) (book book' : ℕ) (before number : ℕ) (outcome : Outcome M) → hall_of room book ≡ hall → number ≡ before
+  pub told_turns : (hall : Hosted M) (room new : RoomShown M) (book book' : ℕ) (before number : ℕ) (outcome : Outcome M)
+      → hall_of room book ≡ hall → number ≡ before
       → Turns number (asked_by number outcome) (news_by outcome) room new
       → Turns before (asked_by before outcome) (news_by outcome) (room_of hall) (room_of (hall_of new book'))
   told_turns hall room new book book' before number outcome view same turns =

@@ -19,7 +19,14 @@ pub record Hosted (M : Type 0) : Type 0 where
 module _ {M : Type 0} where
   -- all but the book
   abbrev pub room_of : Hosted M → room.RoomShown M
-  room_of hall = record { board = hall.board; lanes = hall.lanes; feeds = hall.feeds; seats = hall.seats; notices = hall.notices; all_due = hall.all_due }
+  room_of hall = record {
+    board = hall.board;
+    lanes = hall.lanes;
+    feeds = hall.feeds;
+    seats = hall.seats;
+    notices = hall.notices;
+    all_due = hall.all_due;
+  }
 
   -- the board with its lanes and feeds
   abbrev pub floor_of : Hosted M → FloorShown M

@@ -28,7 +28,8 @@ module _ {M : Type 0} where
   -- the call was made, and this became of the hall
   abbrev pub IsMade : ℕ → Bool → HallCall M → Hosted M → Hosted M → Type 0
   IsMade chunk sure (Ask before after call told) old new = Asks chunk sure (MayAsk old before.number) old new before after call told
-  IsMade chunk sure (AskAgain before after call told) old new = Asks chunk sure (MayAskAgain old before.number call) old new before after call told
+  IsMade chunk sure (AskAgain before after call told) old new =
+      Asks chunk sure (MayAskAgain old before.number call) old new before after call told
   IsMade chunk sure NewSeat old new = KeepsFloor old new
   IsMade chunk sure Leave old new = KeepsFloor old new
   IsMade chunk sure NextDue old new = KeepsFloor old new
@@ -47,4 +48,5 @@ module _ {M : Type 0} where
   -- the calls were made in turn, and this became of the hall
   abbrev pub AreMade : ℕ → Bool → List (HallCall M) → Hosted M → Hosted M → Type 0
   AreMade chunk sure [] old new = new ≡ old
-  AreMade chunk sure (call ∷ later) old new = (between : Hosted M) × IsMade chunk sure call old between × AreMade chunk sure later between new
+  AreMade chunk sure (call ∷ later) old new = (between : Hosted M) × IsMade chunk sure call old between
+      × AreMade chunk sure later between new

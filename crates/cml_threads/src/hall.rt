@@ -39,7 +39,15 @@ impl<M, L: MessageLog<M>, Led: Ledger> Model for Hall<M, L, Led> {
 
     ghost Value = { Hosted M };
 
-    ghost view = { λ h. record { board = h.room.board; lanes = h.room.lanes; feeds = h.room.feeds; seats = h.room.seats; notices = h.room.notices; all_due = h.room.all_due; book = h.book.total } };
+    ghost view = { λ h. record {
+      board = h.room.board;
+      lanes = h.room.lanes;
+      feeds = h.room.feeds;
+      seats = h.room.seats;
+      notices = h.room.notices;
+      all_due = h.room.all_due;
+      book = h.book.total;
+    } };
 
     ghost invariant = { λ h. IsCounted h.room.board (length h.room.seats) h.book.total h.rest.amount h.rest.parts Led.parts };
 }
@@ -113,7 +121,8 @@ impl<M: Message, L: MessageLog<M>, Led: Ledger> Hall<M, L, Led> {
     /// Cuts the journal and returns the entries that it had, as `Floor::take_journal` does. Fails as `cut` does.
     pub fn take_journal(&mut self) -> Result<Vec<Entry<M>>, Refusal>
         ensures taken { IfOk result (λ taken. reverse taken.items ++ self.old.board.past ≡ self.old.board.history) }
-        ensures cut { MatchResult result (λ _. CutsFloor (floor_of self.old) (floor_of self.new)) (NotCut (floor_of self.old) (floor_of self.new)) }
+        ensures cut { MatchResult result (λ _. CutsFloor (floor_of self.old) (floor_of self.new))
+            (NotCut (floor_of self.old) (floor_of self.new)) }
         ensures rings { KeepsRings (floor_of self.old) (floor_of self.new) }
         ensures kept { KeepsSeats (room_of self.old) (room_of self.new) }
         ensures book { self.new.book ≡ self.old.book }

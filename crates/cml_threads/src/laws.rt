@@ -31,13 +31,15 @@ pub fn reserved_lasts_in_a_hall<M>()
         → AreMade chunk sure calls old new
         → keeps_entries calls ≡ true
         → old.board.reserved ≤ new.board.reserved + added_since old.board new.board }
-    ensures asks { (chunk : ℕ) (sure : Bool) (calls : List (HallCall M)) (old new after : Hosted M) (seat left : Sitting) (call back : Call M)
+    ensures asks { (chunk : ℕ) (sure : Bool) (calls : List (HallCall M)) (old new after : Hosted M)
+        (seat left : Sitting) (call back : Call M)
         → AreMade chunk sure calls old new
         → keeps_entries calls ≡ true
         → added_since old.board new.board < old.board.reserved
         → TakesEntryAlone chunk sure new.board.history call
         → ¬ (Asks chunk sure (MayAsk new seat.number) new after seat left call (Refused NoMemory back)) }
-    ensures again { (chunk : ℕ) (sure : Bool) (calls : List (HallCall M)) (old new after : Hosted M) (seat left : Sitting) (call back : Call M)
+    ensures again { (chunk : ℕ) (sure : Bool) (calls : List (HallCall M)) (old new after : Hosted M)
+        (seat left : Sitting) (call back : Call M)
         → AreMade chunk sure calls old new
         → keeps_entries calls ≡ true
         → added_since old.board new.board < old.board.reserved
@@ -61,7 +63,8 @@ pub fn reserved_lasts_in_a_hall<M>()
 pub fn nobody_is_left_asleep_in_a_hall<M: Message, L: MessageLog<M>, Led: Ledger>(
     hall: &Hall<M, L, Led>,
 )
-    ensures { (calls : List room.RoomCall) (first : RoomShown M) → NoneDue first → room.AreMade (room.NextDue None ∷ calls) first (room_of hall.now)
+    ensures { (calls : List room.RoomCall) (first : RoomShown M) → NoneDue first
+        → room.AreMade (room.NextDue None ∷ calls) first (room_of hall.now)
         → room.NobodyForgotten calls (room_of hall.now) }
 {
     // That who isn't due sleeps rightly is a fact of each hall, which the contract of `board` tells.

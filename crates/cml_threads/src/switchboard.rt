@@ -70,10 +70,12 @@ impl<M: Message, L: MessageLog<M>, Led: Ledger> Switchboard<M, L, Led> {
         requires parts { blank.parts ≡ Led.parts }
         requires enough { blank.parts ≡ 2 ^ 63 }
         ensures lefts { IfOk result (λ made. vec_len made.1 ≡ restored.makers.seats) }
-        ensures numbers { IfOk result (λ made. (number : ℕ) (left : Sitting) → slice_get made.1.items number ≡ Some left → left.number ≡ number) }
+        ensures numbers { IfOk result (λ made. (number : ℕ) (left : Sitting)
+            → slice_get made.1.items number ≡ Some left → left.number ≡ number) }
         ensures shares { IfOk result (λ made. (number : ℕ) (left : Sitting) → slice_get made.1.items number ≡ Some left
             → left.share ≡ share_at number (entries_in restored.board.history - rings_in restored.board.history)) }
-        ensures answers { IfOk result (λ made. answers_in made.1.items + rings_in restored.board.history ≡ entries_in restored.board.history) }
+        ensures answers { IfOk result
+            (λ made. answers_in made.1.items + rings_in restored.board.history ≡ entries_in restored.board.history) }
     {
         let (hall, lefts) = Hall::restore(alloc, restored, blank)?;
         Ok((Switchboard::of(alloc, hall)?, lefts))

@@ -1,6 +1,7 @@
 //! A journal is read and checked as it comes.
 
-ghost use Rattle.std.specs.Prelude.{◌≡◌, ◌≤◌, ◌-◌, ◌∷◌, ◌++◌, ℕ, List, [], Ok, true, false, length, None, ◌<◌, IfOk, IfErr, IfSome, OnOk, IsTrue, string_bytes};
+ghost use Rattle.std.specs.Prelude.{◌≡◌, ◌≤◌, ◌-◌, ◌∷◌, ◌++◌, ℕ, List, [], Ok, true, false, length, None, ◌<◌, IfOk, IfErr};
+ghost use Rattle.std.specs.Prelude.{IfSome, OnOk, IsTrue, string_bytes};
 ghost use Rattle.std.specs.Io.KnownBytes.{Consumes, Keeps, IsAtEnd};
 ghost use Rattle.cml_journal.specs.Prelude.{IsSoFar, Goes};
 ghost use Rattle.cml.specs.declared.check.ending.Ending.TheVariants.{ReadFault, BehindCut};
@@ -229,7 +230,8 @@ fn end_of<M: Message + Written>(
     check: &mut Check<M>,
     state: bool,
 ) -> Result<(u64, String), Ending>
-    ensures { (bytes : List ℕ) → IsSoFar M.VERSION M.meaning bytes check.old → Tells M.VERSION M.meaning M.text state bytes (ending_of result) }
+    ensures { (bytes : List ℕ) → IsSoFar M.VERSION M.meaning bytes check.old
+        → Tells M.VERSION M.meaning M.text state bytes (ending_of result) }
 {
     if !check.end() {
         return Err(Ending::Torn(check.lines()));
@@ -245,7 +247,8 @@ fn state_of<M: Message + Written>(
     check: &mut Check<M>,
     state: bool,
 ) -> Result<String, AllocError>
-    ensures { IfOk result (λ objects. (bytes : List ℕ) → IsStateOf M.VERSION M.meaning M.text state bytes check.old (string_bytes objects)) }
+    ensures { IfOk result (λ objects. (bytes : List ℕ)
+        → IsStateOf M.VERSION M.meaning M.text state bytes check.old (string_bytes objects)) }
 {
     if !state {
         return Ok(String::new(alloc));

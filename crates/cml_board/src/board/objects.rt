@@ -26,7 +26,8 @@ pub fn push_at<M, L: MessageLog<M>>(
     message: M,
 ) -> Result<(), Back<M>>
     requires { HasRoomAt (seen_all L.log objects.old.items) name.0 }
-    ensures ok { OnOk result (seen_all L.log objects.new.items ≡ on_log (pushed L.CHUNK message) (seen_all L.log objects.old.items) name.0) }
+    ensures ok { OnOk result
+        (seen_all L.log objects.new.items ≡ on_log (pushed L.CHUNK message) (seen_all L.log objects.old.items) name.0) }
     ensures err { OnErr result (seen_all L.log objects.new.items ≡ seen_all L.log objects.old.items) }
     ensures refused { OnErr result
         ((log : Log M) → log_at (seen_all L.log objects.old.items) name.0 ≡ Some log → next_of log % L.CHUNK ≡ L.CHUNK - 1) }
@@ -99,7 +100,8 @@ fn add_copy<M, L: MessageLog<M>>(
     key: Key,
 ) -> Result<(), AllocError>
     requires { HasCursor (seen_all L.log objects.old.items) channel.0 key }
-    ensures ok { OnOk result (AddsPort (seen_all L.log objects.old.items) (seen_all L.log objects.new.items) channel.0 (λ log. place_of log key)) }
+    ensures ok { OnOk result
+        (AddsPort (seen_all L.log objects.old.items) (seen_all L.log objects.new.items) channel.0 (λ log. place_of log key)) }
     ensures err { OnErr result (seen_all L.log objects.new.items ≡ seen_all L.log objects.old.items) }
 {
     objects.reserve(1)?;

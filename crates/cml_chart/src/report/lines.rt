@@ -92,7 +92,8 @@ fn object_of<'a>(
     first: Option<&'a str>,
     last: &'a str,
 ) -> Option<(&'a str, Option<&'a str>)>
-    ensures { option_map (λ found. (found.0.now, option_map (λ w. w.now) found.1)) result ≡ object_of (shown_actor actor.entry) verb (option_map (λ w. w.now) first.entry) last.now }
+    ensures { option_map (λ found. (found.0.now, option_map (λ w. w.now) found.1)) result
+        ≡ object_of (shown_actor actor.entry) verb (option_map (λ w. w.now) first.entry) last.now }
 {
     let is_given = match actor {
         Actor::Lane(_) => is_message(last),

@@ -62,7 +62,8 @@ impl<M: Message, L: MessageLog<M>> Floor<M, L> {
     /// Pumps an open feed until a message is refused. Returns how many it pumped, and the refusal.
     fn pump_open(&mut self, feed: u64) -> (usize, Option<Refusal>)
         requires { is_open_feed self.old feed ≡ true }
-        ensures until { OnFeed stays feed self.old self.new (PumpsUntil L.CHUNK M.SURE feed result.0 result.1 self.old.board self.new.board) }
+        ensures until { OnFeed stays feed self.old self.new
+            (PumpsUntil L.CHUNK M.SURE feed result.0 result.1 self.old.board self.new.board) }
         ensures rings { KeepsRings self.old self.new }
     {
         self.feeds.pump(&mut self.board, feed)
@@ -107,7 +108,8 @@ fn make_port<M: Message, L: MessageLog<M>>(
     channel: Name,
 ) -> Result<Name, Refusal>
     ensures made { IfOk result (λ port. MakesPort number board.old board.new channel port) }
-    ensures refused { IfErr result (λ refusal. Refuses L.CHUNK M.SURE board.old (NewPort channel) refusal × IsAsBefore board.old board.new) }
+    ensures refused { IfErr result (λ refusal. Refuses L.CHUNK M.SURE board.old (NewPort channel) refusal
+        × IsAsBefore board.old board.new) }
 {
     match board.apply(Who::Feed(number), Call::NewPort(channel)) {
         Outcome::Answered(answer) => {

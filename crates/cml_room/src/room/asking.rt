@@ -43,7 +43,8 @@ impl<M: Message, L: MessageLog<M>> Room<M, L> {
     /// Withdraws a parked seat's call: the seat is free, and nothing was done. If what it waited for is there, the next seat that
     /// waits for the same is due. Fails with `Gone` if the seat isn't parked.
     pub fn withdraw(&mut self, seat: u64) -> Result<(), Refusal>
-        ensures freed { OnOk result ((on : Want) × (state_of self.old seat ≡ Some (State.Parked on)) × Moves self.old self.new seat State.Free) }
+        ensures freed { OnOk result ((on : Want) × (state_of self.old seat ≡ Some (State.Parked on))
+            × Moves self.old self.new seat State.Free) }
         ensures board { self.new.board ≡ self.old.board }
         ensures turns { Turns seat (withdrawn_by seat result) None self.old self.new }
         ensures alarm { self.new.all_due ≡ self.old.all_due }

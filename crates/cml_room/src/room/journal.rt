@@ -32,7 +32,8 @@ impl<M: Message, L: MessageLog<M>> Room<M, L> {
     /// Cuts the journal and returns the entries that it had, as `Floor::take_journal` does.
     pub fn take_journal(&mut self) -> Result<Vec<Entry<M>>, Refusal>
         ensures taken { IfOk result (λ taken. reverse taken.items ++ self.old.board.past ≡ self.old.board.history) }
-        ensures cut { MatchResult result (λ _. CutsFloor (floor_of self.old) (floor_of self.new)) (NotCut (floor_of self.old) (floor_of self.new)) }
+        ensures cut { MatchResult result (λ _. CutsFloor (floor_of self.old) (floor_of self.new))
+            (NotCut (floor_of self.old) (floor_of self.new)) }
         ensures rings { KeepsRings (floor_of self.old) (floor_of self.new) }
         ensures kept { KeepsSeats self.old self.new }
     {

@@ -30,7 +30,8 @@ pub fn conclude(
 ) -> Result<Played, Ending>
     requires { board.now.past ≡ no_entries }
     ensures stop { IfOk result (λ played. played.stop ≡ stop) }
-    ensures report { IfOk result (λ played. IsReportOf script.now board.now.limit board.now.history tally.now stop (string_bytes played.report)) }
+    ensures report { IfOk result
+        (λ played. IsReportOf script.now board.now.limit board.now.history tally.now stop (string_bytes played.report)) }
     ensures refused { IfErr result (λ ending. IsRefused script.now board.now.limit board.now.history tally.now stop ending) }
 {
     conclude_as(alloc, Form::Report, script, board, tally, stop)
@@ -47,7 +48,8 @@ pub(super) fn conclude_as(
 ) -> Result<Played, Ending>
     requires { board.now.past ≡ no_entries }
     ensures stop { IfOk result (λ played. played.stop ≡ stop) }
-    ensures text { IfOk result (λ played. IsTextOf form script.now board.now.limit board.now.history tally.now stop (string_bytes played.report)) }
+    ensures text { IfOk result
+        (λ played. IsTextOf form script.now board.now.limit board.now.history tally.now stop (string_bytes played.report)) }
     ensures refused { IfErr result (λ ending. IsRefused script.now board.now.limit board.now.history tally.now stop ending) }
 {
     // That no journal has more entries than an audit takes is what the limit's reader tells.
@@ -70,7 +72,8 @@ fn tell_own(
     requires own { IsOfScript script.now board.now.history }
     requires whole { board.now.past ≡ no_entries }
     ensures stop { IfOk result (λ played. played.stop ≡ stop) }
-    ensures text { IfOk result (λ played. IsTextOf form script.now board.now.limit board.now.history tally.now stop (string_bytes played.report)) }
+    ensures text { IfOk result
+        (λ played. IsTextOf form script.now board.now.limit board.now.history tally.now stop (string_bytes played.report)) }
     ensures refused { IfErr result (λ ending. IsRefused script.now board.now.limit board.now.history tally.now stop ending) }
 {
     // That the history is lawful and within the limit is what the journal's reader tells.

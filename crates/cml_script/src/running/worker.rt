@@ -71,7 +71,8 @@ fn close<C: Caller>(course: &Course, caller: &mut C, stop: Stop) -> Result<Stop,
     requires { C.goes_on caller.old ≡ true }
     ensures held { IsUnheld (Ok stop) → IsUnheld result }
     ensures ends { ((result ≡ Ok stop) × (C.made caller.new ≡ closed_if course.now.is_sending (C.made caller.old)))
-        ⊎ ((course.now.is_sending ≡ true) × ((refusal : Refusal) × (C.made caller.new ≡ option_map (with_refused refusal) (C.made caller.old)) × (result ≡ ending_with stop refusal))) }
+        ⊎ ((course.now.is_sending ≡ true) × ((refusal : Refusal)
+        × (C.made caller.new ≡ option_map (with_refused refusal) (C.made caller.old)) × (result ≡ ending_with stop refusal))) }
 {
     if !course.is_sending {
         return Ok(stop);
@@ -206,7 +207,8 @@ fn call_of(
     requires turn { IsTurn plan.now (thread + 1) step }
     requires called { route_at plan.now step ≡ Route.Seat }
     requires way { (made : Option Made) × IsUnderWay plan.now (thread + 1) step course.now made }
-    ensures { IfOk result (λ call. (history : History) → entries_in history ≡ course.now.made → AreBindings plan.now history course.now.bindings.items
+    ensures { IfOk result (λ call. (history : History) → entries_in history ≡ course.now.made
+        → AreBindings plan.now history course.now.bindings.items
         → step_call plan.now history step ≡ Some call) }
 {
     let action = &plan.script().steps()[step].action;

@@ -22,7 +22,8 @@ impl<M: Message, L: MessageLog<M>, Led: Ledger> Hall<M, L, Led> {
     /// rightly. So wake each seat that `next_due` returns.
     pub fn is_due(&self, seat: u64) -> bool
         ensures due { result ≡ is_due (room_of self.now) seat }
-        ensures asleep { result ≡ false → (on : Want) → state_of (room_of self.now) seat ≡ Some (State.Parked on) → SleepsRightly (room_of self.now) on }
+        ensures asleep { result ≡ false → (on : Want) → state_of (room_of self.now) seat ≡ Some (State.Parked on)
+            → SleepsRightly (room_of self.now) on }
     {
         self.room.is_due(seat)
     }

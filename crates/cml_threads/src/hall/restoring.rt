@@ -42,10 +42,12 @@ impl<M: Message, L: MessageLog<M>, Led: Ledger> Hall<M, L, Led> {
 
         // There is one left for each old seat, by its number. Their answers are all entries that are not of lanes and feeds.
         ensures lefts { IfOk result (λ made. vec_len made.1 ≡ length made.0.seats) }
-        ensures numbers { IfOk result (λ made. (number : ℕ) (left : Sitting) → slice_get made.1.items number ≡ Some left → left.number ≡ number) }
+        ensures numbers { IfOk result (λ made. (number : ℕ) (left : Sitting)
+            → slice_get made.1.items number ≡ Some left → left.number ≡ number) }
         ensures shares { IfOk result (λ made. (number : ℕ) (left : Sitting) → slice_get made.1.items number ≡ Some left
             → left.share ≡ share_at number (entries_in restored.board.history - rings_in restored.board.history)) }
-        ensures answers { IfOk result (λ made. answers_in made.1.items + rings_in restored.board.history ≡ entries_in restored.board.history) }
+        ensures answers { IfOk result
+            (λ made. answers_in made.1.items + rings_in restored.board.history ≡ entries_in restored.board.history) }
         ensures quiet { IfOk result (λ made. NoneDue (room_of made.0)) }
     {
         let makers = restored.makers();
@@ -69,8 +71,10 @@ fn lefts_of<Led: Ledger>(
     requires parts { seats < rest.old.parts }
     requires amount { answers ≤ rest.old.amount }
     ensures lefts { IfOk result (λ lefts. vec_len lefts ≡ seats) }
-    ensures numbers { IfOk result (λ lefts. (number : ℕ) (left : Sitting) → slice_get lefts.items number ≡ Some left → left.number ≡ number) }
-    ensures shares { IfOk result (λ lefts. (number : ℕ) (left : Sitting) → slice_get lefts.items number ≡ Some left → left.share ≡ share_at number answers) }
+    ensures numbers { IfOk result (λ lefts. (number : ℕ) (left : Sitting)
+        → slice_get lefts.items number ≡ Some left → left.number ≡ number) }
+    ensures shares { IfOk result (λ lefts. (number : ℕ) (left : Sitting) → slice_get lefts.items number ≡ Some left
+        → left.share ≡ share_at number answers) }
     ensures answers { IfOk result (λ lefts. answers_in lefts.items ≡ answers) }
     ensures amount { OnOk result (rest.new.amount + answers ≡ rest.old.amount) }
     ensures parts { OnOk result (rest.new.parts + seats ≡ rest.old.parts) }

@@ -10,7 +10,8 @@ pub returns-clause-stream : goal.returns-clause-stream
 returns-clause-stream g c = messages_told
 
 pub returns-clause-owed : goal.returns-clause-owed
-returns-clause-owed g c = λ chunk past since name lawful is opened. owed_told chunk past since name lawful is (open_before past since name opened)
+returns-clause-owed g c =
+    λ chunk past since name lawful is opened. owed_told chunk past since name lawful is (open_before past since name opened)
 
 pub returns-clause-answer : goal.returns-clause-answer
 returns-clause-answer g c = answer_told

@@ -9,5 +9,6 @@ returns-in-Some-clause-ok g c =
     let stands : slice_get c.args.entries.now c.loop-at.at ≡ Some c.index-entries-at.result = search (rules, slice_get_read) in
     let position : c.entries-start.result + c.loop-at.at ≡ entries_in c.args.board.now.history + c.loop-at.at = search rules in
     let told = rw c.in-Some.is at c.in_ok-expected.ensures.ok in
-    stops_here c.args.board.now.history c.args.entries.now c.loop-at.board.history c.loop-at.at _ c.index-entries-at.result c.in-Some.expected
+    stops_here c.args.board.now.history c.args.entries.now c.loop-at.board.history c.loop-at.at _
+    c.index-entries-at.result c.in-Some.expected
     c.loop-at.invariant.0 c.loop-at.invariant.1.lawful stands position told.0 told.1

@@ -9,4 +9,5 @@ use Rattle.cml_chart.proofs.drawing.picture.Goals as goal
 pub returns-clause-drawn : goal.returns-clause-drawn
 returns-clause-drawn g c =
     let says = subst (λ (t : List ℕ). told t ≡ shown_report c.in_ok-report.report) c.deref.ensures.value c.in_ok-report.ensures.report in
-    drawn_of (option_map (λ (s : Bor Lines). s.now) c.args.script) _ _ c.in_ok-text.text.items c.in_ok-report.report c.in_ok-course.course c.in_ok-text.ensures.read says c.in_ok-course.ensures.kept c.in_ok-course.ensures.course
+    drawn_of (option_map (λ (s : Bor Lines). s.now) c.args.script) _ _ c.in_ok-text.text.items c.in_ok-report.report c.in_ok-course.course
+    c.in_ok-text.ensures.read says c.in_ok-course.ensures.kept c.in_ok-course.ensures.course

@@ -13,8 +13,11 @@ returns-then-made-objects-clause-fault c =
     let objects = drop at c.args.objects.now in
     let made = drop at c.args.made.now in
     let told = length-map objects shown_object ∙ length-drop at c.args.objects.now in
-    let named = length-map made shown_made ∙ length-drop at c.args.made.now in
-    (ap (λ (f : Fault). f.what) fault, sym c.loop-at.invariant.0 ∙ uneven (c.args.first + at) (map shown_object objects) (map shown_made made) (omega arith) (omega arith) ∙ ap Some same)
+    let named = length-map made shown_made ∙ length-drop at c.args.made.now in (
+      ap (λ (f : Fault). f.what) fault,
+      sym c.loop-at.invariant.0
+          ∙ uneven (c.args.first + at) (map shown_object objects) (map shown_made made) (omega arith) (omega arith) ∙ ap Some same,
+    )
 
 pub returns-in_default-clause-fault : goal.returns-in_default-clause-fault
 returns-in_default-clause-fault c =
@@ -26,5 +29,8 @@ returns-in_default-clause-fault c =
     let objects = drop at c.args.objects.now in
     let made = drop at c.args.made.now in
     let told = length-map objects shown_object ∙ length-drop at c.args.objects.now in
-    let named = length-map made shown_made ∙ length-drop at c.args.made.now in
-    (ap (λ (f : Fault). f.what) fault, sym c.loop-at.invariant.0 ∙ uneven (c.args.first + at) (map shown_object objects) (map shown_made made) (omega arith) (omega arith) ∙ ap Some same)
+    let named = length-map made shown_made ∙ length-drop at c.args.made.now in (
+      ap (λ (f : Fault). f.what) fault,
+      sym c.loop-at.invariant.0
+          ∙ uneven (c.args.first + at) (map shown_object objects) (map shown_made made) (omega arith) (omega arith) ∙ ap Some same,
+    )

@@ -5,4 +5,5 @@ use Rattle.cml_chart.proofs.plan.add_targets.Given as goal
 
 abbrev pub invariant-loop-lane : goal.invariant-loop-lane
 invariant-loop-lane l =
-    each_once (names_of l.targets.keys) (map target_in (map (λ (x : Lane). source_of x.line) (drop l.lane-index l.lanes))) ≡ targets_in l.script
+    each_once (names_of l.targets.keys) (map target_in (map (λ (x : Lane). source_of x.line) (drop l.lane-index l.lanes)))
+    ≡ targets_in l.script

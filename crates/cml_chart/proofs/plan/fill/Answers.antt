@@ -12,8 +12,11 @@ loop-declaration-preserved c =
     let d = c.declaration-item in
     let added = c.in_ok-add_declared.ensures in
     record {
-      threads = grown_at line (thread_in c.args.script.now) declared l.declaration-index d.result _ _ _ c.loop-declaration-test.true d.is added.threads l.invariant.threads;
-      feeds = grown_at line feed_in declared l.declaration-index d.result _ _ _ c.loop-declaration-test.true d.is added.feeds l.invariant.feeds;
-      objects = grown_at line object_in declared l.declaration-index d.result _ _ _ c.loop-declaration-test.true d.is added.objects l.invariant.objects;
+      threads = grown_at line (thread_in c.args.script.now) declared l.declaration-index d.result _ _ _ c.loop-declaration-test.true d.is
+          added.threads l.invariant.threads;
+      feeds =
+          grown_at line feed_in declared l.declaration-index d.result _ _ _ c.loop-declaration-test.true d.is added.feeds l.invariant.feeds;
+      objects = grown_at line object_in declared l.declaration-index d.result _ _ _ c.loop-declaration-test.true d.is
+          added.objects l.invariant.objects;
       targets = added.targets ∙ l.invariant.targets;
     }

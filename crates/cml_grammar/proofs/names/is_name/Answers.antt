@@ -10,4 +10,5 @@ pub returns : goal.returns
 returns c =
     let rest = c.in-Some.rest.now in
     all_from_yields_List is_name_byte _ _ _ c.all.ensures.ran (YieldsList-from_slice rest cc) (λ x b q k. search (rules, tests))
-    ∙ sym (is_name_rest c.args.word.now c.in-Some.first.now rest (sym c.as_bytes.ensures.value ∙ c.in-Some.ensures.cases.0) (sym c.is_letter.ensures ∙ c.if-not-is_letter.false) (omega arith) (sym c.is_reserved.ensures ∙ c.if-is_reserved.false))
+    ∙ sym (is_name_rest c.args.word.now c.in-Some.first.now rest (sym c.as_bytes.ensures.value ∙ c.in-Some.ensures.cases.0)
+    (sym c.is_letter.ensures ∙ c.if-not-is_letter.false) (omega arith) (sym c.is_reserved.ensures ∙ c.if-is_reserved.false))

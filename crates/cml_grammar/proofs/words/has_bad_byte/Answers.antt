@@ -6,4 +6,5 @@ use Rattle.cml_grammar.specs.Prelude.{is_bad_byte}
 use Rattle.cml_grammar.proofs.words.has_bad_byte.Goals as goal
 
 pub returns : goal.returns
-returns c = any_from_yields_List is_bad_byte _ _ _ c.any.ensures.ran (YieldsList-from_slice c.args.line.now cc) (λ x b q k. search (rules, tests))
+returns c =
+    any_from_yields_List is_bad_byte _ _ _ c.any.ensures.ran (YieldsList-from_slice c.args.line.now cc) (λ x b q k. search (rules, tests))

@@ -9,7 +9,8 @@ use Rattle.cml_journal.proofs.bytes.bytes_in.Goals as goal
 pub loop-byte-preserved : goal.loop-byte-preserved
 loop-byte-preserved c =
     ap (λ front. option_map (λ more. front ++ more) (bytes_in c.in-Some.later.now)) c.in_ok-push.ensures.items
-    ∙ goes_on c.loop-byte.bytes.items c.loop-byte.rest.now c.in-Some.byte c.in-Some.later.now (bytes_in c.args.text.now) c.in-Some.ensures c.loop-byte.invariant
+    ∙ goes_on c.loop-byte.bytes.items c.loop-byte.rest.now c.in-Some.byte c.in-Some.later.now
+    (bytes_in c.args.text.now) c.in-Some.ensures c.loop-byte.invariant
 
 items_shown : (t : Bool) (v : Vec ℕ) → option_map (λ (v : Vec ℕ). v.items) (then_some t v) ≡ (if t then Some v.items else None)
 items_shown true v = refl

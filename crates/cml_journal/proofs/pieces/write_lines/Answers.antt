@@ -12,8 +12,12 @@ loop-entry-preserved g c =
     let i = c.loop-entry.entry-index in
     let entry = c.entry-item.result in
     let line = λ (e : Entry g.row.M.Denot). with_line_end (line_of g.M.Written.text e) in
-    let added : string_bytes c.push_str.new.self ≡ string_bytes c.loop-entry.text ++ line entry = c.in_ok-push_str.ensures.bytes ∙ ap (λ (t : List ℕ). t ++ 10 ∷ []) c.in_ok-write_entry.ensures
+    let added : string_bytes c.push_str.new.self ≡ string_bytes c.loop-entry.text ++ line entry = c.in_ok-push_str.ensures.bytes
+    ∙ ap (λ (t : List ℕ). t ++ 10 ∷ []) c.in_ok-write_entry.ensures
     ∙ append_assoc (string_bytes c.loop-entry.text) (line_of g.M.Written.text entry) (10 ∷ []) in
-    let more = writes_more _ _ _ _ (string_bytes c.loop-entry.text) (string_bytes c.push_str.new.self) (line entry) (string_bytes c.write_much.new.text) c.loop-entry.invariant added c.in_ok-write_much.ensures in
-    let next = ap (λ (e : Entry g.row.M.Denot). (text ++ flat_map line (take i entries)) ++ line e) c.entry-item.is ∙ lines_more line text entries i entry c.loop-entry-test.true in
-    subst (λ (t : List ℕ). Writes (g.W.Write.contents c.args.writer.now) (g.W.Write.contents c.write_much.new.writer) t (string_bytes c.write_much.new.text)) next more
+    let more = writes_more _ _ _ _ (string_bytes c.loop-entry.text) (string_bytes c.push_str.new.self) (line entry)
+    (string_bytes c.write_much.new.text) c.loop-entry.invariant added c.in_ok-write_much.ensures in
+    let next = ap (λ (e : Entry g.row.M.Denot). (text ++ flat_map line (take i entries)) ++ line e) c.entry-item.is
+    ∙ lines_more line text entries i entry c.loop-entry-test.true in
+    subst (λ (t : List ℕ). Writes (g.W.Write.contents c.args.writer.now) (g.W.Write.contents c.write_much.new.writer) t
+    (string_bytes c.write_much.new.text)) next more

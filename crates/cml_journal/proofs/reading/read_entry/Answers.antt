@@ -5,8 +5,10 @@ use Rattle.cml_journal.proofs.reading.read_entry.Goals as goal
 
 pub returns-clause-found : goal.returns-clause-found
 returns-clause-found g c =
-    entry_found g.M.Written.text g.M.Written.fits g.M.Written.meaning g.met.M.Written.written c.args.line.now c.entry_in.result c.entry_in.ensures
+    entry_found g.M.Written.text g.M.Written.fits g.M.Written.meaning g.met.M.Written.written c.args.line.now
+    c.entry_in.result c.entry_in.ensures
 
 pub returns-clause-only : goal.returns-clause-only
 returns-clause-only g c =
-    λ entry has e. subst (λ r. Gives (λ entry. entry) c.entry_in.result r) (ap (entry_in g.M.Written.meaning) e ∙ entry_again g.M.Written.text g.M.Written.fits g.M.Written.meaning g.met.M.Written.written entry has) c.entry_in.ensures
+    λ entry has e. subst (λ r. Gives (λ entry. entry) c.entry_in.result r) (ap (entry_in g.M.Written.meaning) e
+    ∙ entry_again g.M.Written.text g.M.Written.fits g.M.Written.meaning g.met.M.Written.written entry has) c.entry_in.ensures

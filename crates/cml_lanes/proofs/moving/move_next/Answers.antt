@@ -27,12 +27,15 @@ take-requires-clause-countable g c =
 
 pub returns-in-Answered-clause-moved : goal.returns-in-Answered-clause-moved
 returns-in-Answered-clause-moved g c =
-    one_moves c.args.number c.args.board.now c.apply.new.self c.args.lane.now c.take.new.self c.call-call.result c.in-Answered.field-0.reply c.next.result.now c.take.result
+    one_moves c.args.number c.args.board.now c.apply.new.self c.args.lane.now c.take.new.self c.call-call.result
+    c.in-Answered.field-0.reply c.next.result.now c.take.result
     c.in-Answered.ensures.5 c.in-Answered.ensures.2
-    (c.call-call.ensures ∙ same_way_call c.way.ensures c.target.ensures c.in-Ok.ensures.copy) c.next.ensures c.take.ensures.side c.take.ensures.next
+    (c.call-call.ensures ∙ same_way_call c.way.ensures c.target.ensures c.in-Ok.ensures.copy) c.next.ensures
+    c.take.ensures.side c.take.ensures.next
 
 pub returns-clause-stopped : goal.returns-clause-stopped
 returns-clause-stopped g c =
-    stops_refused g.L.MessageLog.CHUNK g.M.Message.SURE c.args.number c.args.board.now c.apply.new.self c.args.lane.now c.in-Refused.refusal c.call-call.result c.next.result.now
+    stops_refused g.L.MessageLog.CHUNK g.M.Message.SURE c.args.number c.args.board.now c.apply.new.self c.args.lane.now c.in-Refused.refusal
+    c.call-call.result c.next.result.now
     c.requires.kept.kind c.in-Refused.ensures.2 c.next.ensures
     (c.call-call.ensures ∙ same_way_call c.way.ensures c.target.ensures c.in-Ok.ensures.copy) c.in-Refused.ensures.0

@@ -4,7 +4,8 @@ use Rattle.cml_lanes.proofs.moving.move_seen.Goals as goal
 
 pub move_next-refusal-requires-clause-kept : goal.move_next-refusal-requires-clause-kept
 move_next-refusal-requires-clause-kept g c =
-    keeps_moved c.args.number c.loop-moved.moved c.args.board.now c.loop-moved.board c.args.lane.now c.loop-moved.lane c.requires c.loop-moved.invariant
+    keeps_moved c.args.number c.loop-moved.moved c.args.board.now c.loop-moved.board c.args.lane.now
+    c.loop-moved.lane c.requires c.loop-moved.invariant
 
 pub loop-moved-preserved : goal.loop-moved-preserved
 loop-moved-preserved g c =

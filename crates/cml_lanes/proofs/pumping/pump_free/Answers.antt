@@ -6,12 +6,14 @@ use Rattle.cml_lanes.proofs.pumping.pump_free.Goals as goal
 
 pub pump_next-refusal-requires-clause-kept : goal.pump_next-refusal-requires-clause-kept
 pump_next-refusal-requires-clause-kept g c =
-    keeps_pumped c.args.number c.loop-pumped.pumped c.args.board.now c.loop-pumped.board c.args.feed.now c.loop-pumped.feed c.requires c.loop-pumped.invariant
+    keeps_pumped c.args.number c.loop-pumped.pumped c.args.board.now c.loop-pumped.board c.args.feed.now c.loop-pumped.feed
+    c.requires c.loop-pumped.invariant
 
 pub pump_next-refusal-requires-clause-owed : goal.pump_next-refusal-requires-clause-owed
 pump_next-refusal-requires-clause-owed g c =
     still_owed c.loop-pumped.board.history c.loop-pumped.feed.port c.port.result c.would_wait.result
-    (keeps_pumped c.args.number c.loop-pumped.pumped c.args.board.now c.loop-pumped.board c.args.feed.now c.loop-pumped.feed c.requires c.loop-pumped.invariant).kind
+    (keeps_pumped c.args.number c.loop-pumped.pumped c.args.board.now c.loop-pumped.board c.args.feed.now c.loop-pumped.feed
+    c.requires c.loop-pumped.invariant).kind
     c.port.ensures c.would_wait.ensures c.if-would_wait.false
 
 pub loop-pumped-init : goal.loop-pumped-init

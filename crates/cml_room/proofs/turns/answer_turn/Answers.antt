@@ -29,5 +29,6 @@ returns-then-is_full-clause-ends g c =
 
 pub returns-then-is_full-clause-kept : goal.returns-then-is_full-clause-kept
 returns-then-is_full-clause-kept g c = λ before watched next.
-    all_watched c.args.floor.now c.end_turn.new.seats.places c.rouse_all.new.self.places c.rouse_all.new.self.all_due c.end_turn.ensures.placed
+    all_watched c.args.floor.now c.end_turn.new.seats.places c.rouse_all.new.self.places
+    c.rouse_all.new.self.all_due c.end_turn.ensures.placed
     c.rouse_all.ensures.places c.rouse_all.ensures.due

@@ -12,22 +12,28 @@ use Rattle.cml_room.proofs.turns.begin_wait.Goals as goal
 pub returns-then-eq-clause-states : goal.returns-then-eq-clause-states
 returns-then-eq-clause-states g c =
     let free : slice_get (states_in c.args.seats.now.places) c.args.number ≡ Some Free = search rules in
-    (free_begun c.args.floor.now.board c.board.result.now c.args.seats.now.places c.wait.new.self.places c.args.number c.args.want c.object_of.result.0 c.source_of-source.result
-    (free_place c.args.seats.now.places c.args.number free) c.wait.ensures.places c.board.ensures.board c.object_of.ensures c.source_of-source.ensures
+    (free_begun c.args.floor.now.board c.board.result.now c.args.seats.now.places c.wait.new.self.places c.args.number c.args.want
+    c.object_of.result.0 c.source_of-source.result
+    (free_place c.args.seats.now.places c.args.number free) c.wait.ensures.places c.board.ensures.board
+    c.object_of.ensures c.source_of-source.ensures
     c.requires.would c.requires.watched.placed).states
 
 pub returns-then-eq-clause-placed : goal.returns-then-eq-clause-placed
 returns-then-eq-clause-placed g c =
     let free : slice_get (states_in c.args.seats.now.places) c.args.number ≡ Some Free = search rules in
-    (free_begun c.args.floor.now.board c.board.result.now c.args.seats.now.places c.wait.new.self.places c.args.number c.args.want c.object_of.result.0 c.source_of-source.result
-    (free_place c.args.seats.now.places c.args.number free) c.wait.ensures.places c.board.ensures.board c.object_of.ensures c.source_of-source.ensures
+    (free_begun c.args.floor.now.board c.board.result.now c.args.seats.now.places c.wait.new.self.places c.args.number c.args.want
+    c.object_of.result.0 c.source_of-source.result
+    (free_place c.args.seats.now.places c.args.number free) c.wait.ensures.places c.board.ensures.board
+    c.object_of.ensures c.source_of-source.ensures
     c.requires.would c.requires.watched.placed).placed
 
 pub returns-then-eq-clause-rests : goal.returns-then-eq-clause-rests
 returns-then-eq-clause-rests g c = λ none.
     let free : slice_get (states_in c.args.seats.now.places) c.args.number ≡ Some Free = search rules in
-    (free_begun c.args.floor.now.board c.board.result.now c.args.seats.now.places c.wait.new.self.places c.args.number c.args.want c.object_of.result.0 c.source_of-source.result
-    (free_place c.args.seats.now.places c.args.number free) c.wait.ensures.places c.board.ensures.board c.object_of.ensures c.source_of-source.ensures
+    (free_begun c.args.floor.now.board c.board.result.now c.args.seats.now.places c.wait.new.self.places c.args.number c.args.want
+    c.object_of.result.0 c.source_of-source.result
+    (free_place c.args.seats.now.places c.args.number free) c.wait.ensures.places c.board.ensures.board
+    c.object_of.ensures c.source_of-source.ensures
     c.requires.would c.requires.watched.placed).rests (c.requires.watched.rests (sym c.wait.ensures.due ∙ none))
 
 pub quiet-requires : goal.quiet-requires
@@ -60,8 +66,10 @@ returns-clause-rests g c = λ none.
 pub returns-then-eq-clause-none : goal.returns-then-eq-clause-none
 returns-then-eq-clause-none g c =
     let free : slice_get (states_in c.args.seats.now.places) c.args.number ≡ Some Free = search rules in
-    (free_begun c.args.floor.now.board c.board.result.now c.args.seats.now.places c.wait.new.self.places c.args.number c.args.want c.object_of.result.0 c.source_of-source.result
-    (free_place c.args.seats.now.places c.args.number free) c.wait.ensures.places c.board.ensures.board c.object_of.ensures c.source_of-source.ensures
+    (free_begun c.args.floor.now.board c.board.result.now c.args.seats.now.places c.wait.new.self.places c.args.number c.args.want
+    c.object_of.result.0 c.source_of-source.result
+    (free_place c.args.seats.now.places c.args.number free) c.wait.ensures.places c.board.ensures.board
+    c.object_of.ensures c.source_of-source.ensures
     c.requires.would c.requires.watched.placed).none
 
 pub returns-clause-none : goal.returns-clause-none
@@ -81,7 +89,8 @@ returns-then-eq-clause-asked g c =
 pub returns-clause-asked : goal.returns-clause-asked
 returns-clause-asked g c =
     let other : ¬ (slice_get (states_in c.args.seats.now.places) c.args.number ≡ Some Free) = search rules in
-    set_asked_within c.args.seats.now.places c.quiet.new.self.places c.args.number (quieted (get_or c.args.seats.now.places c.args.number place.Free))
+    set_asked_within c.args.seats.now.places c.quiet.new.self.places c.args.number
+    (quieted (get_or c.args.seats.now.places c.args.number place.Free))
     (parked_within c.args.seats.now.places c.args.number c.args.want
     (waits_unless_free (states_in c.args.seats.now.places) c.args.number c.args.want c.requires.may other))
     (quieted_nothing (get_or c.args.seats.now.places c.args.number place.Free)) c.quiet.ensures.places

@@ -13,7 +13,8 @@ use Rattle.cml_room.proofs.turns.settle.Goals.{then-is_full-via-then-is_full, th
 
 pub tell-requires-clause-placed : goal.tell-requires-clause-placed
 tell-requires-clause-placed g c =
-    subst (λ (b : Shown g.row.M.Denot). AreAt b.history c.args.seats.now.places) (sym c.board.ensures.board) (was_placed _ _ _ _ c.requires.was)
+    subst (λ (b : Shown g.row.M.Denot). AreAt b.history c.args.seats.now.places) (sym c.board.ensures.board)
+    (was_placed _ _ _ _ c.requires.was)
 
 -- no seat waits
 pub returns-then-parked-eq0-clause-watched : goal.returns-then-parked-eq0-clause-watched
@@ -36,7 +37,8 @@ returns-then-parked-eq0-clause-settles g c =
 pub returns-then-is_full-clause-watched : goal.returns-then-is_full-clause-watched
 returns-then-is_full-clause-watched g c =
     all_watched c.args.floor.now c.tell.new.seats.places c.rouse_all.new.self.places c.rouse_all.new.self.all_due
-    (at_kept _ c.args.floor.now.board.history c.args.seats.now.places c.tell.new.seats.places c.tell.ensures.roused (was_placed _ _ _ _ c.requires.was))
+    (at_kept _ c.args.floor.now.board.history c.args.seats.now.places c.tell.new.seats.places c.tell.ensures.roused
+    (was_placed _ _ _ _ c.requires.was))
     c.rouse_all.ensures.places c.rouse_all.ensures.due
 
 pub returns-then-is_full-clause-settles : goal.returns-then-is_full-clause-settles
@@ -68,7 +70,8 @@ returns-then-is_full-clause-settles g c =
 pub returns-else-is_stalled-clause-watched : goal.returns-else-is_stalled-clause-watched
 returns-else-is_stalled-clause-watched g c =
     let was = c.requires.was in
-    settled was.before c.args.floor.now c.board.result.now c.args.news _ c.args.seats.now.places c.tell.new.seats.places c.args.seats.now.all_due
+    settled was.before c.args.floor.now c.board.result.now c.args.news _ c.args.seats.now.places
+    c.tell.new.seats.places c.args.seats.now.all_due
     c.tell.new.seats.all_due (was_placed _ _ _ _ was) c.board.ensures.board c.tell.ensures.roused c.tell.ensures.told c.tell.ensures.due
     (subst (λ (b : Shown g.row.M.Denot). HasRoom b) c.board-2.ensures.board c.if-is_full.ensures.full)
     (c.is_stalled.ensures.none c.if-is_stalled.false) was.watched was.follows

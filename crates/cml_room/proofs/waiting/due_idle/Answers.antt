@@ -20,8 +20,10 @@ returns-then-not-is_idle_at g c = λ idle.
 
 pub loop-preserved : goal.loop-preserved
 loop-preserved g c =
-    walk_goes (queue_of c.args.seats.now.due c.args.queue) c.loop.next c.after_due-next.result c.loop.counter c.in-Some.number _ c.loop.invariant c.in-Some.is
-    (λ waiter found. c.if-not-is_idle_at.ensures (Parked waiter.want) (slice_get-map state_by c.args.seats.now.places c.in-Some.number ∙ ap (option_map state_by) found))
+    walk_goes (queue_of c.args.seats.now.due c.args.queue) c.loop.next c.after_due-next.result c.loop.counter
+    c.in-Some.number _ c.loop.invariant c.in-Some.is
+    (λ waiter found. c.if-not-is_idle_at.ensures (Parked waiter.want)
+    (slice_get-map state_by c.args.seats.now.places c.in-Some.number ∙ ap (option_map state_by) found))
     (c.after_due-next.ensures c.args.queue c.loop.counter (sym c.loop.invariant.next_is ∙ c.in-Some.is))
 
 pub returns : goal.returns

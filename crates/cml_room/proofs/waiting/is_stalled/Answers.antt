@@ -7,5 +7,6 @@ pub returns-then-open_lanes-eq0-clause-all : goal.returns-then-open_lanes-eq0-cl
 returns-then-open_lanes-eq0-clause-all g c = λ is rests. (
   search rules,
   subst (λ (b : Shown g.row.M.Denot). AreIdle b.history (states_in c.args.seats.now.places)) c.board.ensures.board
-      (c.are_idle.ensures.all is (λ none. subst (λ (b : Shown g.row.M.Denot). NoneForgotten b c.args.seats.now.places) (sym c.board.ensures.board) (rests none))),
+      (c.are_idle.ensures.all is
+      (λ none. subst (λ (b : Shown g.row.M.Denot). NoneForgotten b c.args.seats.now.places) (sym c.board.ensures.board) (rests none))),
 )

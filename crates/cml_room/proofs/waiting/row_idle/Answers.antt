@@ -13,7 +13,8 @@ pub returns-in_default : goal.returns-in_default
 returns-in_default g c = λ number waiter found here.
     walk_stops (queue_of c.args.seats.now.rows (row_of c.args.source)) c.loop.next c.loop.counter _ c.loop.invariant c.in_default.is number
     (c.first_at-next.ensures.listed number (row_of c.args.source)
-    ∙ (ap (λ (o : Option Place). row_in o (row_of c.args.source)) found ∙ eq-eqb (row_of c.args.source) (row_of waiter.source) (sym here))) waiter found
+    ∙ (ap (λ (o : Option Place). row_in o (row_of c.args.source)) found ∙ eq-eqb (row_of c.args.source) (row_of waiter.source) (sym here)))
+    waiter found
 
 pub returns-then-not-is_idle_at : goal.returns-then-not-is_idle_at
 returns-then-not-is_idle_at g c = λ idle.
@@ -22,8 +23,10 @@ returns-then-not-is_idle_at g c = λ idle.
 
 pub loop-preserved : goal.loop-preserved
 loop-preserved g c =
-    walk_goes (queue_of c.args.seats.now.rows (row_of c.args.source)) c.loop.next c.after-next.result c.loop.counter c.in-Some.number _ c.loop.invariant c.in-Some.is
-    (λ waiter found. c.if-not-is_idle_at.ensures (Parked waiter.want) (slice_get-map state_by c.args.seats.now.places c.in-Some.number ∙ ap (option_map state_by) found))
+    walk_goes (queue_of c.args.seats.now.rows (row_of c.args.source)) c.loop.next c.after-next.result c.loop.counter
+    c.in-Some.number _ c.loop.invariant c.in-Some.is
+    (λ waiter found. c.if-not-is_idle_at.ensures (Parked waiter.want)
+    (slice_get-map state_by c.args.seats.now.places c.in-Some.number ∙ ap (option_map state_by) found))
     (c.after-next.ensures (row_of c.args.source) c.loop.counter (sym c.loop.invariant.next_is ∙ c.in-Some.is))
 
 pub returns : goal.returns
@@ -31,4 +34,5 @@ returns g c = λ number waiter found here.
     walk_ends (queue_of c.args.seats.now.rows (row_of c.args.source)) c.loop.next c.loop.counter _ c.loop.invariant
     (omega (arith, c.most-end.ensures (row_of c.args.source), c.loop-test.false)) number
     (c.first_at-next.ensures.listed number (row_of c.args.source)
-    ∙ (ap (λ (o : Option Place). row_in o (row_of c.args.source)) found ∙ eq-eqb (row_of c.args.source) (row_of waiter.source) (sym here))) waiter found
+    ∙ (ap (λ (o : Option Place). row_in o (row_of c.args.source)) found ∙ eq-eqb (row_of c.args.source) (row_of waiter.source) (sym here)))
+    waiter found

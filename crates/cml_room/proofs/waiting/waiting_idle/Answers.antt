@@ -13,4 +13,5 @@ loop-row-preserved g c = λ number waiter found less. elim (cases_lt (row_of wai
 ]
 
 pub returns : goal.returns
-returns g c = λ number waiter found. c.loop-row.invariant number waiter found (omega (arith, row_within waiter.source, c.loop-row-test.false))
+returns g c =
+    λ number waiter found. c.loop-row.invariant number waiter found (omega (arith, row_within waiter.source, c.loop-row-test.false))

@@ -9,4 +9,5 @@ abbrev pub invariant-loop : goal.invariant-loop
 invariant-loop l = AreRoused (λ waiter. reaches l.object l.source waiter ≡ true) l.initial.seats.places l.seats.places
     × (l.seats.rows ≡ l.initial.seats.rows) × (l.seats.all_due ≡ l.initial.seats.all_due)
     × Walked (queue_of l.seats.rows (row_of l.source)) l.next l.counter
-    (λ k. (waiter : Waiter) → slice_get l.seats.places k ≡ Some (Waiting waiter) → reaches l.object l.source waiter ≡ true → is_noted waiter.notice ≡ true)
+    (λ k. (waiter : Waiter) → slice_get l.seats.places k ≡ Some (Waiting waiter)
+    → reaches l.object l.source waiter ≡ true → is_noted waiter.notice ≡ true)

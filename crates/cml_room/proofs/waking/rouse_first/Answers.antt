@@ -14,7 +14,8 @@ loop-init c = (refl, walk_begins _ _ _ c.first_at-next.ensures.first)
 
 pub returns-in_default-clause-roused : goal.returns-in_default-clause-roused
 returns-in_default-clause-roused c =
-    subst (λ (v : SeatsShown). AreRoused (λ waiter. waiter.want ≡ c.args.want) c.args.seats.now.places v.places) (sym c.loop.invariant.0) (none_roused _ c.args.seats.now.places)
+    subst (λ (v : SeatsShown). AreRoused (λ waiter. waiter.want ≡ c.args.want) c.args.seats.now.places v.places) (sym c.loop.invariant.0)
+    (none_roused _ c.args.seats.now.places)
 
 pub returns-in_default-clause-first : goal.returns-in_default-clause-first
 returns-in_default-clause-first c = λ number waiter quiet same source.
@@ -29,14 +30,17 @@ rouse-requires c = slice_get_within _ _ _ c.if-wants.ensures.1
 
 pub returns-then-wants-clause-roused : goal.returns-then-wants-clause-roused
 returns-then-wants-clause-roused c =
-    let one = one_roused (λ waiter. waiter.want ≡ c.args.want) c.loop.seats.places c.in-Some.number c.if-wants.ensures.0 c.if-wants.ensures.1 c.if-wants.ensures.2 in
+    let one = one_roused (λ waiter. waiter.want ≡ c.args.want) c.loop.seats.places c.in-Some.number c.if-wants.ensures.0
+    c.if-wants.ensures.1 c.if-wants.ensures.2 in
     subst (λ l. AreRoused (λ waiter. waiter.want ≡ c.args.want) c.args.seats.now.places l) (sym c.rouse.ensures.places)
-    (subst (λ (v : SeatsShown). AreRoused (λ waiter. waiter.want ≡ c.args.want) v.places (slice_set c.loop.seats.places c.in-Some.number (roused (get_or c.loop.seats.places c.in-Some.number Free))))
+    (subst (λ (v : SeatsShown). AreRoused (λ waiter. waiter.want ≡ c.args.want) v.places
+    (slice_set c.loop.seats.places c.in-Some.number (roused (get_or c.loop.seats.places c.in-Some.number Free))))
     c.loop.invariant.0 one)
 
 pub returns-then-wants-clause-first : goal.returns-then-wants-clause-first
 returns-then-wants-clause-first c = λ number waiter quiet same source.
-    set_roused_mate c.loop.seats.places c.rouse.new.self.places c.in-Some.number c.if-wants.ensures.0 c.args.want c.if-wants.ensures.1 c.if-wants.ensures.2 c.rouse.ensures.places
+    set_roused_mate c.loop.seats.places c.rouse.new.self.places c.in-Some.number c.if-wants.ensures.0 c.args.want c.if-wants.ensures.1
+    c.if-wants.ensures.2 c.rouse.ensures.places
 
 pub loop-preserved : goal.loop-preserved
 loop-preserved c = (
@@ -47,12 +51,18 @@ loop-preserved c = (
 
 pub returns-clause-roused : goal.returns-clause-roused
 returns-clause-roused c =
-    subst (λ (v : SeatsShown). AreRoused (λ waiter. waiter.want ≡ c.args.want) c.args.seats.now.places v.places) (sym c.loop.invariant.0) (none_roused _ c.args.seats.now.places)
+    subst (λ (v : SeatsShown). AreRoused (λ waiter. waiter.want ≡ c.args.want) c.args.seats.now.places v.places) (sym c.loop.invariant.0)
+    (none_roused _ c.args.seats.now.places)
 
 pub returns-clause-first : goal.returns-clause-first
 returns-clause-first c = λ number waiter quiet same source.
     let seen = walk_ends _ _ _ _ c.loop.invariant.1
-    (omega (arith, c.most-end.ensures (row_of c.args.source), ap (λ (v : SeatsShown). length (queue_of v.rows (row_of c.args.source))) c.loop.invariant.0, c.loop-test.false)) number
+    (omega (
+      arith,
+      c.most-end.ensures (row_of c.args.source),
+      ap (λ (v : SeatsShown). length (queue_of v.rows (row_of c.args.source))) c.loop.invariant.0,
+      c.loop-test.false,
+    )) number
     (ap (λ (v : SeatsShown). is_in v.rows (row_of c.args.source) number) c.loop.invariant.0
     ∙ in_row c.args.seats.now.rows c.args.seats.now.places number waiter c.args.source c.first_at-next.ensures.listed
     (ap (λ (v : SeatsShown). slice_get v.places number) (sym c.loop.invariant.0) ∙ quiet.here) source) in

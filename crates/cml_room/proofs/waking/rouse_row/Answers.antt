@@ -15,8 +15,10 @@ returns-in_default-clause-roused c = c.loop.invariant.0
 
 pub returns-in_default-clause-each : goal.returns-in_default-clause-each
 returns-in_default-clause-each c =
-    not_in_row c.args.seats.now.places c.loop.seats.places c.args.source c.args.seats.now.rows c.first_at-next.ensures.listed c.loop.invariant.0 (λ number is.
-    walk_stops _ _ _ _ c.loop.invariant.3 c.in_default.is number (ap (λ (q : QueuesShown). is_in q (row_of c.args.source) number) c.loop.invariant.1 ∙ is))
+    not_in_row c.args.seats.now.places c.loop.seats.places c.args.source c.args.seats.now.rows
+    c.first_at-next.ensures.listed c.loop.invariant.0 (λ number is.
+    walk_stops _ _ _ _ c.loop.invariant.3 c.in_default.is number
+    (ap (λ (q : QueuesShown). is_in q (row_of c.args.source) number) c.loop.invariant.1 ∙ is))
 
 pub returns-in_default-clause-due : goal.returns-in_default-clause-due
 returns-in_default-clause-due c = c.loop.invariant.2
@@ -50,9 +52,15 @@ returns-clause-roused c = c.loop.invariant.0
 
 pub returns-clause-each : goal.returns-clause-each
 returns-clause-each c =
-    not_in_row c.args.seats.now.places c.loop.seats.places c.args.source c.args.seats.now.rows c.first_at-next.ensures.listed c.loop.invariant.0 (λ number is.
+    not_in_row c.args.seats.now.places c.loop.seats.places c.args.source c.args.seats.now.rows
+    c.first_at-next.ensures.listed c.loop.invariant.0 (λ number is.
     walk_ends _ _ _ _ c.loop.invariant.3
-    (omega (arith, c.most-end.ensures (row_of c.args.source), ap (λ (q : QueuesShown). length (queue_of q (row_of c.args.source))) c.loop.invariant.1, c.loop-test.false))
+    (omega (
+      arith,
+      c.most-end.ensures (row_of c.args.source),
+      ap (λ (q : QueuesShown). length (queue_of q (row_of c.args.source))) c.loop.invariant.1,
+      c.loop-test.false,
+    ))
     number (ap (λ (q : QueuesShown). is_in q (row_of c.args.source) number) c.loop.invariant.1 ∙ is))
 
 pub returns-clause-due : goal.returns-clause-due

@@ -13,7 +13,8 @@ pub loop-row-preserved : goal.loop-row-preserved
 loop-row-preserved c =
     let olds = c.loop-row.seats.places in
     let news = c.rouse_row.new.seats.places in (
-      roused_twice (λ w. ⊤) c.args.seats.now.places olds news (λ one other same source so. tt) c.loop-row.invariant.0 c.rouse_row.ensures.roused,
+      roused_twice (λ w. ⊤) c.args.seats.now.places olds news
+          (λ one other same source so. tt) c.loop-row.invariant.0 c.rouse_row.ensures.roused,
       λ k waiter quiet less. elim (cases_lt (row_of waiter.source) c.loop-row.row) [
         | inl before ↦ c.loop-row.invariant.1 k waiter (quiet_before (λ w. ⊤) olds news k waiter c.rouse_row.ensures.roused quiet) before
         | inr past ↦

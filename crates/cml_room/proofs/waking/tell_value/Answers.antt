@@ -29,7 +29,8 @@ returns-then-eq-clause-one g c = λ single.
 pub returns-then-eq-clause-told : goal.returns-then-eq-clause-told
 returns-then-eq-clause-told g c =
     value_told c.args.board.now.history c.args.name c.rouse_each.new.seats.places c.requires.of
-    (at_kept _ c.args.board.now.history c.args.seats.now.places c.rouse_each.new.seats.places c.rouse_each.ensures.roused c.requires.placed) c.rouse_each.ensures.each
+    (at_kept _ c.args.board.now.history c.args.seats.now.places c.rouse_each.new.seats.places c.rouse_each.ensures.roused c.requires.placed)
+    c.rouse_each.ensures.each
 
 pub returns-clause-roused : goal.returns-clause-roused
 returns-clause-roused g c =
@@ -40,7 +41,8 @@ returns-clause-roused g c =
     let one = c.rouse_first.new.seats.places in
     let two = c.rouse_first-2.new.seats.places in
     let three = c.rouse_first-3.new.seats.places in
-    let same : (w w' : Waiter) → w.want ≡ w'.want → w.source ≡ w'.source → Helped w → Helped w' = λ w w' want source so. ap (helps history (Value name)) (sym want) ∙ so in
+    let same : (w w' : Waiter) → w.want ≡ w'.want → w.source ≡ w'.source → Helped w → Helped w' =
+    λ w w' want source so. ap (helps history (Value name)) (sym want) ∙ so in
     roused_twice Helped olds two three same
     (roused_twice Helped olds one two same
     (roused_so _ Helped olds one (λ waiter so. want_helps history name waiter.want (inl so)) c.rouse_first.ensures.roused)
@@ -56,10 +58,14 @@ returns-clause-one g c = λ single.
     let one = c.rouse_first.new.seats.places in
     let two = c.rouse_first-2.new.seats.places in
     let three = c.rouse_first-3.new.seats.places in
-    let same : (w w' : Waiter) → w.want ≡ w'.want → w.source ≡ w'.source → Either w → Either w' = λ w w' want source so is. so (want ∙ is) in
-    let first : AreRoused Either olds one = roused_so _ Either olds one (λ waiter so is. (let clash : Get name ≡ Swap name = sym so ∙ is in cc)) c.rouse_first.ensures.roused in
-    let second : AreRoused Either one two = roused_so _ Either one two (λ waiter so is. (let clash : Take name ≡ Swap name = sym so ∙ is in cc)) c.rouse_first-2.ensures.roused in
-    twice_each Either (Wanted (Swap name)) olds two three (roused_twice Either olds one two same first second) c.rouse_first-3.ensures.roused
+    let same : (w w' : Waiter) → w.want ≡ w'.want → w.source ≡ w'.source → Either w → Either w' =
+    λ w w' want source so is. so (want ∙ is) in
+    let first : AreRoused Either olds one =
+    roused_so _ Either olds one (λ waiter so is. (let clash : Get name ≡ Swap name = sym so ∙ is in cc)) c.rouse_first.ensures.roused in
+    let second : AreRoused Either one two =
+    roused_so _ Either one two (λ waiter so is. (let clash : Take name ≡ Swap name = sym so ∙ is in cc)) c.rouse_first-2.ensures.roused in
+    twice_each Either (Wanted (Swap name)) olds two three
+    (roused_twice Either olds one two same first second) c.rouse_first-3.ensures.roused
     (λ w w' so so' want. so (want ∙ so'))
     (twice_each (Wanted (Get name)) (Wanted (Take name)) olds one two c.rouse_first.ensures.roused c.rouse_first-2.ensures.roused
     (λ w w' so so' want. (let clash : Get name ≡ Take name = sym so ∙ (want ∙ so') in cc))
@@ -75,4 +81,5 @@ returns-clause-told g c =
     values_told _ _ history c.args.name one two three c.requires.of
     (at_kept _ history two three c.rouse_first-3.ensures.roused (at_kept _ history one two c.rouse_first-2.ensures.roused
     (at_kept _ history c.args.seats.now.places one c.rouse_first.ensures.roused c.requires.placed)))
-    c.rouse_first-2.ensures.roused c.rouse_first-3.ensures.roused c.rouse_first.ensures.first c.rouse_first-2.ensures.first c.rouse_first-3.ensures.first
+    c.rouse_first-2.ensures.roused c.rouse_first-3.ensures.roused c.rouse_first.ensures.first
+    c.rouse_first-2.ensures.first c.rouse_first-3.ensures.first

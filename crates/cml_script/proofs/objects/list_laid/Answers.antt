@@ -18,7 +18,8 @@ index_mut-requires c =
     let script = c.args.plan.now in
     let told = rw c.script.ensures at c.lanes-lane-items.ensures in
     let here = read_at _ _ _ c.loop-lane-test.true c.lane-item.is in
-    let lt = (target_declared script c.lane-item.result c.declared.ensures.known (all_at (ReadsLane (names_of script)) _ _ _ told.said here)).1 in
+    let lt =
+    (target_declared script c.lane-item.result c.declared.ensures.known (all_at (ReadsLane (names_of script)) _ _ _ told.said here)).1 in
     omega (arith, lt, c.number-object.ensures, c.loop-lane.invariant.all, c.loop-lane.laid.ok.0)
 
 pub loop-lane-preserved : goal.loop-lane-preserved

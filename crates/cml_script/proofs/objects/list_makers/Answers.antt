@@ -6,7 +6,8 @@ use Rattle.cml_board.specs.Prelude.{Who}
 use Rattle.cml_script.proofs.LineLemmas.{declaration_feed, declaration_object, declaration_read}
 use Rattle.cml_script.proofs.ObjectLemmas.{AreListed, feed_listed, object_listed, none_listed}
 use Rattle.cml_script.proofs.objects.list_makers.Goals as goal
-use Rattle.cml_script.proofs.objects.list_makers.Goals.{then-makes_feed+in_ok-push, else-makes_feed+then-makes_object+in_ok-push-2, else-makes_feed+else-makes_object}
+use Rattle.cml_script.proofs.objects.list_makers.Goals.{then-makes_feed+in_ok-push, else-makes_feed+then-makes_object+in_ok-push-2}
+use Rattle.cml_script.proofs.objects.list_makers.Goals.{else-makes_feed+else-makes_object}
 
 pub loop-declaration-preserved : goal.loop-declaration-preserved
 loop-declaration-preserved c =
@@ -14,7 +15,8 @@ loop-declaration-preserved c =
     let told = c.declarations-declaration-items.ensures in
     let i = c.loop-declaration.declaration-index in
     let d = c.declaration-item.result in
-    let read = declaration_read script c.declarations-declaration-items.result.now i d told.lines told.makes c.loop-declaration-test.true c.declaration-item.is in
+    let read = declaration_read script c.declarations-declaration-items.result.now i d told.lines told.makes
+    c.loop-declaration-test.true c.declaration-item.is in
     let line = read.0 in
     let is = declaration_feed script d read.1 ∙ sym c.makes_feed.ensures in
     let so_far = c.loop-declaration.invariant in
@@ -23,13 +25,17 @@ loop-declaration-preserved c =
       | then-makes_feed+in_ok-push w ↦
           subst (λ v. onward v c.if-makes_feed.feeds) (sym w.makers-is)
           (subst (onward w.push.new.self) (sym w.feeds-is)
-          (subst (λ (l : List Who). AreListed script (i + 1) l (c.loop-declaration.feeds + 1)) (sym w.in_ok-push.ensures.items) (feed_listed script so_far (source_of d.line) line (is ∙ w.if-makes_feed.true))))
+          (subst (λ (l : List Who). AreListed script (i + 1) l (c.loop-declaration.feeds + 1)) (sym w.in_ok-push.ensures.items)
+          (feed_listed script so_far (source_of d.line) line (is ∙ w.if-makes_feed.true))))
       | else-makes_feed+then-makes_object+in_ok-push-2 w ↦
           subst (λ v. onward v c.if-makes_feed.feeds) (sym w.makers-is)
           (subst (onward w.push-then-makes_object.new.self) (sym w.feeds-is)
-          (subst (λ (l : List Who). AreListed script (i + 1) l c.loop-declaration.feeds) (sym w.in_ok-push-2.ensures.items) (object_listed script so_far (source_of d.line) line (is ∙ w.if-makes_feed.false) (declaration_object script d read.1 ∙ sym w.makes_object.ensures ∙ w.if-makes_object.true))))
+          (subst (λ (l : List Who). AreListed script (i + 1) l c.loop-declaration.feeds) (sym w.in_ok-push-2.ensures.items)
+          (object_listed script so_far (source_of d.line) line (is ∙ w.if-makes_feed.false)
+          (declaration_object script d read.1 ∙ sym w.makes_object.ensures ∙ w.if-makes_object.true))))
       | else-makes_feed+else-makes_object w ↦
           subst (λ v. onward v c.if-makes_feed.feeds) (sym w.makers-is)
           (subst (onward c.loop-declaration.makers) (sym w.feeds-is)
-          (none_listed script so_far (source_of d.line) line (is ∙ w.if-makes_feed.false) (declaration_object script d read.1 ∙ sym w.makes_object.ensures ∙ w.if-makes_object.false)))
+          (none_listed script so_far (source_of d.line) line (is ∙ w.if-makes_feed.false)
+          (declaration_object script d read.1 ∙ sym w.makes_object.ensures ∙ w.if-makes_object.false)))
     ]

@@ -24,7 +24,8 @@ returns c =
       follows = c.board.ensures.follows;
       ends = c.in_ok-stop.ensures.ends;
     } in
-    let text = c.in_ok-report.ensures ∙ ap (λ (h : History). text_as c.args.form c.args.script.now h c.no_rings-tally.result stop) c.board.ensures.history
+    let text = c.in_ok-report.ensures
+    ∙ ap (λ (h : History). text_as c.args.form c.args.script.now h c.no_rings-tally.result stop) c.board.ensures.history
     ∙ ap (λ (t : Tallied). text_as c.args.form c.args.script.now stage.history t stop) c.no_rings-tally.ensures in
     let same = subst (λ s. Schedule s stage.limit stage.history stop) script scheduled in
     subst (λ l. IsPlayedAs c.args.form c.args.script.now l stop (string_bytes c.in_ok-report.report)) limit

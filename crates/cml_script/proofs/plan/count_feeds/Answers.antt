@@ -10,7 +10,9 @@ loop-declaration-preserved c =
     let told = c.declarations-declaration-items.ensures in
     let i = c.loop-declaration.declaration-index in
     let d = c.declaration-item.result in
-    let read = declaration_read script c.declarations-declaration-items.result.now i d told.lines told.makes c.loop-declaration-test.true c.declaration-item.is in
+    let read = declaration_read script c.declarations-declaration-items.result.now i d told.lines told.makes
+    c.loop-declaration-test.true c.declaration-item.is in
     let so = c.makes_feed.ensures ∙ sym (declaration_feed script d read.1) in
-    let more = counted_more (is_feed script) script.declarations i _ _ (source_of d.line) _ read.0 c.loop-declaration.invariant.feeds c.loop-declaration.invariant.few c.from-feeds.ensures so in
+    let more = counted_more (is_feed script) script.declarations i _ _
+    (source_of d.line) _ read.0 c.loop-declaration.invariant.feeds c.loop-declaration.invariant.few c.from-feeds.ensures so in
     record { feeds = more.0; few = more.1 }

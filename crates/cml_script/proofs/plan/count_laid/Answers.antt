@@ -13,5 +13,6 @@ loop-step-preserved c =
     let s = c.step-item.result in
     let read = step_read script c.steps-step-items.result.now i s told.lines told.asked c.loop-step-test.true c.step-item.is in
     let so = c.is_by_lane.ensures ∙ ap is_by_lane (c.route_of.ensures.route ∙ sym (step_route script s read.1)) in
-    let more = counted_more (is_laid script) script.steps i _ _ (source_of s.line) _ read.0 c.loop-step.invariant.laid c.loop-step.invariant.few c.from-laid.ensures so in
+    let more = counted_more (is_laid script) script.steps i _ _
+    (source_of s.line) _ read.0 c.loop-step.invariant.laid c.loop-step.invariant.few c.from-laid.ensures so in
     record { laid = more.0; few = more.1 }

@@ -10,7 +10,9 @@ loop-declaration-preserved c =
     let told = c.declarations-declaration-items.ensures in
     let i = c.loop-declaration.declaration-index in
     let d = c.declaration-item.result in
-    let read = declaration_read script c.declarations-declaration-items.result.now i d told.lines told.makes c.loop-declaration-test.true c.declaration-item.is in
+    let read = declaration_read script c.declarations-declaration-items.result.now i d told.lines told.makes
+    c.loop-declaration-test.true c.declaration-item.is in
     let so = c.makes_object.ensures ∙ sym (declaration_object script d read.1) in
-    let more = counted_more (is_object script) script.declarations i _ _ (source_of d.line) _ read.0 c.loop-declaration.invariant.objects c.loop-declaration.invariant.few c.from-objects.ensures so in
+    let more = counted_more (is_object script) script.declarations i _ _
+    (source_of d.line) _ read.0 c.loop-declaration.invariant.objects c.loop-declaration.invariant.few c.from-objects.ensures so in
     record { objects = more.0; few = more.1 }

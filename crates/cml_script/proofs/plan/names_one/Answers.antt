@@ -6,4 +6,5 @@ use Rattle.cml_calls.specs.Prelude.{is_name}
 use Rattle.cml_script.proofs.plan.names_one.Goals as goal
 
 pub returns : goal.returns
-returns c = any_from_yields_List is_name c.any.new.self _ c.any.result c.any.ensures.ran (YieldsList-from_slice c.args.shape.replies.now cc) (λ x b q k. search (rules, tests))
+returns c = any_from_yields_List is_name c.any.new.self _ c.any.result c.any.ensures.ran (YieldsList-from_slice c.args.shape.replies.now cc)
+    (λ x b q k. search (rules, tests))

@@ -14,13 +14,16 @@ loop-declaration-preserved c =
     let i = c.loop-declaration.declaration-index in
     let d = c.declaration-item.result in
     let numbers = c.loop-declaration.numbers.items in
-    let read = declaration_read script c.declarations-declaration-items.result.now i d told.lines told.makes c.loop-declaration-test.true c.declaration-item.is in
+    let read = declaration_read script c.declarations-declaration-items.result.now i d told.lines told.makes
+    c.loop-declaration-test.true c.declaration-item.is in
     let so = c.makes_feed.ensures ∙ sym (declaration_feed script d read.1) in
-    let more = counted_more (is_feed script) script.declarations i _ _ (source_of d.line) _ read.0 so_far.feeds so_far.few c.from-feeds.ensures so in
+    let more =
+    counted_more (is_feed script) script.declarations i _ _ (source_of d.line) _ read.0 so_far.feeds so_far.few c.from-feeds.ensures so in
     let pushed : c.push.new.self.items ≡ numbers ++ c.loop-declaration.feeds ∷ [] = c.in_ok-push.ensures.items in
     record {
       short = omega (arith, ap length pushed, length_push numbers c.loop-declaration.feeds, so_far.short);
       feeds = more.0;
       few = more.1;
-      each = rw pushed (each_pushed (λ at. how_many (is_feed script) (take at script.declarations)) numbers c.loop-declaration.feeds so_far.each (so_far.feeds ∙ ap (λ n. how_many (is_feed script) (take n script.declarations)) (sym so_far.short)));
+      each = rw pushed (each_pushed (λ at. how_many (is_feed script) (take at script.declarations)) numbers c.loop-declaration.feeds
+          so_far.each (so_far.feeds ∙ ap (λ n. how_many (is_feed script) (take n script.declarations)) (sym so_far.short)));
     }

@@ -7,5 +7,6 @@ invariant-loop-declaration l = record {
   short : length l.numbers.items ≡ l.declaration-index;
   feeds : l.feeds ≡ how_many (is_feed l.script) (take l.declaration-index l.script.declarations);
   few : l.feeds ≤ l.declaration-index;
-  each : (at : ℕ) → at < length l.numbers.items → slice_get l.numbers.items at ≡ Some (how_many (is_feed l.script) (take at l.script.declarations));
+  each : (at : ℕ) → at < length l.numbers.items
+      → slice_get l.numbers.items at ≡ Some (how_many (is_feed l.script) (take at l.script.declarations));
 }

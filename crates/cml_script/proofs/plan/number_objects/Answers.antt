@@ -14,17 +14,21 @@ loop-declaration-preserved c =
     let i = c.loop-declaration.declaration-index in
     let d = c.declaration-item.result in
     let numbers = c.loop-declaration.numbers.items in
-    let read = declaration_read script c.declarations-declarations.result.now i d told.lines told.makes c.loop-declaration-test.true c.declaration-item.is in
+    let read = declaration_read script c.declarations-declarations.result.now i d told.lines told.makes
+    c.loop-declaration-test.true c.declaration-item.is in
     let so = c.makes_object.ensures ∙ sym (declaration_object script d read.1) in
-    let more = counted_more (is_object script) script.declarations i _ _ (source_of d.line) _ read.0 so_far.objects so_far.few c.from-objects.ensures so in
+    let more = counted_more (is_object script) script.declarations i _ _
+    (source_of d.line) _ read.0 so_far.objects so_far.few c.from-objects.ensures so in
     let pushed : c.push.new.self.items ≡ numbers ++ c.loop-declaration.objects ∷ [] = c.in_ok-push.ensures.items in
     record {
       short = omega (arith, ap length pushed, length_push numbers c.loop-declaration.objects, so_far.short);
       objects = more.0;
       few = more.1;
-      each = rw pushed (each_pushed (λ at. how_many (is_object script) (take at script.declarations)) numbers c.loop-declaration.objects so_far.each (so_far.objects ∙ ap (λ n. how_many (is_object script) (take n script.declarations)) (sym so_far.short)));
+      each = rw pushed (each_pushed (λ at. how_many (is_object script) (take at script.declarations)) numbers c.loop-declaration.objects
+          so_far.each (so_far.objects ∙ ap (λ n. how_many (is_object script) (take n script.declarations)) (sym so_far.short)));
     }
 
 pub returns-clause-named : goal.returns-clause-named
 returns-clause-named c =
-    names_objects c.args.script.now c.declarations-declarations.result.now c.declarations-declarations.ensures.lines c.declarations-declarations.ensures.names c.declarations-declarations.ensures.makes
+    names_objects c.args.script.now c.declarations-declarations.result.now c.declarations-declarations.ensures.lines
+    c.declarations-declarations.ensures.names c.declarations-declarations.ensures.makes

@@ -10,7 +10,8 @@ use Rattle.cml_script.proofs.plan.queue_calls.Goals as goal
 use Rattle.cml_script.proofs.plan.queue_calls.Goals.{then-not-is_by_ring+in_ok-push, else-not-is_by_ring}
 
 pub loop-i-init : goal.loop-i-init
-loop-i-init c = queues_empty c.args.script.now (is_called c.args.script.now) c.in_ok-queues.queues.items c.in_ok-queues.ensures.len c.in_ok-queues.ensures.empty
+loop-i-init c = queues_empty c.args.script.now
+    (is_called c.args.script.now) c.in_ok-queues.queues.items c.in_ok-queues.ensures.len c.in_ok-queues.ensures.empty
 
 pub loop-i-preserved : goal.loop-i-preserved
 loop-i-preserved c =
@@ -25,11 +26,13 @@ loop-i-preserved c =
     elim c.if-not-is_by_ring.branch [
       | then-not-is_by_ring+in_ok-push w ↦
           let called = λ (seat : ℕ). step_called script s seat reads (sym ring ∙ w.if-not-is_by_ring.true) in
-          subst (λ (v : Vec (Vec ℕ Global) Global). AreQueues (is_called script) (take (i + 1) script.steps) (items_of v.items)) (sym w.queues-is)
+          subst (λ (v : Vec (Vec ℕ Global) Global). AreQueues (is_called script) (take (i + 1) script.steps) (items_of v.items))
+          (sym w.queues-is)
           (queues_pushed script (is_called script) c.loop-i.queues.items items i s w.index_mut.result.now w.push.new.self
           told.lines told.asked found told.threads w.index_mut.ensures.value w.in_ok-push.ensures.items called c.loop-i.invariant)
       | else-not-is_by_ring w ↦
           let apart = λ (seat : ℕ). step_apart script s seat reads (sym ring ∙ w.if-not-is_by_ring.false) in
-          subst (λ (v : Vec (Vec ℕ Global) Global). AreQueues (is_called script) (take (i + 1) script.steps) (items_of v.items)) (sym w.queues-is)
+          subst (λ (v : Vec (Vec ℕ Global) Global). AreQueues (is_called script) (take (i + 1) script.steps) (items_of v.items))
+          (sym w.queues-is)
           (queues_kept script (is_called script) (items_of c.loop-i.queues.items) items i s told.lines found apart c.loop-i.invariant)
     ]

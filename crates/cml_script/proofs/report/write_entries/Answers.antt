@@ -26,14 +26,17 @@ loop-entry-preserved c =
       followed = ap (λ (p : Progress). p.followed) c.follow.ensures ∙ ap (λ n. n + 1) so_far.followed;
       text = elim c.if-has_begun.branch [
         | then-has_begun+in_ok-write_entry w ↦
-            let begun = begun_at trail script journal k so_far.script so_far.journal so_far.followed (c.has_begun.ensures.0 w.if-has_begun.true) in
+            let begun =
+            begun_at trail script journal k so_far.script so_far.journal so_far.followed (c.has_begun.ensures.0 w.if-has_begun.true) in
             ap (λ (r : String Global). string_bytes r) w.report-is ∙ w.in_ok-write_entry.ensures
             ∙ ap (λ t. t ++ entry_line trail.script (before trail.journal trail.followed) entry) so_far.text
-            ∙ ap (λ t. entry_lines script (before journal k) ++ t) (entry_at trail script journal k so_far.script so_far.journal so_far.followed entry)
+            ∙ ap (λ t. entry_lines script (before journal k) ++ t)
+            (entry_at trail script journal k so_far.script so_far.journal so_far.followed entry)
             ∙ sym (line_more script (before journal k) entry begun)
             ∙ sym (ap (entry_lines script) more)
         | else-has_begun w ↦
-            let early = not_begun_at trail script journal k so_far.script so_far.journal so_far.followed (λ ge. false≢true (sym w.if-has_begun.false ∙ c.has_begun.ensures.1 ge)) in
+            let early = not_begun_at trail script journal k so_far.script so_far.journal so_far.followed
+            (λ ge. false≢true (sym w.if-has_begun.false ∙ c.has_begun.ensures.1 ge)) in
             ap (λ (r : String Global). string_bytes r) w.report-is ∙ so_far.text
             ∙ sym (no_line script (before journal k) entry early) ∙ sym (ap (entry_lines script) more)
       ];

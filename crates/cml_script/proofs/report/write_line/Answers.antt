@@ -6,4 +6,5 @@ object-requires c = (c.requires.object.0, (c.args.name.now, c.args.named, c.requ
 
 pub write_state-requires : goal.write_state-requires
 write_state-requires c =
-    c.in-Some.ensures.kind c.requires.object.0 (c.args.name.now, c.args.named, c.requires.named, c.requires.object.1) ∙ sym c.requires.object.1
+    c.in-Some.ensures.kind c.requires.object.0 (c.args.name.now, c.args.named, c.requires.named, c.requires.object.1)
+    ∙ sym c.requires.object.1

@@ -5,10 +5,12 @@ use Rattle.cml_script.proofs.CountLemmas.{some_count, some_owed, kind_there, ope
 use Rattle.cml_script.proofs.report.write_mailbox.Goals as goal
 
 pub unwrap-sent-requires : goal.unwrap-sent-requires
-unwrap-sent-requires c = some_count is_source _ kind.Mailbox _ c.sent_count.result c.sent_count.ensures (kind_there _ _ c.args.mailbox.0 kind.Mailbox c.board-board.ensures.history c.requires) refl
+unwrap-sent-requires c = some_count is_source _ kind.Mailbox _ c.sent_count.result c.sent_count.ensures
+    (kind_there _ _ c.args.mailbox.0 kind.Mailbox c.board-board.ensures.history c.requires) refl
 
 pub unwrap-got-requires : goal.unwrap-got-requires
-unwrap-got-requires c = some_count is_receiver _ kind.Mailbox _ c.got_count.result c.got_count.ensures (kind_there _ _ c.args.mailbox.0 kind.Mailbox c.board-board.ensures.history c.requires) refl
+unwrap-got-requires c = some_count is_receiver _ kind.Mailbox _ c.got_count.result c.got_count.ensures
+    (kind_there _ _ c.args.mailbox.0 kind.Mailbox c.board-board.ensures.history c.requires) refl
 
 pub unwrap-waits-requires : goal.unwrap-waits-requires
 unwrap-waits-requires c =

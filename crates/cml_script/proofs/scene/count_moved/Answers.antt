@@ -13,5 +13,6 @@ loop-entry-preserved c =
     let entry = c.entry-item.result in
     let more = before_more journal k entry (read_at journal k entry c.loop-entry-test.true c.entry-item.is) in
     let so_far = c.loop-entry.invariant in
-    let on = byte_more _ (how_many is_moved (before journal (k + 1))) _ k _ (is_lane entry.who) (omega (arith, so_far.moved, ap (how_many is_moved) more)) c.from-moved.ensures c.is_lane.ensures so_far.few in
+    let on = byte_more _ (how_many is_moved (before journal (k + 1))) _ k _ (is_lane entry.who)
+    (omega (arith, so_far.moved, ap (how_many is_moved) more)) c.from-moved.ensures c.is_lane.ensures so_far.few in
     record { moved = on.0; few = on.1 }

@@ -17,6 +17,8 @@ returns-in-Some c =
     let within = subst (λ o. IfSome o (λ n. n < length script.declarations)) c.in-Some.is c.requires in
     let there = stands script.declarations at within in
     let entry = sym c.get_index.ensures.entry ∙ ap (option_map (λ p. (p.0.now, p.1.now))) c.unwrap.ensures in
-    let named = mapped_at (λ (e : String Global × Named). (string_bytes e.0, e.1)) c.names.result.now.entries (names_of script) at _ c.names.ensures.names entry in
+    let named = mapped_at (λ (e : String Global × Named). (string_bytes e.0, e.1)) c.names.result.now.entries
+    (names_of script) at _ c.names.ensures.names entry in
     c.as_str.ensures.value
-    ∙ sym (ap (λ o. given_word (option_and_then (slice_get script.declarations) o)) c.in-Some.is ∙ word_at script at there.0 _ c.names.ensures.given there.1 named)
+    ∙ sym (ap (λ o. given_word (option_and_then (slice_get script.declarations) o)) c.in-Some.is
+    ∙ word_at script at there.0 _ c.names.ensures.given there.1 named)

@@ -56,7 +56,8 @@ impl Model for Teller {
     ghost view = { λ t. made_by t.seat (take t.told t.rings.asked) t.opened.items t.went.items t.is_sending t.refused };
 
     // Where it tells that no lane is open none is; and it tells of a feed for each that it opened.
-    ghost invariant = { λ t. (t.is_sending ≡ false → t.rings.lanes ≡ 0) × (feeds_told (take t.told t.rings.asked) ≡ length t.opened.items) };
+    ghost invariant = { λ t. (t.is_sending ≡ false → t.rings.lanes ≡ 0)
+        × (feeds_told (take t.told t.rings.asked) ≡ length t.opened.items) };
 }
 
 impl Teller {

@@ -21,7 +21,8 @@ hold_at-requires g c =
 pub unreachable-requires : goal.unreachable-requires
 unreachable-requires g c =
     c.requires.full
-    (was_held g.L.MessageLog.CHUNK c.self.view_is c.self.invariant (seen_all g.L.MessageLog.log c.hold_at.new.objects.items) c.args.name.0 c.hold_at.result None c.hold_at.ensures
+    (was_held g.L.MessageLog.CHUNK c.self.view_is c.self.invariant
+    (seen_all g.L.MessageLog.log c.hold_at.new.objects.items) c.args.name.0 c.hold_at.result None c.hold_at.ensures
     ∙ c.in_default.is)
 
 pub invariant_of-self-2 : goal.invariant_of-self-2
@@ -29,11 +30,13 @@ invariant_of-self-2 g c =
     let chunk = g.L.MessageLog.CHUNK in
     let log = g.L.MessageLog.log in
     let asked = asked_call c.args.ask c.args.name in
-    keeps_call chunk c.args.who asked c.ask.result (Got c.in_ok-noted.noted) (Got c.in_ok-noted.noted) c.self.view_is c.self.invariant c.note.ensures.entries c.reserve.ensures.items
+    keeps_call chunk c.args.who asked c.ask.result (Got c.in_ok-noted.noted)
+    (Got c.in_ok-noted.noted) c.self.view_is c.self.invariant c.note.ensures.entries c.reserve.ensures.items
     c.ask.ensures refl c.requires.room c.requires.fits
     (answer_read c.args.self.now.history c.args.ask c.args.name c.in_ok-noted.noted c.requires.reads c.in_ok-noted.ensures.copy)
     (λ lawful shows. step_set chunk c.args.who asked (Got c.in_ok-noted.noted) c.args.name c.hold_at.result None
-    (reverse c.self.inside.journal.items ++ c.self.inside.past) (seen_all log c.self.inside.objects.items) (seen_all log c.hold_at.new.objects.items)
+    (reverse c.self.inside.journal.items ++ c.self.inside.past) (seen_all log c.self.inside.objects.items)
+    (seen_all log c.hold_at.new.objects.items)
     (taken_sets c.args.ask c.args.name c.in_ok-noted.noted c.requires.empties) shows c.hold_at.ensures)
 
 pub returns : goal.returns
@@ -42,9 +45,11 @@ returns g c =
     let h = c.args.self.now.history in
     let asked = asked_call c.args.ask c.args.name in
     let full : held h c.args.name.0 ≡ Some c.in-Some.message =
-    was_held chunk c.self.view_is c.self.invariant (seen_all g.L.MessageLog.log c.hold_at.new.objects.items) c.args.name.0 c.hold_at.result None c.hold_at.ensures ∙ c.in-Some.is in
+    was_held chunk c.self.view_is c.self.invariant
+    (seen_all g.L.MessageLog.log c.hold_at.new.objects.items) c.args.name.0 c.hold_at.result None c.hold_at.ensures ∙ c.in-Some.is in
     let same : c.in_ok-noted.noted ≡ c.in-Some.message = same_Some _ _ (sym c.in_ok-noted.ensures.copy ∙ full) in (
       answer_read h c.args.ask c.args.name c.in-Some.message c.requires.reads full,
-      adds_entry c.args.who asked c.ask.result (Got c.in_ok-noted.noted) (Got c.in-Some.message) c.self.view_is c.note.ensures.entries c.reserve.ensures.items
+      adds_entry c.args.who asked c.ask.result (Got c.in_ok-noted.noted)
+          (Got c.in-Some.message) c.self.view_is c.note.ensures.entries c.reserve.ensures.items
           c.ask.ensures (ap Got same) (omega (arith, c.reserve.ensures.len, c.reserve.ensures.capacity, c.note.ensures.spare)),
     )

@@ -21,9 +21,12 @@ invariant_of-self-2 g c =
     let log = g.L.MessageLog.log in
     let objects = seen_all log c.self.inside.objects.items in
     let after = seen_all log c.hold_at-none.new.objects.items in
-    let sets = subst (λ value. SetsHeld objects after c.args.name.0 c.hold_at-none.result (Some value)) c.in_ok-stored.ensures.copy c.hold_at-none.ensures in
-    keeps_call chunk c.args.who (Put c.args.name c.args.message.now) (Put c.args.name c.in_ok-noted.noted) Done Done c.self.view_is c.self.invariant c.note.ensures.entries c.reserve.ensures.items
+    let sets = subst (λ value. SetsHeld objects after c.args.name.0 c.hold_at-none.result (Some value))
+    c.in_ok-stored.ensures.copy c.hold_at-none.ensures in
+    keeps_call chunk c.args.who (Put c.args.name c.args.message.now)
+    (Put c.args.name c.in_ok-noted.noted) Done Done c.self.view_is c.self.invariant c.note.ensures.entries c.reserve.ensures.items
     (ap (Put c.args.name) c.in_ok-noted.ensures.copy) refl
     c.requires.room c.requires.fits (answer_filled c.args.self.now.history c.args.name c.args.message.now c.requires.empty)
-    (λ lawful shows. step_set chunk c.args.who (Put c.args.name c.args.message.now) Done c.args.name c.hold_at-none.result (Some c.args.message.now)
+    (λ lawful shows. step_set chunk c.args.who (Put c.args.name c.args.message.now) Done c.args.name c.hold_at-none.result
+    (Some c.args.message.now)
     (reverse c.self.inside.journal.items ++ c.self.inside.past) objects after (filled_sets c.args.name c.args.message.now) shows sets)

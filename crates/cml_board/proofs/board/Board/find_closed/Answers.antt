@@ -9,13 +9,18 @@ use Rattle.cml_board.proofs.board.Board.find_closed.Goals as goal
 pub invariant_of-self-2 : goal.invariant_of-self-2
 invariant_of-self-2 g c =
     let call = asked_call c.args.ask c.args.name in
-    keeps_call g.L.MessageLog.CHUNK c.args.who call c.ask.result Closed Closed c.self.view_is c.self.invariant c.note.ensures.entries c.reserve.ensures.items
-    c.ask.ensures refl c.requires.room c.requires.fits (answer_closed c.args.self.now.history c.args.ask c.args.name c.requires.asks c.requires.closed)
-    (λ lawful shows. step_asking g.L.MessageLog.CHUNK c.args.who c.args.ask c.args.name (reverse c.self.inside.journal.items ++ c.self.inside.past) (seen_all g.L.MessageLog.log c.self.inside.objects.items) c.requires.asks shows)
+    keeps_call g.L.MessageLog.CHUNK c.args.who call c.ask.result Closed Closed c.self.view_is c.self.invariant
+    c.note.ensures.entries c.reserve.ensures.items
+    c.ask.ensures refl c.requires.room c.requires.fits
+    (answer_closed c.args.self.now.history c.args.ask c.args.name c.requires.asks c.requires.closed)
+    (λ lawful shows. step_asking g.L.MessageLog.CHUNK c.args.who c.args.ask c.args.name
+    (reverse c.self.inside.journal.items ++ c.self.inside.past)
+    (seen_all g.L.MessageLog.log c.self.inside.objects.items) c.requires.asks shows)
 
 pub returns : goal.returns
 returns g c =
     let call = asked_call c.args.ask c.args.name in (
       answer_closed c.args.self.now.history c.args.ask c.args.name c.requires.asks c.requires.closed,
-      adds_entry c.args.who call c.ask.result Closed Closed c.self.view_is c.note.ensures.entries c.reserve.ensures.items c.ask.ensures refl (omega (arith, c.reserve.ensures.len, c.reserve.ensures.capacity, c.note.ensures.spare)),
+      adds_entry c.args.who call c.ask.result Closed Closed c.self.view_is c.note.ensures.entries c.reserve.ensures.items c.ask.ensures refl
+          (omega (arith, c.reserve.ensures.len, c.reserve.ensures.capacity, c.note.ensures.spare)),
     )

@@ -11,14 +11,18 @@ pub invariant_of-self-2 : goal.invariant_of-self-2
 invariant_of-self-2 g c =
     let chunk = g.L.MessageLog.CHUNK in
     let asked = asked_call c.args.ask c.args.name in
-    keeps_call chunk c.args.who asked c.ask.result Nothing Nothing c.self.view_is c.self.invariant c.note.ensures.entries c.reserve.ensures.items
-    c.ask.ensures refl c.requires.room c.requires.fits (answer_empty c.args.self.now.history c.args.ask c.args.name c.requires.reads c.requires.polls c.requires.empty)
-    (λ lawful shows. step_spared chunk c.args.who asked Nothing (reverse c.self.inside.journal.items ++ c.self.inside.past) (seen_all g.L.MessageLog.log c.self.inside.objects.items)
+    keeps_call chunk c.args.who asked c.ask.result Nothing Nothing c.self.view_is c.self.invariant
+    c.note.ensures.entries c.reserve.ensures.items
+    c.ask.ensures refl c.requires.room c.requires.fits
+    (answer_empty c.args.self.now.history c.args.ask c.args.name c.requires.reads c.requires.polls c.requires.empty)
+    (λ lawful shows. step_spared chunk c.args.who asked Nothing (reverse c.self.inside.journal.items ++ c.self.inside.past)
+    (seen_all g.L.MessageLog.log c.self.inside.objects.items)
     (empty_spares c.args.ask c.args.name c.requires.reads) (λ k. empty_leaves c.args.ask c.args.name k c.requires.reads) shows)
 
 pub returns : goal.returns
 returns g c =
     let asked = asked_call c.args.ask c.args.name in (
       answer_empty c.args.self.now.history c.args.ask c.args.name c.requires.reads c.requires.polls c.requires.empty,
-      adds_entry c.args.who asked c.ask.result Nothing Nothing c.self.view_is c.note.ensures.entries c.reserve.ensures.items c.ask.ensures refl (omega (arith, c.reserve.ensures.len, c.reserve.ensures.capacity, c.note.ensures.spare)),
+      adds_entry c.args.who asked c.ask.result Nothing Nothing c.self.view_is c.note.ensures.entries c.reserve.ensures.items c.ask.ensures
+          refl (omega (arith, c.reserve.ensures.len, c.reserve.ensures.capacity, c.note.ensures.spare)),
     )

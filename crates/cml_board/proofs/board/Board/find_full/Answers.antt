@@ -12,8 +12,10 @@ pub invariant_of-self-2 : goal.invariant_of-self-2
 invariant_of-self-2 g c =
     let chunk = g.L.MessageLog.CHUNK in
     let asked = call.Put c.args.name c.args.message.now in
-    keeps_call chunk c.args.who asked (call.Put c.args.name c.in_ok-noted.noted) Put Put c.self.view_is c.self.invariant c.note.ensures.entries c.reserve.ensures.items
+    keeps_call chunk c.args.who asked (call.Put c.args.name c.in_ok-noted.noted) Put Put c.self.view_is c.self.invariant
+    c.note.ensures.entries c.reserve.ensures.items
     (ap (call.Put c.args.name) c.in_ok-noted.ensures.copy) refl
     c.requires.room c.requires.fits (answer_full c.args.self.now.history c.args.name c.args.message.now c.requires.full)
-    (λ lawful shows. step_spared chunk c.args.who asked Put (reverse c.self.inside.journal.items ++ c.self.inside.past) (seen_all g.L.MessageLog.log c.self.inside.objects.items)
+    (λ lawful shows. step_spared chunk c.args.who asked Put (reverse c.self.inside.journal.items ++ c.self.inside.past)
+    (seen_all g.L.MessageLog.log c.self.inside.objects.items)
     (full_spares c.args.name c.args.message.now) (λ k. refl) shows)

@@ -11,6 +11,9 @@ use Rattle.cml_board.proofs.board.Board.find_nothing.Goals as goal
 pub invariant_of-self-2 : goal.invariant_of-self-2
 invariant_of-self-2 g c =
     let h = c.args.self.now.history in
-    keeps_call g.L.MessageLog.CHUNK c.args.who (Poll c.args.name) (Poll c.args.name) Nothing Nothing c.self.view_is c.self.invariant c.note.ensures.entries c.reserve.ensures.items
-    refl refl c.requires.room (fits_taking h ask.Poll c.args.name refl c.requires.fits) (answer_nothing h c.args.name c.requires.opened c.requires.empty)
-    (λ lawful shows. step_nothing g.L.MessageLog.CHUNK c.args.who c.args.name (reverse c.self.inside.journal.items ++ c.self.inside.past) (seen_all g.L.MessageLog.log c.self.inside.objects.items) shows)
+    keeps_call g.L.MessageLog.CHUNK c.args.who (Poll c.args.name)
+    (Poll c.args.name) Nothing Nothing c.self.view_is c.self.invariant c.note.ensures.entries c.reserve.ensures.items
+    refl refl c.requires.room (fits_taking h ask.Poll c.args.name refl c.requires.fits)
+    (answer_nothing h c.args.name c.requires.opened c.requires.empty)
+    (λ lawful shows. step_nothing g.L.MessageLog.CHUNK c.args.who c.args.name (reverse c.self.inside.journal.items ++ c.self.inside.past)
+    (seen_all g.L.MessageLog.log c.self.inside.objects.items) shows)

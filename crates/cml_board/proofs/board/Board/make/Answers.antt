@@ -7,29 +7,39 @@ use Rattle.cml_board.proofs.MakingLemmas.{fits_made, answer_made, has_source, st
 use Rattle.cml_board.proofs.board.Board.make.Goals as goal
 
 pub invariant_of-self-in_err-add_made : goal.invariant_of-self-in_err-add_made
-invariant_of-self-in_err-add_made g c = keeps_same g.L.MessageLog.CHUNK _ _ _ _ _ c.self.invariant c.reserve.ensures.items c.in_err-add_made.ensures.err
+invariant_of-self-in_err-add_made g c =
+    keeps_same g.L.MessageLog.CHUNK _ _ _ _ _ c.self.invariant c.reserve.ensures.items c.in_err-add_made.ensures.err
 
 pub add_made-requires : goal.add_made-requires
 add_made-requires g c =
     inside (λ (b : Shown g.row.M.Denot). HasSource b.objects c.args.making) c.self.view_is
-    (has_source g.L.MessageLog.CHUNK c.args.self.now c.args.making (keeps_at g.L.MessageLog.CHUNK c.self.view_is c.self.invariant) c.requires.can)
+    (has_source g.L.MessageLog.CHUNK c.args.self.now c.args.making
+    (keeps_at g.L.MessageLog.CHUNK c.self.view_is c.self.invariant) c.requires.can)
 
 pub invariant_of-self-2 : goal.invariant_of-self-2
 invariant_of-self-2 g c =
     let chunk = g.L.MessageLog.CHUNK in
     let log = g.L.MessageLog.log in
     let h = c.args.self.now.history in
-    keeps_call chunk c.args.who (making_call c.args.making) c.call.result (Made (record { 0 = c.len.result })) (Made (record { 0 = c.len.result })) c.self.view_is c.self.invariant c.note.ensures.entries c.reserve.ensures.items
+    keeps_call chunk c.args.who (making_call c.args.making) c.call.result (Made (record { 0 = c.len.result }))
+    (Made (record { 0 = c.len.result })) c.self.view_is c.self.invariant c.note.ensures.entries c.reserve.ensures.items
     c.call.ensures refl c.requires.room (fits_made c.args.self.now c.args.making c.requires.can)
-    (answer_made c.args.self.now c.args.making c.requires.can ∙ ap Some (made_name chunk c.self.view_is c.self.invariant c.len.result (omega (arith, c.len.ensures, length-map c.self.inside.objects.items (map_log log), c.self.inside.objects.ok.0))))
-    (λ lawful shows. step_made chunk c.args.who c.args.making (record { 0 = c.len.result }) (board_of c.self.inside.past c.self.inside.journal.items c.self.inside.limit (seen_all log c.self.inside.objects.items) (vec_capacity c.self.inside.journal - vec_len c.self.inside.journal)) (seen_all log c.add_made.new.objects.items)
-    c.self.invariant (inside (λ (b : Shown g.row.M.Denot). CanMake b c.args.making) c.self.view_is c.requires.can) c.in_ok-add_made.ensures.ok)
+    (answer_made c.args.self.now c.args.making c.requires.can ∙ ap Some (made_name chunk c.self.view_is c.self.invariant c.len.result
+    (omega (arith, c.len.ensures, length-map c.self.inside.objects.items (map_log log), c.self.inside.objects.ok.0))))
+    (λ lawful shows. step_made chunk c.args.who c.args.making (record { 0 = c.len.result })
+    (board_of c.self.inside.past c.self.inside.journal.items c.self.inside.limit (seen_all log c.self.inside.objects.items)
+    (vec_capacity c.self.inside.journal - vec_len c.self.inside.journal)) (seen_all log c.add_made.new.objects.items)
+    c.self.invariant (inside (λ (b : Shown g.row.M.Denot). CanMake b c.args.making) c.self.view_is c.requires.can)
+    c.in_ok-add_made.ensures.ok)
 
 pub returns : goal.returns
 returns g c =
     let chunk = g.L.MessageLog.CHUNK in
     let log = g.L.MessageLog.log in
     let h = c.args.self.now.history in (
-      answer_made c.args.self.now c.args.making c.requires.can ∙ ap Some (made_name chunk c.self.view_is c.self.invariant c.len.result (omega (arith, c.len.ensures, length-map c.self.inside.objects.items (map_log log), c.self.inside.objects.ok.0))),
-      adds_entry c.args.who (making_call c.args.making) c.call.result (Made (record { 0 = c.len.result })) (Made (record { 0 = c.len.result })) c.self.view_is c.note.ensures.entries c.reserve.ensures.items c.call.ensures refl (omega (arith, c.reserve.ensures.len, c.reserve.ensures.capacity, c.note.ensures.spare)),
+      answer_made c.args.self.now c.args.making c.requires.can ∙ ap Some (made_name chunk c.self.view_is c.self.invariant c.len.result
+          (omega (arith, c.len.ensures, length-map c.self.inside.objects.items (map_log log), c.self.inside.objects.ok.0))),
+      adds_entry c.args.who (making_call c.args.making) c.call.result (Made (record { 0 = c.len.result }))
+          (Made (record { 0 = c.len.result })) c.self.view_is c.note.ensures.entries c.reserve.ensures.items c.call.ensures refl
+          (omega (arith, c.reserve.ensures.len, c.reserve.ensures.capacity, c.note.ensures.spare)),
     )

@@ -11,23 +11,27 @@ use Rattle.cml_board.proofs.SparingLemmas.{filling_takes}
 use Rattle.cml_board.proofs.board.Board.put.Goals as goal
 
 pub invariant_of-self-in_default : goal.invariant_of-self-in_default
-invariant_of-self-in_default g c = keeps_same g.L.MessageLog.CHUNK _ _ _ _ _ c.self.invariant c.reserve.ensures.items c.in_default.ensures.err
+invariant_of-self-in_default g c =
+    keeps_same g.L.MessageLog.CHUNK _ _ _ _ _ c.self.invariant c.reserve.ensures.items c.in_default.ensures.err
 
 pub returns-in_default : goal.returns-in_default
 returns-in_default g c =
     let sent = given_call c.args.give c.args.name c.args.message.now in (
       λ waits. none-some Done (sym waits ∙ answer_put c.args.self.now.history c.args.give c.args.name c.args.message.now c.requires.adds),
       filling_takes g.L.MessageLog.CHUNK c.args.give c.args.name c.args.message.now c.requires.adds c.self.view_is c.self.invariant
-          (put_stands g.L.MessageLog.CHUNK c.args.self.now c.args.give c.args.name c.args.message.now c.requires.adds (keeps_at g.L.MessageLog.CHUNK c.self.view_is c.self.invariant) c.requires.fits)
+          (put_stands g.L.MessageLog.CHUNK c.args.self.now c.args.give c.args.name c.args.message.now c.requires.adds
+          (keeps_at g.L.MessageLog.CHUNK c.self.view_is c.self.invariant) c.requires.fits)
           c.in_default.ensures.refused,
-      as_before c.self.view_is c.reserve.ensures.items c.in_default.ensures.err (omega (arith, c.reserve.ensures.len, c.reserve.ensures.capacity)),
+      as_before c.self.view_is c.reserve.ensures.items c.in_default.ensures.err
+          (omega (arith, c.reserve.ensures.len, c.reserve.ensures.capacity)),
     )
 
 pub push_at-requires : goal.push_at-requires
 push_at-requires g c =
     let keeps = keeps_at g.L.MessageLog.CHUNK c.self.view_is c.self.invariant in
     inside (λ (b : Shown g.row.M.Denot). HasRoomAt b.objects c.args.name.0) c.self.view_is
-    (has_room g.L.MessageLog.CHUNK c.args.self.now c.args.name.0 keeps c.requires.room (put_stands g.L.MessageLog.CHUNK c.args.self.now c.args.give c.args.name c.args.message.now c.requires.adds keeps c.requires.fits))
+    (has_room g.L.MessageLog.CHUNK c.args.self.now c.args.name.0 keeps c.requires.room
+    (put_stands g.L.MessageLog.CHUNK c.args.self.now c.args.give c.args.name c.args.message.now c.requires.adds keeps c.requires.fits))
 
 pub invariant_of-self-2 : goal.invariant_of-self-2
 invariant_of-self-2 g c =
@@ -40,12 +44,14 @@ invariant_of-self-2 g c =
     (c.give.ensures ∙ ap (given_call c.args.give c.args.name) c.in_ok-noted.ensures.copy) refl
     c.requires.room c.requires.fits (answer_put c.args.self.now.history c.args.give c.args.name c.args.message.now c.requires.adds)
     (λ lawful shows. rw (c.in-Ok.ensures.ok, c.in_ok-stored.ensures.copy)
-    (step_put chunk c.args.who c.args.give c.args.name c.args.message.now (reverse c.self.inside.journal.items ++ c.self.inside.past) (seen_all g.L.MessageLog.log c.self.inside.objects.items) c.requires.adds shows stands))
+    (step_put chunk c.args.who c.args.give c.args.name c.args.message.now (reverse c.self.inside.journal.items ++ c.self.inside.past)
+    (seen_all g.L.MessageLog.log c.self.inside.objects.items) c.requires.adds shows stands))
 
 pub returns : goal.returns
 returns g c =
     let call = given_call c.args.give c.args.name c.args.message.now in (
       answer_put c.args.self.now.history c.args.give c.args.name c.args.message.now c.requires.adds,
       adds_entry c.args.who call c.give.result Done Done c.self.view_is c.note.ensures.entries c.reserve.ensures.items
-          (c.give.ensures ∙ ap (given_call c.args.give c.args.name) c.in_ok-noted.ensures.copy) refl (omega (arith, c.reserve.ensures.len, c.reserve.ensures.capacity, c.note.ensures.spare)),
+          (c.give.ensures ∙ ap (given_call c.args.give c.args.name) c.in_ok-noted.ensures.copy) refl
+          (omega (arith, c.reserve.ensures.len, c.reserve.ensures.capacity, c.note.ensures.spare)),
     )

@@ -12,7 +12,8 @@ pub returns-in_err-reserve : goal.returns-in_err-reserve
 returns-in_err-reserve g c =
     let h = c.args.self.now.history in
     let asked = asked_call c.args.ask c.args.name in
-    denied g.L.MessageLog.CHUNK g.M.Message.SURE c.args.self.now _ c.args.who asked (Got c.in_ok-message.message) c.from_residual-in_err-reserve.result
+    denied g.L.MessageLog.CHUNK g.M.Message.SURE c.args.self.now _ c.args.who asked
+    (Got c.in_ok-message.message) c.from_residual-in_err-reserve.result
     c.from_residual-in_err-reserve.ensures.0
     (answer_read h c.args.ask c.args.name c.in_ok-message.message c.requires.reads c.in_ok-message.ensures.copy)
     (no_room asked c.self.view_is (omega (arith, c.in_err-reserve.ensures.full)))
@@ -26,17 +27,23 @@ invariant_of-self-2 g c =
     let chunk = g.L.MessageLog.CHUNK in
     let h = c.args.self.now.history in
     let asked = asked_call c.args.ask c.args.name in
-    keeps_call chunk c.args.who asked c.ask.result (Got c.in_ok-noted.noted) (Got c.in_ok-noted.noted) c.self.view_is c.self.invariant c.note.ensures.entries c.reserve.ensures.items
+    keeps_call chunk c.args.who asked c.ask.result (Got c.in_ok-noted.noted)
+    (Got c.in_ok-noted.noted) c.self.view_is c.self.invariant c.note.ensures.entries c.reserve.ensures.items
     c.ask.ensures refl c.requires.room c.requires.fits
-    (answer_read h c.args.ask c.args.name c.in_ok-noted.noted c.requires.reads (c.in_ok-message.ensures.copy ∙ ap Some (sym c.in_ok-noted.ensures.copy)))
-    (λ lawful shows. step_spared chunk c.args.who asked (Got c.in_ok-noted.noted) (reverse c.self.inside.journal.items ++ c.self.inside.past) (seen_all g.L.MessageLog.log c.self.inside.objects.items)
-    (read_spares c.args.ask c.args.name c.in_ok-noted.noted c.requires.reads) (λ k. read_leaves c.args.ask c.args.name c.in_ok-noted.noted k c.requires.reads c.requires.leaves) shows)
+    (answer_read h c.args.ask c.args.name c.in_ok-noted.noted c.requires.reads
+    (c.in_ok-message.ensures.copy ∙ ap Some (sym c.in_ok-noted.ensures.copy)))
+    (λ lawful shows. step_spared chunk c.args.who asked (Got c.in_ok-noted.noted)
+    (reverse c.self.inside.journal.items ++ c.self.inside.past) (seen_all g.L.MessageLog.log c.self.inside.objects.items)
+    (read_spares c.args.ask c.args.name c.in_ok-noted.noted c.requires.reads)
+    (λ k. read_leaves c.args.ask c.args.name c.in_ok-noted.noted k c.requires.reads c.requires.leaves) shows)
 
 pub returns : goal.returns
 returns g c =
     let h = c.args.self.now.history in
     let asked = asked_call c.args.ask c.args.name in (
       answer_read h c.args.ask c.args.name c.in_ok-message.message c.requires.reads c.in_ok-message.ensures.copy,
-      adds_entry c.args.who asked c.ask.result (Got c.in_ok-noted.noted) (Got c.in_ok-message.message) c.self.view_is c.note.ensures.entries c.reserve.ensures.items
-          c.ask.ensures (ap Got c.in_ok-noted.ensures.copy) (omega (arith, c.reserve.ensures.len, c.reserve.ensures.capacity, c.note.ensures.spare)),
+      adds_entry c.args.who asked c.ask.result (Got c.in_ok-noted.noted)
+          (Got c.in_ok-message.message) c.self.view_is c.note.ensures.entries c.reserve.ensures.items
+          c.ask.ensures (ap Got c.in_ok-noted.ensures.copy)
+          (omega (arith, c.reserve.ensures.len, c.reserve.ensures.capacity, c.note.ensures.spare)),
     )

@@ -14,7 +14,8 @@ returns-in_err-message g c =
     let taken = asked_call c.args.ask c.args.name in
     let some = some_owed (owed h c.args.name.0) c.requires.owed in
     let answers = answer_taken h c.args.ask c.args.name some.0 c.requires.takes c.requires.reads.opened some.1 in
-    denied g.L.MessageLog.CHUNK g.M.Message.SURE c.args.self.now _ c.args.who taken (Got some.0) c.from_residual.result c.from_residual.ensures.0
+    denied g.L.MessageLog.CHUNK g.M.Message.SURE c.args.self.now _ c.args.who taken
+    (Got some.0) c.from_residual.result c.from_residual.ensures.0
     answers (answer_takes c.args.self.now taken some.0 answers c.in_err-message.ensures.sure) (unchanged c.args.self.now)
 
 pub returns-in_err-noted : goal.returns-in_err-noted
@@ -23,7 +24,8 @@ returns-in_err-noted g c =
     let taken = asked_call c.args.ask c.args.name in
     let some = some_owed (owed h c.args.name.0) c.requires.owed in
     let answers = answer_taken h c.args.ask c.args.name some.0 c.requires.takes c.requires.reads.opened some.1 in
-    denied g.L.MessageLog.CHUNK g.M.Message.SURE c.args.self.now _ c.args.who taken (Got some.0) c.from_residual-in_err-noted.result c.from_residual-in_err-noted.ensures.0
+    denied g.L.MessageLog.CHUNK g.M.Message.SURE c.args.self.now _ c.args.who taken
+    (Got some.0) c.from_residual-in_err-noted.result c.from_residual-in_err-noted.ensures.0
     answers (answer_takes c.args.self.now taken some.0 answers c.in_err-noted.ensures.sure) (unchanged c.args.self.now)
 
 pub returns-in_err-reserve : goal.returns-in_err-reserve
@@ -31,7 +33,8 @@ returns-in_err-reserve g c =
     let h = c.args.self.now.history in
     let taken = asked_call c.args.ask c.args.name in
     let some = some_owed (owed h c.args.name.0) c.requires.owed in
-    denied g.L.MessageLog.CHUNK g.M.Message.SURE c.args.self.now _ c.args.who taken (Got some.0) c.from_residual-in_err-reserve.result c.from_residual-in_err-reserve.ensures.0
+    denied g.L.MessageLog.CHUNK g.M.Message.SURE c.args.self.now _ c.args.who taken
+    (Got some.0) c.from_residual-in_err-reserve.result c.from_residual-in_err-reserve.ensures.0
     (answer_taken h c.args.ask c.args.name some.0 c.requires.takes c.requires.reads.opened some.1)
     (no_room taken c.self.view_is (omega (arith, c.in_err-reserve.ensures.full)))
     (as_before c.self.view_is c.in_err-reserve.ensures.items refl (omega (arith, c.reserve.ensures.len, c.reserve.ensures.capacity)))
@@ -46,22 +49,28 @@ invariant_of-self-2 g c =
     let chunk = g.L.MessageLog.CHUNK in
     let h = c.args.self.now.history in
     let call = asked_call c.args.ask c.args.name in
-    let first = first_owed c.args.self.now c.args.name.0 c.args.source.0 c.args.key (g.L.MessageLog.log c.log.result.now) c.in_ok-noted.noted c.requires.reads c.log.ensures (c.in_ok-message.ensures.copy ∙ ap Some (sym c.in_ok-noted.ensures.copy)) in
+    let first = first_owed c.args.self.now c.args.name.0 c.args.source.0 c.args.key (g.L.MessageLog.log c.log.result.now)
+    c.in_ok-noted.noted c.requires.reads c.log.ensures (c.in_ok-message.ensures.copy ∙ ap Some (sym c.in_ok-noted.ensures.copy)) in
     let reads = inside (λ (b : Shown g.row.M.Denot). ReadsAt b c.args.name.0 c.args.source.0 c.args.key) c.self.view_is c.requires.reads in
     let owes = inside (λ (b : Shown g.row.M.Denot). HasOwed b.objects c.args.source.0 c.args.key) c.self.view_is
     (reads_owed c.args.self.now c.args.name.0 c.args.source.0 c.args.key c.requires.reads c.requires.owed) in
-    keeps_call chunk c.args.who call c.ask.result (Got c.in_ok-noted.noted) (Got c.in_ok-noted.noted) c.self.view_is c.self.invariant c.note.ensures.entries c.reserve.ensures.items
+    keeps_call chunk c.args.who call c.ask.result (Got c.in_ok-noted.noted)
+    (Got c.in_ok-noted.noted) c.self.view_is c.self.invariant c.note.ensures.entries c.reserve.ensures.items
     c.ask.ensures refl c.requires.room (fits_taking h c.args.ask c.args.name c.requires.takes c.requires.reads.receiver)
     (answer_taken h c.args.ask c.args.name c.in_ok-noted.noted c.requires.takes c.requires.reads.opened first)
     (λ lawful shows. rw c.advance_at.ensures
-    (step_taken chunk c.args.who c.args.ask c.args.name c.in_ok-noted.noted (reverse c.self.inside.journal.items ++ c.self.inside.past) (seen_all g.L.MessageLog.log c.self.inside.objects.items) c.args.source.0 c.args.key c.requires.takes shows reads.reads owes))
+    (step_taken chunk c.args.who c.args.ask c.args.name c.in_ok-noted.noted (reverse c.self.inside.journal.items ++ c.self.inside.past)
+    (seen_all g.L.MessageLog.log c.self.inside.objects.items) c.args.source.0 c.args.key c.requires.takes shows reads.reads owes))
 
 pub returns : goal.returns
 returns g c =
     let h = c.args.self.now.history in
     let call = asked_call c.args.ask c.args.name in
     let log = g.L.MessageLog.log c.log.result.now in
-    let first = first_owed c.args.self.now c.args.name.0 c.args.source.0 c.args.key log c.in_ok-message.message c.requires.reads c.log.ensures c.in_ok-message.ensures.copy in (
+    let first = first_owed c.args.self.now c.args.name.0 c.args.source.0 c.args.key log c.in_ok-message.message c.requires.reads
+    c.log.ensures c.in_ok-message.ensures.copy in (
       answer_taken h c.args.ask c.args.name c.in_ok-message.message c.requires.takes c.requires.reads.opened first,
-      adds_entry c.args.who call c.ask.result (Got c.in_ok-noted.noted) (Got c.in_ok-message.message) c.self.view_is c.note.ensures.entries c.reserve.ensures.items c.ask.ensures (ap Got c.in_ok-noted.ensures.copy) (omega (arith, c.reserve.ensures.len, c.reserve.ensures.capacity, c.note.ensures.spare)),
+      adds_entry c.args.who call c.ask.result (Got c.in_ok-noted.noted)
+          (Got c.in_ok-message.message) c.self.view_is c.note.ensures.entries c.reserve.ensures.items c.ask.ensures
+          (ap Got c.in_ok-noted.ensures.copy) (omega (arith, c.reserve.ensures.len, c.reserve.ensures.capacity, c.note.ensures.spare)),
     )

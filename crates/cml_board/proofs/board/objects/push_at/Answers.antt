@@ -6,7 +6,8 @@ use Rattle.cml_board.proofs.board.objects.push_at.Goals as goal
 pub returns-clause-ok : goal.returns-clause-ok
 returns-clause-ok g c =
     on_ok_weaker c.push.result
-    (λ changed. seen_set g.L.MessageLog.log (pushed g.L.MessageLog.CHUNK c.args.message) c.args.objects.now.items c.args.name.0 c.index_mut.result.now c.push.new.object
+    (λ changed. seen_set g.L.MessageLog.log (pushed g.L.MessageLog.CHUNK c.args.message) c.args.objects.now.items c.args.name.0
+    c.index_mut.result.now c.push.new.object
     (log_within g.L.MessageLog.log c.args.objects.now.items c.args.name.0 c.requires.stands) c.index_mut.ensures.value changed)
     c.push.ensures.ok
 

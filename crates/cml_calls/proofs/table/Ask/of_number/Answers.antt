@@ -8,4 +8,5 @@ use Rattle.cml_calls.proofs.table.Ask.of_number.Goals as goal
 pub returns : goal.returns
 returns c =
     c.copied.ensures
-    ∙ find_from_yields_List (λ (call : Ask). (asked call).number == c.args.number) c.find.new.self _ c.find.result c.find.ensures.ran (YieldsList-from_slice asks cc) (λ x b q k. search (rules, tests))
+    ∙ find_from_yields_List (λ (call : Ask). (asked call).number == c.args.number) c.find.new.self _ c.find.result c.find.ensures.ran
+    (YieldsList-from_slice asks cc) (λ x b q k. search (rules, tests))

@@ -9,4 +9,5 @@ use Rattle.cml_calls.proofs.table.Give.of_word.Goals as goal
 pub returns : goal.returns
 returns c =
     c.copied.ensures
-    ∙ find_from_yields_List (λ (call : Give). bytes_eq c.args.word.now (given call).word) c.find.new.self _ c.find.result c.find.ensures.ran (YieldsList-from_slice gives cc) (λ x b q k. search (rules, tests))
+    ∙ find_from_yields_List (λ (call : Give). bytes_eq c.args.word.now (given call).word) c.find.new.self _ c.find.result c.find.ensures.ran
+    (YieldsList-from_slice gives cc) (λ x b q k. search (rules, tests))

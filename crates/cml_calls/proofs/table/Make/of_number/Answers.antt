@@ -8,4 +8,5 @@ use Rattle.cml_calls.proofs.table.Make.of_number.Goals as goal
 pub returns : goal.returns
 returns c =
     c.copied.ensures
-    ∙ find_from_yields_List (λ (call : Make). (made call).number == c.args.number) c.find.new.self _ c.find.result c.find.ensures.ran (YieldsList-from_slice makes cc) (λ x b q k. search (rules, tests))
+    ∙ find_from_yields_List (λ (call : Make). (made call).number == c.args.number) c.find.new.self _ c.find.result c.find.ensures.ran
+    (YieldsList-from_slice makes cc) (λ x b q k. search (rules, tests))

@@ -9,4 +9,5 @@ use Rattle.cml_calls.proofs.table.Make.of_word.Goals as goal
 pub returns : goal.returns
 returns c =
     c.copied.ensures
-    ∙ find_from_yields_List (λ (call : Make). bytes_eq c.args.word.now (made call).word) c.find.new.self _ c.find.result c.find.ensures.ran (YieldsList-from_slice makes cc) (λ x b q k. search (rules, tests))
+    ∙ find_from_yields_List (λ (call : Make). bytes_eq c.args.word.now (made call).word) c.find.new.self _ c.find.result c.find.ensures.ran
+    (YieldsList-from_slice makes cc) (λ x b q k. search (rules, tests))

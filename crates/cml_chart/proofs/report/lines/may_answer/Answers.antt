@@ -10,5 +10,6 @@ use Rattle.cml_chart.proofs.report.lines.may_answer.Goals as goal
 pub returns : goal.returns
 returns c =
     let test = λ (kind : ReplyKind). says kind c.args.reply.now in
-    any_from_yields_List test c.any.new.self _ c.any.result c.any.ensures.ran (YieldsList-from_slice c.replies_to.result.now cc) (λ x b q k. search (rules, tests))
+    any_from_yields_List test c.any.new.self _ c.any.result c.any.ensures.ran (YieldsList-from_slice c.replies_to.result.now cc)
+    (λ x b q k. search (rules, tests))
     ∙ (λ j. list_any test (c.replies_to.ensures j))

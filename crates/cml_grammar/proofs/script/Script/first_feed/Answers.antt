@@ -13,13 +13,15 @@ found : (c : After-find) → option_map (λ (d : Bor Declaration). d.now.line.nu
 found c =
     let i = c.self.inside in
     behind c.find.result
-    ∙ ap (option_map (λ (d : Declaration). d.line.number)) (find_from_yields_List (λ (d : Declaration). makes_feed d.makes) c.find.new.self _ c.find.result c.find.ensures.ran (YieldsList-from_slice i.kept.declarations.items cc) (λ x b q k. search (rules, tests)))
+    ∙ ap (option_map (λ (d : Declaration). d.line.number)) (find_from_yields_List (λ (d : Declaration). makes_feed d.makes) c.find.new.self
+    _ c.find.result c.find.ensures.ran (YieldsList-from_slice i.kept.declarations.items cc) (λ x b q k. search (rules, tests)))
     ∙ feed_number _ i.kept.declarations.items c.self.invariant.declarations
     ∙ ap first_feed c.self.view_is
 
 pub returns-in_err-feed : goal.returns-in_err-feed
 returns-in_err-feed c =
-    c.from_residual.ensures ∙ ap (option_map (λ (d : Bor Declaration). d.now.line.number)) (sym c.in_err-feed.was) ∙ found (goal.at.returns-in_err-feed c).After-find
+    c.from_residual.ensures ∙ ap (option_map (λ (d : Bor Declaration). d.now.line.number)) (sym c.in_err-feed.was)
+    ∙ found (goal.at.returns-in_err-feed c).After-find
 
 pub returns : goal.returns
 returns c = ap (option_map (λ (d : Bor Declaration). d.now.line.number)) (sym c.in_ok-feed.was) ∙ found (goal.at.returns c).After-find

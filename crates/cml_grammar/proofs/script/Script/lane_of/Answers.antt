@@ -18,5 +18,6 @@ returns-clause-capacity c =
 pub returns-clause-fits : goal.returns-clause-fits
 returns-clause-fits c =
     let ends : Ends = (c.args.seat, c.args.target) in
-    subst (λ (o : Option ℕ). IfSome o IsCapacity) (sym (c.copied.ensures ∙ c.get.ensures.value ∙ ap (lookup (are_same ends)) c.self.invariant.capacities_are))
+    subst (λ (o : Option ℕ). IfSome o IsCapacity)
+    (sym (c.copied.ensures ∙ c.get.ensures.value ∙ ap (lookup (are_same ends)) c.self.invariant.capacities_are))
     (kept_fits _ _ ends c.self.invariant.lanes)

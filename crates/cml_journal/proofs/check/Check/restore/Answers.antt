@@ -5,6 +5,12 @@ use Rattle.cml_journal.proofs.check.Check.restore.Goals as goal
 
 pub returns-clause-anew : goal.returns-clause-anew
 returns-clause-anew g c =
-    let new : Progress g.row.M.Denot = record { state = c.from.result; checker = c.restore.new.self; halt = c.self.inside.halt; last = slice_get c.self.inside.entry.items 0 } in
+    let new : Progress g.row.M.Denot = record {
+      state = c.from.result;
+      checker = c.restore.new.self;
+      halt = c.self.inside.halt;
+      last = slice_get c.self.inside.entry.items 0;
+    } in
     nothing_so_far g.M.Written.VERSION g.M.Written.meaning new c.from.ensures
-    (anew g.M.Written.VERSION g.M.Written.meaning c.deref_mut.result.now c.restore.new.self c.args.limit c.in_ok-restored.restored c.in_ok-restored.ensures) (search rules)
+    (anew g.M.Written.VERSION g.M.Written.meaning c.deref_mut.result.now c.restore.new.self c.args.limit c.in_ok-restored.restored
+    c.in_ok-restored.ensures) (search rules)

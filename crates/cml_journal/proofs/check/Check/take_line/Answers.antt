@@ -7,30 +7,62 @@ use Rattle.cml_journal.proofs.check.Check.take_line.Goals as goal
 
 pub returns-in-Err-clause-halted : goal.returns-in-Err-clause-halted
 returns-in-Err-clause-halted g c =
-    let old : Progress g.row.M.Denot = record { state = c.self.inside.reader; checker = c.self.inside.checker.value; halt = c.self.inside.halt; last = slice_get c.self.inside.entry.items 0 } in
+    let old : Progress g.row.M.Denot = record {
+      state = c.self.inside.reader;
+      checker = c.self.inside.checker.value;
+      halt = c.self.inside.halt;
+      last = slice_get c.self.inside.entry.items 0;
+    } in
     let new : Progress g.row.M.Denot = record old { state = c.next.new.self } in
-    rw (← c.self.view_is) (halts_at_fault g.M.Written.VERSION g.M.Written.meaning _ old new c.args.bytes.now c.in-Err.unread c.of_unread.result c.of_unread.ensures c.in-Err.ensures.fault c.in-Err.ensures.line refl
+    rw (← c.self.view_is) (halts_at_fault g.M.Written.VERSION g.M.Written.meaning _ old new c.args.bytes.now c.in-Err.unread
+    c.of_unread.result c.of_unread.ensures c.in-Err.ensures.fault c.in-Err.ensures.line refl
     (ap (λ (n : ℕ). (n + 1) % 2 ^ 64) c.lines-line.ensures))
 
 pub returns-in_err-feed-clause-halted : goal.returns-in_err-feed-clause-halted
 returns-in_err-feed-clause-halted g c =
-    let old : Progress g.row.M.Denot = record { state = c.self.inside.reader; checker = c.self.inside.checker.value; halt = c.self.inside.halt; last = slice_get c.self.inside.entry.items 0 } in
+    let old : Progress g.row.M.Denot = record {
+      state = c.self.inside.reader;
+      checker = c.self.inside.checker.value;
+      halt = c.self.inside.halt;
+      last = slice_get c.self.inside.entry.items 0;
+    } in
     let p = err_from_is_err_and c.from_residual.result c.from_residual.ensures.1 in
     let (taken, cut, read) = c.in-Ok.ensures.taken in
-    let ended = subst (λ (found : Option (Entry g.row.M.Denot)). OnSome found (c.next.new.self.line ≡ [])) c.in-Some.is c.in-Ok.ensures.ended in
-    rw (p.1, p.2, ← c.self.view_is) (halts_at_entry g.M.Written.VERSION g.M.Written.meaning old c.feed.new.self c.next.new.self c.args.bytes.now taken c.in-Ok.read.1.now c.in-Some.entry c.in_err-feed.field-0.0
+    let ended =
+    subst (λ (found : Option (Entry g.row.M.Denot)). OnSome found (c.next.new.self.line ≡ [])) c.in-Some.is c.in-Ok.ensures.ended in
+    rw (p.1, p.2, ← c.self.view_is) (halts_at_entry g.M.Written.VERSION g.M.Written.meaning old c.feed.new.self c.next.new.self
+    c.args.bytes.now taken c.in-Ok.read.1.now c.in-Some.entry c.in_err-feed.field-0.0
     cut (read ∙ lists_found c.next.new.self c.in-Some.is) ended c.feed.ensures.state c.in_err-feed.ensures.halted)
 
 pub returns-in_default-clause-taken : goal.returns-in_default-clause-taken
 returns-in_default-clause-taken g c =
-    let old : Progress g.row.M.Denot = record { state = c.self.inside.reader; checker = c.self.inside.checker.value; halt = c.self.inside.halt; last = slice_get c.self.inside.entry.items 0 } in
-    let new : Progress g.row.M.Denot = record { state = c.next.new.self; checker = c.self.inside.checker.value; halt = c.self.inside.halt; last = slice_get c.self.inside.entry.items 0 } in
+    let old : Progress g.row.M.Denot = record {
+      state = c.self.inside.reader;
+      checker = c.self.inside.checker.value;
+      halt = c.self.inside.halt;
+      last = slice_get c.self.inside.entry.items 0;
+    } in
+    let new : Progress g.row.M.Denot = record {
+      state = c.next.new.self;
+      checker = c.self.inside.checker.value;
+      halt = c.self.inside.halt;
+      last = slice_get c.self.inside.entry.items 0;
+    } in
     let (taken, cut, read) = c.in-Ok.ensures.taken in
-    rw (← c.self.view_is) (taken, cut, goes_past_line g.M.Written.VERSION g.M.Written.meaning old new taken (read ∙ lists_found c.next.new.self c.in_default.is) refl refl)
+    rw (← c.self.view_is) (
+      taken,
+      cut,
+      goes_past_line g.M.Written.VERSION g.M.Written.meaning old new taken (read ∙ lists_found c.next.new.self c.in_default.is) refl refl,
+    )
 
 pub returns-clause-taken : goal.returns-clause-taken
 returns-clause-taken g c =
-    let old : Progress g.row.M.Denot = record { state = c.self.inside.reader; checker = c.self.inside.checker.value; halt = c.self.inside.halt; last = slice_get c.self.inside.entry.items 0 } in
+    let old : Progress g.row.M.Denot = record {
+      state = c.self.inside.reader;
+      checker = c.self.inside.checker.value;
+      halt = c.self.inside.halt;
+      last = slice_get c.self.inside.entry.items 0;
+    } in
     let (taken, cut, read) = c.in-Ok.ensures.taken in
     rw (← c.self.view_is) (
       taken,

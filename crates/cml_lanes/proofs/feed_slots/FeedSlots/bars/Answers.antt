@@ -5,5 +5,6 @@ use Rattle.cml_lanes.proofs.feed_slots.FeedSlots.bars.Goals as goal
 
 pub returns-then-is_empty : goal.returns-then-is_empty
 returns-then-is_empty g c =
-    none_barred c.self.inside.ports.keys c.self.inside.slots.items c.args.call.now c.self.invariant (c.is_empty.ensures.0 c.if-is_empty.true)
+    none_barred c.self.inside.ports.keys c.self.inside.slots.items c.args.call.now c.self.invariant
+    (c.is_empty.ensures.0 c.if-is_empty.true)
     ∙ ap (λ (s : SlotsShown g.row.M.Denot). is_barred s.feeds c.args.call.now) c.self.view_is

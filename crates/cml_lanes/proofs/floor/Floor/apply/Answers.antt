@@ -7,8 +7,10 @@ use Rattle.cml_lanes.proofs.floor.Floor.apply.Goals as goal
 
 pub invariant_of-self : goal.invariant_of-self
 invariant_of-self g c = (
-  applied_keeps g.L.MessageLog.CHUNK g.M.Message.SURE c.self.inside.board c.apply.new.self c.self.inside.lanes c.args.seat c.args.call c.apply.result c.apply.ensures c.self.invariant.0,
-  applied_keeps_feeds g.L.MessageLog.CHUNK g.M.Message.SURE c.self.inside.board c.apply.new.self c.self.inside.feeds.feeds c.args.seat c.args.call c.apply.result
+  applied_keeps g.L.MessageLog.CHUNK g.M.Message.SURE c.self.inside.board c.apply.new.self c.self.inside.lanes c.args.seat c.args.call
+      c.apply.result c.apply.ensures c.self.invariant.0,
+  applied_keeps_feeds g.L.MessageLog.CHUNK g.M.Message.SURE c.self.inside.board c.apply.new.self c.self.inside.feeds.feeds
+      c.args.seat c.args.call c.apply.result
       (sym c.bars.ensures ∙ c.if-bars.false) c.apply.ensures c.self.invariant.1,
 )
 

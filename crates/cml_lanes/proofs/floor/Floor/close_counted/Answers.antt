@@ -5,11 +5,13 @@ use Rattle.cml_lanes.proofs.floor.Floor.close_counted.Goals as goal
 
 pub returns-clause-closes : goal.returns-clause-closes
 returns-clause-closes g c =
-    let whole = until_none g.L.MessageLog.CHUNK g.M.Message.SURE c.number-lane.result c.drain_open.result.0 c.args.self.now c.drain_open.new.self c.drain_open.result.1
+    let whole = until_none g.L.MessageLog.CHUNK g.M.Message.SURE c.number-lane.result c.drain_open.result.0 c.args.self.now
+    c.drain_open.new.self c.drain_open.result.1
     (ap is_some c.in_default.is) c.drain_open.ensures.until in (
       (
         c.drain_open.result.0,
-        empties_off c.number-lane.result c.args.end.number c.drain_open.result.0 c.args.self.now c.drain_open.new.self c.let_go.new.self c.number-lane.ensures whole c.let_go.ensures.floor,
+        empties_off c.number-lane.result c.args.end.number c.drain_open.result.0 c.args.self.now c.drain_open.new.self c.let_go.new.self
+            c.number-lane.ensures whole c.let_go.ensures.floor,
       ),
       ap (λ (f : FloorShown g.row.M.Denot). length (laned f.board.history c.args.end.number)) c.let_go.ensures.floor
           ∙ ap (λ number. length (laned c.drain_open.new.self.board.history number)) (sym c.number-lane.ensures)

@@ -11,16 +11,19 @@ drain-requires-clause-kept g c = c.self.invariant.0.lane c.args.lane
 
 pub invariant_of-self : goal.invariant_of-self
 invariant_of-self g c =
-    floor_drained g.L.MessageLog.CHUNK g.M.Message.SURE c.args.lane c.drain.result.0 c.drain.result.1 c.self.inside.board c.drain.new.board c.self.inside.lanes c.drain.new.self
+    floor_drained g.L.MessageLog.CHUNK g.M.Message.SURE c.args.lane c.drain.result.0 c.drain.result.1 c.self.inside.board c.drain.new.board
+    c.self.inside.lanes c.drain.new.self
     c.self.inside.feeds.feeds c.drain.ensures c.self.invariant
 
 pub returns-clause-until : goal.returns-clause-until
 returns-clause-until g c =
     on_lane stays c.args.lane c.self.inside.board c.drain.new.board c.self.inside.lanes c.drain.new.self c.args.self.now
-    (λ b. DrainsUntil g.L.MessageLog.CHUNK g.M.Message.SURE c.args.lane c.drain.result.0 c.drain.result.1 b c.drain.new.board) c.self.view_is c.drain.ensures
+    (λ b. DrainsUntil g.L.MessageLog.CHUNK g.M.Message.SURE c.args.lane c.drain.result.0 c.drain.result.1 b c.drain.new.board)
+    c.self.view_is c.drain.ensures
 
 pub returns-clause-rings : goal.returns-clause-rings
 returns-clause-rings g c =
     drained_rings g.L.MessageLog.CHUNK g.M.Message.SURE c.args.lane c.drain.result.0 c.drain.result.1 c.args.self.now _
     (on_lane stays c.args.lane c.self.inside.board c.drain.new.board c.self.inside.lanes c.drain.new.self c.args.self.now
-    (λ b. DrainsUntil g.L.MessageLog.CHUNK g.M.Message.SURE c.args.lane c.drain.result.0 c.drain.result.1 b c.drain.new.board) c.self.view_is c.drain.ensures)
+    (λ b. DrainsUntil g.L.MessageLog.CHUNK g.M.Message.SURE c.args.lane c.drain.result.0 c.drain.result.1 b c.drain.new.board)
+    c.self.view_is c.drain.ensures)

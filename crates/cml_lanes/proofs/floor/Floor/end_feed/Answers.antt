@@ -7,16 +7,22 @@ end-requires-clause-own g c = its_own_port c.args.feed c.self.inside.board.histo
 
 pub invariant_of-self : goal.invariant_of-self
 invariant_of-self g c =
-    let taken = open_feed_slot c.args.feed c.self.inside.board c.self.inside.feeds.feeds c.args.self.now c.self.view_is (sym c.has_feed.ensures ∙ c.if-has_feed.true) in
-    end_keeps c.args.feed c.self.inside.board c.self.inside.lanes c.self.inside.feeds.feeds c.end.new.self.feeds taken c.end.ensures.feeds c.self.invariant
+    let taken = open_feed_slot c.args.feed c.self.inside.board c.self.inside.feeds.feeds c.args.self.now c.self.view_is
+    (sym c.has_feed.ensures ∙ c.if-has_feed.true) in
+    end_keeps c.args.feed c.self.inside.board c.self.inside.lanes c.self.inside.feeds.feeds c.end.new.self.feeds taken
+    c.end.ensures.feeds c.self.invariant
 
 pub returns-then-has_feed-clause-ends : goal.returns-then-has_feed-clause-ends
 returns-then-has_feed-clause-ends g c =
-    let taken = open_feed_slot c.args.feed c.self.inside.board c.self.inside.feeds.feeds c.args.self.now c.self.view_is (sym c.has_feed.ensures ∙ c.if-has_feed.true) in
-    ends_feed c.args.feed c.self.inside.board c.self.inside.feeds.feeds c.end.new.self.feeds c.args.self.now c.end.result c.self.view_is taken c.self.invariant.1 c.end.ensures.feeds
+    let taken = open_feed_slot c.args.feed c.self.inside.board c.self.inside.feeds.feeds c.args.self.now c.self.view_is
+    (sym c.has_feed.ensures ∙ c.if-has_feed.true) in
+    ends_feed c.args.feed c.self.inside.board c.self.inside.feeds.feeds c.end.new.self.feeds c.args.self.now c.end.result c.self.view_is
+    taken c.self.invariant.1 c.end.ensures.feeds
     c.end.ensures.ended
 
 pub returns-then-has_feed-clause-rings : goal.returns-then-has_feed-clause-rings
 returns-then-has_feed-clause-rings g c =
-    let taken = open_feed_slot c.args.feed c.self.inside.board c.self.inside.feeds.feeds c.args.self.now c.self.view_is (sym c.has_feed.ensures ∙ c.if-has_feed.true) in
-    end_rings c.args.feed c.self.inside.board c.self.inside.feeds.feeds c.end.new.self.feeds c.args.self.now c.self.view_is taken c.end.ensures.feeds
+    let taken = open_feed_slot c.args.feed c.self.inside.board c.self.inside.feeds.feeds c.args.self.now c.self.view_is
+    (sym c.has_feed.ensures ∙ c.if-has_feed.true) in
+    end_rings c.args.feed c.self.inside.board c.self.inside.feeds.feeds c.end.new.self.feeds c.args.self.now
+    c.self.view_is taken c.end.ensures.feeds

@@ -6,7 +6,8 @@ use Rattle.cml_lanes.proofs.floor.Floor.let_go.Goals as goal
 
 pub invariant_of-self : goal.invariant_of-self
 invariant_of-self g c = (
-  subst (λ ls. KeepsLanes c.self.inside.board.history ls) (sym c.let_go.ensures) (let_go_keeps c.args.lane c.self.inside.board.history c.self.inside.lanes c.self.invariant.0),
+  subst (λ ls. KeepsLanes c.self.inside.board.history ls) (sym c.let_go.ensures)
+      (let_go_keeps c.args.lane c.self.inside.board.history c.self.inside.lanes c.self.invariant.0),
   c.self.invariant.1,
 )
 

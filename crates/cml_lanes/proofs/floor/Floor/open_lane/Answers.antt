@@ -8,9 +8,11 @@ use Rattle.cml_lanes.proofs.floor.Floor.open_lane.Goals as goal
 pub invariant_of-self-2 : goal.invariant_of-self-2
 invariant_of-self-2 g c =
     let side = c.new-inner.ensures in
-    opened_keeps c.self.inside.board.history c.self.inside.lanes c.add.new.self c.new-inner.result (on_ok c.add.result (sym c.is_err.ensures.value ∙ c.if-is_err.false) c.add.ensures.added)
+    opened_keeps c.self.inside.board.history c.self.inside.lanes c.add.new.self c.new-inner.result
+    (on_ok c.add.result (sym c.is_err.ensures.value ∙ c.if-is_err.false) c.add.ensures.added)
     c.self.invariant (ap (λ (s : LaneSide g.row.M.Denot). s.received) side)
-    (ap (λ (s : LaneSide g.row.M.Denot). kind_of c.self.inside.board.history s.target.0) side ∙ sym c.in-Some.ensures ∙ ap Some (sym c.in-Some-to.ensures)
+    (ap (λ (s : LaneSide g.row.M.Denot). kind_of c.self.inside.board.history s.target.0) side ∙ sym c.in-Some.ensures
+    ∙ ap Some (sym c.in-Some-to.ensures)
     ∙ sym (ap (λ (s : LaneSide g.row.M.Denot). Some (way_kind s.way)) side))
 
 pub returns-clause-rings : goal.returns-clause-rings

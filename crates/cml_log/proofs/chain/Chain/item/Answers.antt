@@ -6,12 +6,17 @@ use Rattle.cml_log.proofs.ChainLemmas.{item_shown}
 use Rattle.cml_log.proofs.chain.Chain.item.Goals as goal
 
 pub item-requires : goal.item-requires
-item-requires g c =
-    (omega arith, kept_where_lies c.self.inside.chunks.blocks.kept c.args.at.number c.args.at.at (subst (λ m. LiesAt m.cells c.args.at.number c.args.at.at) (sym c.self.view_is) c.requires.lies))
+item-requires g c = (
+  omega arith,
+  kept_where_lies c.self.inside.chunks.blocks.kept c.args.at.number c.args.at.at
+      (subst (λ m. LiesAt m.cells c.args.at.number c.args.at.at) (sym c.self.view_is) c.requires.lies),
+)
 
 pub returns : goal.returns
 returns g c =
     c.item.ensures
-    ∙ item_shown c.self.inside.chunks.blocks.kept c.self.inside.head c.self.inside.tail c.self.inside.next c.self.inside.chunks.made.count c.self.inside.chunks.given.count c.self.invariant c.args.at.number c.args.at.at c.args.slot c.requires.within
-    (kept_where_lies c.self.inside.chunks.blocks.kept c.args.at.number c.args.at.at (subst (λ m. LiesAt m.cells c.args.at.number c.args.at.at) (sym c.self.view_is) c.requires.lies))
+    ∙ item_shown c.self.inside.chunks.blocks.kept c.self.inside.head c.self.inside.tail c.self.inside.next c.self.inside.chunks.made.count
+    c.self.inside.chunks.given.count c.self.invariant c.args.at.number c.args.at.at c.args.slot c.requires.within
+    (kept_where_lies c.self.inside.chunks.blocks.kept c.args.at.number c.args.at.at
+    (subst (λ m. LiesAt m.cells c.args.at.number c.args.at.at) (sym c.self.view_is) c.requires.lies))
     ∙ ap (λ m. slice_get (drop (g.row.N * (c.args.at.number - m.given)) m.items) c.args.slot) c.self.view_is

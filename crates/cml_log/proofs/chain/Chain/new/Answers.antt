@@ -7,7 +7,8 @@ pub invariant_of-result : goal.invariant_of-result
 invariant_of-result g c =
     let begun = c.in_ok-chunks.ensures in
     let made = c.in-Ok.ensures in
-    IsChain-one _ c.in-Ok.head _ _ (made.kept ∙ ap (λ blocks. blocks ++ Some (c.in-Ok.head.at, record { row = []; link = None; cursors = 0 }) ∷ []) begun.kept)
+    IsChain-one _ c.in-Ok.head _ _
+    (made.kept ∙ ap (λ blocks. blocks ++ Some (c.in-Ok.head.at, record { row = []; link = None; cursors = 0 }) ∷ []) begun.kept)
     (omega arith) (omega arith) made.number (made.counted.0 ∙ ap (λ n. n + 1) begun.counts.0) (made.counted.1 ∙ begun.counts.1)
 
 pub returns : goal.returns

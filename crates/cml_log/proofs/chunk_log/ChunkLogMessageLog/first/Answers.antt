@@ -8,4 +8,5 @@ returns-clause-starts_chunk g c =
     c.first.ensures
     ∙ trim_first g.row.N c.self.inside.chain c.self.inside.cursors.slots c.self.invariant.is_held c.self.invariant.trim
     ∙ ap (λ m. chunk_start g.row.N m.log) c.self.view_is
-    ∙ ap (λ n. chunk_start n c.args.self.now.log) (sym (chunk_of-within g.row.N c.self.invariant.is_held.holds_one c.self.invariant.is_held.small))
+    ∙ ap (λ n. chunk_start n c.args.self.now.log)
+    (sym (chunk_of-within g.row.N c.self.invariant.is_held.holds_one c.self.invariant.is_held.small))

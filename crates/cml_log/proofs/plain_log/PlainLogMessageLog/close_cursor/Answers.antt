@@ -16,17 +16,21 @@ finds g c = finds_least (chunk_of g.row.N) _ c.args.self.now c.remove.new.self.s
 pub trim-requires-clause-kept : goal.trim-requires-clause-kept
 trim-requires-clause-kept g c =
     subst (λ n. c.self.inside.first ≤ n * (c.least_place-least.result / n)) (sym c.CHUNK.ensures)
-    (kept_before (chunk_of g.row.N) _ c.remove.new.self.slots c.least_place-least.result (finds g (goal.at.trim-requires-clause-kept g c).After-least_place-least))
+    (kept_before (chunk_of g.row.N) _ c.remove.new.self.slots c.least_place-least.result
+    (finds g (goal.at.trim-requires-clause-kept g c).After-least_place-least))
 
 pub trim-requires-clause-within : goal.trim-requires-clause-within
 trim-requires-clause-within g c =
-    let l : Log g.row.T.Denot = record { first = c.self.inside.first; kept = c.self.inside.items.items; places = c.self.inside.places.slots } in
+    let l : Log g.row.T.Denot =
+    record { first = c.self.inside.first; kept = c.self.inside.items.items; places = c.self.inside.places.slots } in
     let finds = finds g (goal.at.trim-requires-clause-within g c).After-least_place-least in
     omega (arith, finds.found, least-le_end (next_of l) c.remove.new.self.slots, c.self.inside.items.ok.0)
 
 pub invariant_of-self : goal.invariant_of-self
 invariant_of-self g c =
     let first = subst (λ n. c.trim.new.first ≡ n * (c.least_place-least.result / n)) c.CHUNK.ensures c.trim.ensures.first in
-    let items = subst (λ n. c.trim.new.items.items ≡ drop (n * (c.least_place-least.result / n) - c.self.inside.first) c.self.inside.items.items) c.CHUNK.ensures c.trim.ensures.items in
+    let items =
+    subst (λ n. c.trim.new.items.items ≡ drop (n * (c.least_place-least.result / n) - c.self.inside.first) c.self.inside.items.items)
+    c.CHUNK.ensures c.trim.ensures.items in
     IsSound-by_trim (chunk_of g.row.N) _ _ _ c.least_place-least.result _ _ _ c.self.invariant
     (finds g (goal.at.invariant_of-self g c).After-least_place-least) first items c.trim.ensures.capacity

@@ -5,6 +5,9 @@ use Rattle.cml_log.proofs.plain_log.PlainLogMessageLog.copy_cursor.Goals as goal
 
 pub invariant_of-self-2 : goal.invariant_of-self-2
 invariant_of-self-2 g c =
-    let l : Log g.row.T.Denot = record { first = c.self.inside.first; kept = c.self.inside.items.items; places = c.self.inside.places.slots } in
-    IsSound-copy_cursor (chunk_of g.row.N) l c.args.self.now _ c.reserve.new.self c.insert_reserved.new.self c.args.k c.insert_reserved.result c.place-place.result
-    c.self.invariant c.self.view_is (ap (λ s. s.slots) c.reserve.ensures.rest_kept) c.insert_reserved.ensures.was_vacant c.insert_reserved.ensures.updates c.requires c.place-place.ensures
+    let l : Log g.row.T.Denot =
+    record { first = c.self.inside.first; kept = c.self.inside.items.items; places = c.self.inside.places.slots } in
+    IsSound-copy_cursor (chunk_of g.row.N) l c.args.self.now _ c.reserve.new.self c.insert_reserved.new.self c.args.k
+    c.insert_reserved.result c.place-place.result
+    c.self.invariant c.self.view_is (ap (λ s. s.slots) c.reserve.ensures.rest_kept) c.insert_reserved.ensures.was_vacant
+    c.insert_reserved.ensures.updates c.requires c.place-place.ensures

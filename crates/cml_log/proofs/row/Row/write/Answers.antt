@@ -7,4 +7,5 @@ invariant_of-self g c =
 
 pub returns : goal.returns
 returns g c =
-    written-next g.row.N c.args.slot c.self.inside.places c.args.self.now c.args.item c.self.invariant c.self.view_is c.requires.next c.requires.within
+    written-next g.row.N c.args.slot c.self.inside.places c.args.self.now c.args.item c.self.invariant
+    c.self.view_is c.requires.next c.requires.within

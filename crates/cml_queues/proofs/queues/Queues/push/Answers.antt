@@ -8,18 +8,21 @@ append-requires-clause-last c =
 
 pub invariant_of-self : goal.invariant_of-self
 invariant_of-self c =
-    let pushed = pushes _ _ _ c.self.view_is c.self.invariant _ _ _ _ c.deref_mut.ensures.value c.index_mut.ensures.value _ _ _ c.self.inside.links.ok.0
+    let pushed =
+    pushes _ _ _ c.self.view_is c.self.invariant _ _ _ _ c.deref_mut.ensures.value c.index_mut.ensures.value _ _ _ c.self.inside.links.ok.0
     c.append.ensures.links c.append.ensures.ends c.requires.row c.requires.within c.requires.nowhere in
     linked _ _ _ pushed
 
 pub returns-clause-here : goal.returns-clause-here
 returns-clause-here c =
-    let pushed = pushes _ _ _ c.self.view_is c.self.invariant _ _ _ _ c.deref_mut.ensures.value c.index_mut.ensures.value _ _ _ c.self.inside.links.ok.0
+    let pushed =
+    pushes _ _ _ c.self.view_is c.self.invariant _ _ _ _ c.deref_mut.ensures.value c.index_mut.ensures.value _ _ _ c.self.inside.links.ok.0
     c.append.ensures.links c.append.ensures.ends c.requires.row c.requires.within c.requires.nowhere in
     here_is _ _ _ _ _ pushed c.requires.row
 
 pub returns-clause-others : goal.returns-clause-others
 returns-clause-others c =
-    let pushed = pushes _ _ _ c.self.view_is c.self.invariant _ _ _ _ c.deref_mut.ensures.value c.index_mut.ensures.value _ _ _ c.self.inside.links.ok.0
+    let pushed =
+    pushes _ _ _ c.self.view_is c.self.invariant _ _ _ _ c.deref_mut.ensures.value c.index_mut.ensures.value _ _ _ c.self.inside.links.ok.0
     c.append.ensures.links c.append.ensures.ends c.requires.row c.requires.within c.requires.nowhere in
     others_are _ _ _ _ _ pushed

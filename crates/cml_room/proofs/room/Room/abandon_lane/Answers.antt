@@ -13,4 +13,5 @@ settle-requires-clause-was g c = record {
 
 pub returns-clause-stirs : goal.returns-clause-stirs
 returns-clause-stirs g c =
-    stirs_none c.args.self.now c.self.inside.floor c.abandon_lane-told.new.self c.self.inside.seats c.settle.new.seats c.self.view_is c.settle.ensures.settles
+    stirs_none c.args.self.now c.self.inside.floor c.abandon_lane-told.new.self c.self.inside.seats c.settle.new.seats
+    c.self.view_is c.settle.ensures.settles

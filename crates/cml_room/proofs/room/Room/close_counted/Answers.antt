@@ -8,7 +8,8 @@ use Rattle.cml_room.proofs.room.Room.close_counted.Goals as goal
 
 pub settle_since-requires : goal.settle_since-requires
 settle_since-requires g c = was_watched_at c.self.inside.floor c.count_entries-before.ensures c.self.invariant
-    (closes_counted g.L.MessageLog.CHUNK g.M.Message.SURE c.self.inside.floor c.close_counted-told.new.self c.args.end c.close_counted-told.result c.close_counted-told.ensures.closes)
+    (closes_counted g.L.MessageLog.CHUNK g.M.Message.SURE c.self.inside.floor c.close_counted-told.new.self c.args.end
+    c.close_counted-told.result c.close_counted-told.ensures.closes)
 
 pub returns-clause-closes : goal.returns-clause-closes
 returns-clause-closes g c =

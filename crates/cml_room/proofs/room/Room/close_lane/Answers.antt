@@ -8,7 +8,8 @@ use Rattle.cml_room.proofs.room.Room.close_lane.Goals as goal
 
 pub settle_since-requires : goal.settle_since-requires
 settle_since-requires g c = was_watched_at c.self.inside.floor c.count_entries-before.ensures c.self.invariant
-    (closes g.L.MessageLog.CHUNK g.M.Message.SURE c.self.inside.floor c.close_lane-told.new.self c.args.end c.close_lane-told.result c.close_lane-told.ensures.closes)
+    (closes g.L.MessageLog.CHUNK g.M.Message.SURE c.self.inside.floor c.close_lane-told.new.self c.args.end
+    c.close_lane-told.result c.close_lane-told.ensures.closes)
 
 pub returns-clause-closes : goal.returns-clause-closes
 returns-clause-closes g c =

@@ -9,11 +9,14 @@ use Rattle.cml_room.proofs.room.Room.cut.Goals as goal
 pub invariant_of-self : goal.invariant_of-self
 invariant_of-self g c =
     cuts_watched c.self.inside.floor c.cut.new.self c.self.inside.seats.places c.self.inside.seats.all_due
-    (reverse c.journal-journal.result.now) c.cut.result (subst (λ (b : Shown g.row.M.Denot). reverse c.journal-journal.result.now ++ b.past ≡ b.history) c.board.ensures.board c.journal-journal.ensures.entries)
+    (reverse c.journal-journal.result.now) c.cut.result
+    (subst (λ (b : Shown g.row.M.Denot). reverse c.journal-journal.result.now ++ b.past ≡ b.history) c.board.ensures.board
+    c.journal-journal.ensures.entries)
     c.cut.ensures.cut c.self.invariant
 
 pub returns-clause-rings : goal.returns-clause-rings
-returns-clause-rings g c = subst (λ (r : RoomShown g.row.M.Denot). KeepsRings (floor_of r) c.cut.new.self) c.self.view_is c.cut.ensures.rings
+returns-clause-rings g c =
+    subst (λ (r : RoomShown g.row.M.Denot). KeepsRings (floor_of r) c.cut.new.self) c.self.view_is c.cut.ensures.rings
 
 pub returns-clause-kept : goal.returns-clause-kept
 returns-clause-kept g c =

@@ -11,5 +11,6 @@ returns-clause-due g c =
 pub returns-clause-asleep : goal.returns-clause-asleep
 returns-clause-asleep g c = λ isnt on parked.
     subst (λ (r : RoomShown g.row.M.Denot). SleepsRightly r on) c.self.view_is
-    (sleeps c.self.inside.floor c.self.inside.seats.places c.self.inside.seats.all_due c.args.seat on c.self.invariant (sym c.is_due.ensures ∙ isnt)
+    (sleeps c.self.inside.floor c.self.inside.seats.places c.self.inside.seats.all_due c.args.seat on c.self.invariant
+    (sym c.is_due.ensures ∙ isnt)
     (ap (λ (r : RoomShown g.row.M.Denot). state_of r c.args.seat) c.self.view_is ∙ parked))

@@ -35,24 +35,28 @@ invariant_of-self g c =
       | inl alone ↦ none_watched c.self.inside.floor lates.places lates.all_due (none_waits lates.places alone)
       | inr rests ↦
           subst (λ (l : List Place). IsWatched c.self.inside.floor l lates.all_due) (sym set)
-          (left_watched c.self.inside.floor seats.places c.args.seat seats.all_due lates.all_due (free_place seats.places c.args.seat (search rules))
+          (left_watched c.self.inside.floor seats.places c.args.seat seats.all_due lates.all_due
+          (free_place seats.places c.args.seat (search rules))
           c.self.invariant
           (λ now. (sym c.leave.ensures.due ∙ (rests now).0, subst (λ (l : List Place). free_in (states_in l) ≢ 0) set (rests now).1)))
     ]
 
 pub returns-clause-left : goal.returns-clause-left
 returns-clause-left g c =
-    (has_left c.args.self.now c.self.inside.floor c.self.inside.seats c.rouse_if_none_free.new.seats c.args.seat c.self.view_is (search rules)
+    (has_left c.args.self.now c.self.inside.floor c.self.inside.seats c.rouse_if_none_free.new.seats
+    c.args.seat c.self.view_is (search rules)
     (c.rouse_if_none_free.ensures.places ∙ c.leave.ensures.places)).0
 
 pub returns-clause-none : goal.returns-clause-none
 returns-clause-none g c =
-    (has_left c.args.self.now c.self.inside.floor c.self.inside.seats c.rouse_if_none_free.new.seats c.args.seat c.self.view_is (search rules)
+    (has_left c.args.self.now c.self.inside.floor c.self.inside.seats c.rouse_if_none_free.new.seats
+    c.args.seat c.self.view_is (search rules)
     (c.rouse_if_none_free.ensures.places ∙ c.leave.ensures.places)).1
 
 pub returns-clause-step : goal.returns-clause-step
 returns-clause-step g c =
-    (has_left c.args.self.now c.self.inside.floor c.self.inside.seats c.rouse_if_none_free.new.seats c.args.seat c.self.view_is (search rules)
+    (has_left c.args.self.now c.self.inside.floor c.self.inside.seats c.rouse_if_none_free.new.seats
+    c.args.seat c.self.view_is (search rules)
     (c.rouse_if_none_free.ensures.places ∙ c.leave.ensures.places)).2
 
 pub returns-clause-alarm : goal.returns-clause-alarm

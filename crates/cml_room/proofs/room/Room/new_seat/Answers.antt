@@ -16,9 +16,11 @@ invariant_of-self-2 g c =
 pub returns-clause-none : goal.returns-clause-none
 returns-clause-none g c =
     let added : c.add.new.self.places ≡ c.self.inside.seats.places ++ Free ∷ [] = search rules in
-    none_due c.args.self.now c.self.inside.floor c.self.inside.floor c.self.inside.seats.places c.add.new.self.places c.self.inside.seats.all_due c.add.new.self.all_due
+    none_due c.args.self.now c.self.inside.floor c.self.inside.floor c.self.inside.seats.places c.add.new.self.places
+    c.self.inside.seats.all_due c.add.new.self.all_due
     c.self.view_is
-    (λ k on. subst (λ (l : List Place). ¬ (HasRisen c.self.inside.seats.places l k on)) (sym added) (added_none c.self.inside.seats.places Free k on))
+    (λ k on. subst (λ (l : List Place). ¬ (HasRisen c.self.inside.seats.places l k on)) (sym added)
+    (added_none c.self.inside.seats.places Free k on))
 
 pub returns-clause-step : goal.returns-clause-step
 returns-clause-step g c =

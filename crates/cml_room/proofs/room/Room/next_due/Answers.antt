@@ -19,7 +19,8 @@ returns g c =
     let news = c.wake_next.new.self.places in
     let olds = c.self.inside.seats.places in
     let made =
-    subst (λ (r : RoomShown g.row.M.Denot). GivesNext c.wake_next.result r (room_of c.self.inside.floor (states_in news) (notices_in news) c.wake_next.new.self.all_due))
+    subst (λ (r : RoomShown g.row.M.Denot). GivesNext c.wake_next.result r
+    (room_of c.self.inside.floor (states_in news) (notices_in news) c.wake_next.new.self.all_due))
     c.self.view_is
     (gives_next c.wake_next.result (room_of c.self.inside.floor (states_in olds) (notices_in olds) c.self.inside.seats.all_due)
     (room_of c.self.inside.floor (states_in news) (notices_in news) c.wake_next.new.self.all_due)

@@ -7,7 +7,8 @@ use Rattle.cml_room.proofs.room.Room.restore.Goals as goal
 
 pub invariant_of-result : goal.invariant_of-result
 invariant_of-result g c =
-    watched_left c.in_ok-restore.field-0 c.in_ok-seats.seats.places c.makers-makers.result.seats c.in_ok-seats.seats.all_due c.in_ok-seats.ensures.places
+    watched_left c.in_ok-restore.field-0 c.in_ok-seats.seats.places c.makers-makers.result.seats
+    c.in_ok-seats.seats.all_due c.in_ok-seats.ensures.places
 
 pub returns-clause-seats : goal.returns-clause-seats
 returns-clause-seats g c =

@@ -7,7 +7,8 @@ use Rattle.cml_room.proofs.room.Room.take_journal.Goals as goal
 
 pub invariant_of-self : goal.invariant_of-self
 invariant_of-self g c =
-    taken_watched c.self.inside.floor c.take_journal.new.self c.self.inside.seats.places c.self.inside.seats.all_due (λ taken. reverse taken.items)
+    taken_watched c.self.inside.floor c.take_journal.new.self c.self.inside.seats.places c.self.inside.seats.all_due
+    (λ taken. reverse taken.items)
     c.take_journal.result c.take_journal.ensures.taken c.take_journal.ensures.cut c.self.invariant
 
 pub returns-clause-rings : goal.returns-clause-rings

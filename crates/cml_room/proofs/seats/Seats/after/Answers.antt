@@ -6,7 +6,8 @@ use Rattle.cml_room.proofs.seats.Seats.after.Goals as goal
 
 pub returns : goal.returns
 returns c = λ row i found.
-    let now : slice_get (queue_of c.self.inside.rows row) i ≡ Some c.args.number = subst (λ (v : SeatsShown). slice_get (queue_of v.rows row) i ≡ Some c.args.number) (sym c.self.view_is) found in
+    let now : slice_get (queue_of c.self.inside.rows row) i ≡ Some c.args.number =
+    subst (λ (v : SeatsShown). slice_get (queue_of v.rows row) i ≡ Some c.args.number) (sym c.self.view_is) found in
     let split = split_at (queue_of c.self.inside.rows row) i c.args.number now in
     subst (λ (v : SeatsShown). c.after.result ≡ slice_get (queue_of v.rows row) (i + 1)) c.self.view_is
     (c.after.ensures.next row split.0 split.1 split.2 ∙ split.3)

@@ -7,7 +7,9 @@ loop-number-preserved c =
     let was = c.loop-number.invariant in
     let more = c.in_ok-add.ensures in
     record {
-      left = one_more_left c.loop-number.seats.places c.add.new.self.places c.leave.new.self.places c.loop-number.number was.left more.added c.leave.ensures.places;
-      small = omega (arith, more.small, length_more c.loop-number.seats.places c.add.new.self.places c.loop-number.number was.left more.added);
+      left = one_more_left c.loop-number.seats.places c.add.new.self.places c.leave.new.self.places c.loop-number.number was.left
+          more.added c.leave.ensures.places;
+      small =
+          omega (arith, more.small, length_more c.loop-number.seats.places c.add.new.self.places c.loop-number.number was.left more.added);
       none = c.leave.ensures.due ∙ more.due ∙ was.none;
     }

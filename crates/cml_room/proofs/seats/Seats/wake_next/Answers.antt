@@ -15,8 +15,10 @@ returns-in_err-number-clause-woken c =
     subst (WakesNext c.args.self.now.places c.args.self.now.places) (sym c.from_residual.ensures) (
       refl,
       λ number waiter is.
-          let here : slice_get c.self.inside.places.items number ≡ Some (place.Waiting waiter) = ap (λ (v : SeatsShown). slice_get v.places number) c.self.view_is ∙ is in
-          not_due (queue_of c.self.inside.due 0) number (slice_get c.self.inside.places.items number) waiter (c.self.invariant.in_due number 0)
+          let here : slice_get c.self.inside.places.items number ≡ Some (place.Waiting waiter) =
+          ap (λ (v : SeatsShown). slice_get v.places number) c.self.view_is ∙ is in
+          not_due (queue_of c.self.inside.due 0) number (slice_get c.self.inside.places.items number) waiter
+          (c.self.invariant.in_due number 0)
           (sym c.in_err-number.ensures.first) here,
     )
 
@@ -25,8 +27,10 @@ listed : (c : In_ok-number) → is_in c.self.inside.due 0 c.in_ok-number.number 
 listed c = has_at (queue_of c.self.inside.due 0) 0 c.in_ok-number.number (sym c.in_ok-number.ensures.first)
 
 -- so it waits, and is due
-waits : (c : In_ok-number) → (waiter : Waiter) × (slice_get c.self.inside.places.items c.in_ok-number.number ≡ Some (place.Waiting waiter)) × (waiter.notice ≡ notice.Due)
-waits c = unwoken_waits (slice_get c.self.inside.places.items c.in_ok-number.number) (sym (c.self.invariant.in_due c.in_ok-number.number 0) ∙ listed c)
+waits : (c : In_ok-number) → (waiter : Waiter)
+    × (slice_get c.self.inside.places.items c.in_ok-number.number ≡ Some (place.Waiting waiter)) × (waiter.notice ≡ notice.Due)
+waits c = unwoken_waits (slice_get c.self.inside.places.items c.in_ok-number.number)
+    (sym (c.self.invariant.in_due c.in_ok-number.number 0) ∙ listed c)
 
 within : (c : In_ok-number) → c.in_ok-number.number < length c.self.inside.places.items
 within c = slice_get_within c.self.inside.places.items c.in_ok-number.number (place.Waiting (waits c).0) (waits c).1
@@ -43,7 +47,8 @@ pub unreachable-requires : goal.unreachable-requires
 unreachable-requires c =
     let at = (goal.at.unreachable-requires c).In_ok-number in
     c.in_default.not-Waiting (waits at).0
-    (same_Some _ _ (sym (slice_get-get_or c.self.inside.places.items c.in_ok-number.number c.index.result.now (within at) ∙ ap Some (sym c.index.ensures)) ∙ (waits at).1))
+    (same_Some _ _ (sym (slice_get-get_or c.self.inside.places.items c.in_ok-number.number c.index.result.now (within at)
+    ∙ ap Some (sym c.index.ensures)) ∙ (waits at).1))
 
 pub remove-requires : goal.remove-requires
 remove-requires c = listed (goal.at.remove-requires c).In_ok-number
@@ -57,12 +62,16 @@ invariant_of-self c =
     let at = (goal.at.invariant_of-self c).In_ok-number in
     let was = seen (goal.at.invariant_of-self c).In-Waiting (within at) in
     let due : c.in-Waiting.waiter.notice ≡ notice.Due = ap notice_in (sym was ∙ (waits at).1) ∙ (waits at).2 in
-    let quiet = listed_remove c.self.inside.due c.remove.new.self noted_in c.self.inside.places.items 0 number (place.Waiting c.in-Waiting.waiter)
-    (place.Waiting (record c.in-Waiting.waiter { notice = notice.Nothing })) was c.self.invariant.in_due (λ r. ap (λ n. noted_as n r) due) (λ r. refl)
+    let quiet =
+    listed_remove c.self.inside.due c.remove.new.self noted_in c.self.inside.places.items 0 number (place.Waiting c.in-Waiting.waiter)
+    (place.Waiting (record c.in-Waiting.waiter { notice = notice.Nothing })) was c.self.invariant.in_due
+    (λ r. ap (λ n. noted_as n r) due) (λ r. refl)
     c.remove.ensures.gone c.remove.ensures.kept c.remove.ensures.others in
-    kept_set c.self.inside.places.items c.self.inside.free c.self.inside.free c.self.inside.parked c.self.inside.parked c.self.inside.rows c.self.inside.rows c.self.inside.due c.push.new.self number
+    kept_set c.self.inside.places.items c.self.inside.free c.self.inside.free c.self.inside.parked c.self.inside.parked c.self.inside.rows
+    c.self.inside.rows c.self.inside.due c.push.new.self number
     (place.Waiting c.in-Waiting.waiter) _ was c.self.invariant refl refl
-    (listed_same c.self.inside.rows row_in c.self.inside.places.items number (place.Waiting c.in-Waiting.waiter) _ was c.self.invariant.in_rows (λ r. refl))
+    (listed_same c.self.inside.rows row_in c.self.inside.places.items number
+    (place.Waiting c.in-Waiting.waiter) _ was c.self.invariant.in_rows (λ r. refl))
     (subst (AreListed c.push.new.self noted_in) (set-set c.self.inside.places.items number _ _)
     (listed_push c.remove.new.self c.push.new.self noted_in (slice_set c.self.inside.places.items number _) 1 number _ _
     (slice_get-set_same c.self.inside.places.items number _ _ was) quiet (λ r. refl) (λ r. refl) c.push.ensures.here c.push.ensures.others))
@@ -77,5 +86,6 @@ returns-clause-woken c =
       c.in-Waiting.waiter,
       ap (λ (v : SeatsShown). slice_get v.places number) (sym c.self.view_is) ∙ was,
       due,
-      ap (λ (v : SeatsShown). slice_set v.places number (place.Waiting (record c.in-Waiting.waiter { notice = notice.Woken }))) c.self.view_is,
+      ap (λ (v : SeatsShown). slice_set v.places number (place.Waiting (record c.in-Waiting.waiter { notice = notice.Woken })))
+          c.self.view_is,
     )

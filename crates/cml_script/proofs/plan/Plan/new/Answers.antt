@@ -21,7 +21,12 @@ invariant_of-result c = record {
     given = c.names.ensures.given;
     asks = c.in_ok-givings.ensures.asks;
   };
-  total = omega (arith, c.len.ensures.len, length-map {B = Given} c.names.result.now.entries (λ (e : String Global × Named). (string_bytes e.0, e.1)), ap length c.names.ensures.names);
+  total = omega (
+    arith,
+    c.len.ensures.len,
+    length-map {B = Given} c.names.result.now.entries (λ (e : String Global × Named). (string_bytes e.0, e.1)),
+    ap length c.names.ensures.names,
+  );
   numbered = c.in_ok-numbers.ensures.numbers;
   fed = c.in_ok-feeds.ensures;
   queued = c.in_ok-queues.ensures;

@@ -12,13 +12,20 @@ use Rattle.cml_script.proofs.plan.Plan.object.Goals as goal
 pub declared_object-requires : goal.declared_object-requires
 declared_object-requires c =
     let lines = length-map c.declarations.result.now (λ (d : Declaration). source_of d.line) in
-    omega (arith, c.if-at-declarations.true, lines, ap length c.declarations.ensures.lines, ap (λ (s : Lines). length s.declarations) c.self.view_is)
+    omega (
+      arith,
+      c.if-at-declarations.true,
+      lines,
+      ap length c.declarations.ensures.lines,
+      ap (λ (s : Lines). length s.declarations) c.self.view_is,
+    )
 
 pub returns-then-at-declarations : goal.returns-then-at-declarations
 returns-then-at-declarations c = λ history long bound.
     let lines = length-map c.declarations.result.now (λ (d : Declaration). source_of d.line) in
     let same = ap (λ (s : Lines). length s.declarations) c.self.view_is in
-    let lt : c.args.at < length c.args.self.now.declarations = omega (arith, c.if-at-declarations.true, lines, ap length c.declarations.ensures.lines, same) in
+    let lt : c.args.at < length c.args.self.now.declarations =
+    omega (arith, c.if-at-declarations.true, lines, ap length c.declarations.ensures.lines, same) in
     let named = λ (n : ℕ). let name : Name = record { 0 = n } in name in
     c.declared_object.ensures ∙ ap (λ made. option_map named (object_among c.args.self.now made c.args.at)) (sym long)
     ∙ ap (option_map named) (sym (object_declared c.args.self.now history c.args.at lt))
@@ -27,7 +34,8 @@ pub returns-else-at-declarations : goal.returns-else-at-declarations
 returns-else-at-declarations c = λ history long bound.
     let lines = length-map c.declarations.result.now (λ (d : Declaration). source_of d.line) in
     let same = ap (λ (s : Lines). length s.declarations) c.self.view_is in
-    let ge : length c.args.self.now.declarations ≤ c.args.at = omega (arith, c.if-at-declarations.false, lines, ap length c.declarations.ensures.lines, same) in
+    let ge : length c.args.self.now.declarations ≤ c.args.at =
+    omega (arith, c.if-at-declarations.false, lines, ap length c.declarations.ensures.lines, same) in
     let named = λ (n : ℕ). let name : Name = record { 0 = n } in name in
     let first : Binding = binding.Unbound in
     let here = same_Some _ _ (sym (slice_get-get_or c.args.bindings.now c.args.at first c.requires) ∙ bound.each c.args.at c.requires) in

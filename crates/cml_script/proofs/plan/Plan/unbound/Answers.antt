@@ -11,4 +11,5 @@ pub returns : goal.returns
 returns c =
     let total = ap (λ (script : Lines). length (names_of script)) c.self.view_is in
     let none = unbound c.args.self.now _ [] refl (c.self.invariant.total ∙ total) in
-    IfOk-weaker c.vec.result _ _ (λ (b : Vec Binding Global) items. subst (AreBindings c.args.self.now []) (sym (items (λ y is. is))) none) c.vec.ensures.items_if_clones_equal
+    IfOk-weaker c.vec.result _ _ (λ (b : Vec Binding Global) items. subst (AreBindings c.args.self.now []) (sym (items (λ y is. is))) none)
+    c.vec.ensures.items_if_clones_equal

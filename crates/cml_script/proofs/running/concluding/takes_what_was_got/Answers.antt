@@ -8,10 +8,16 @@ use Rattle.cml_script.proofs.running.concluding.takes_what_was_got.Goals as goal
 
 pub loop-at-preserved : goal.loop-at-preserved
 loop-at-preserved c =
-    one_more (IsTakenAt c.args.plan.now c.args.board.now.history c.args.tally.now) c.loop-at.at c.loop-at.invariant (c.if-not-is_taken.ensures.0 refl)
+    one_more (IsTakenAt c.args.plan.now c.args.board.now.history c.args.tally.now) c.loop-at.at c.loop-at.invariant
+    (c.if-not-is_taken.ensures.0 refl)
 
 pub returns-then-not-is_taken : goal.returns-then-not-is_taken
 returns-then-not-is_taken c =
     let declarations = rw c.script.ensures at c.declarations-at-end.ensures in
-    let within : c.loop-at.at < length c.args.plan.now.declarations = omega (arith, c.loop-at-test.true, ap length declarations.lines, length-map c.declarations-at-end.result.now (λ (x : Declaration). source_of x.line)) in
+    let within : c.loop-at.at < length c.args.plan.now.declarations = omega (
+      arith,
+      c.loop-at-test.true,
+      ap length declarations.lines,
+      length-map c.declarations-at-end.result.now (λ (x : Declaration). source_of x.line),
+    ) in
     (λ yes. absurd (false≢true yes), λ all. absurd (false≢true (c.if-not-is_taken.ensures.1 (all c.loop-at.at within))))

@@ -28,7 +28,8 @@ loop-lane-preserved c =
     let line = mapped_at _ items script.lanes i lane told.lines here in
     let reads = all_at (ReadsLane (names_of script)) items i lane told.said here in
     let journal = c.args.journal.now in
-    one_more (IsInOrderAt script c.args.lanes.now (reverse journal)) i c.loop-lane.invariant (order_at script c.args.lanes.now (reverse journal) i lane line reads (c.if-not-is_in_order.ensures.0 refl))
+    one_more (IsInOrderAt script c.args.lanes.now (reverse journal)) i c.loop-lane.invariant
+    (order_at script c.args.lanes.now (reverse journal) i lane line reads (c.if-not-is_in_order.ensures.0 refl))
 
 pub returns-then-not-is_in_order : goal.returns-then-not-is_in_order
 returns-then-not-is_in_order c =
@@ -42,5 +43,6 @@ returns-then-not-is_in_order c =
     let reads = all_at (ReadsLane (names_of script)) items i lane told.said here in
     let journal = c.args.journal.now in (
       λ yes. absurd (false≢true yes),
-      λ all. absurd (false≢true (c.if-not-is_in_order.ensures.1 (order_of script c.args.lanes.now (reverse journal) i lane line reads (all i (slice_get_within script.lanes i (source_of lane.line) line))))),
+      λ all. absurd (false≢true (c.if-not-is_in_order.ensures.1 (order_of script c.args.lanes.now (reverse journal) i lane line reads
+          (all i (slice_get_within script.lanes i (source_of lane.line) line))))),
     )

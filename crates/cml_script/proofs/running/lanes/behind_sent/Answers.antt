@@ -7,7 +7,8 @@ pub has_call-requires-clause-i : goal.has_call-requires-clause-i
 has_call-requires-clause-i c = slice_get_within c.args.plan.now.steps c.in-Some.i c.in-Some.ensures.line c.in-Some.ensures.found
 
 pub returns-in-Some : goal.returns-in-Some
-returns-in-Some c = sent_if c.args.plan.now c.args.seat c.args.at c.args.from c.in-Some.i c.args.call.now c.in-Some.ensures c.has_call.result c.then_some.result c.then_some.ensures c.has_call.ensures
+returns-in-Some c = sent_if c.args.plan.now c.args.seat c.args.at c.args.from c.in-Some.i c.args.call.now c.in-Some.ensures
+    c.has_call.result c.then_some.result c.then_some.ensures c.has_call.ensures
 
 pub returns-in-None : goal.returns-in-None
 returns-in-None c = none_sent c.args.plan.now c.args.seat c.args.at c.args.from c.args.call.now c.in-None.ensures

@@ -23,5 +23,6 @@ returns c =
     let line = mapped_at _ items script.steps i step steps.lines here in
     let reads = all_at (ReadsStep (names_of script)) items i step steps.asked here in
     let calls : option_and_then (call_to script at) (slice_get script.steps i) ≡ Some (call_on step.action c.number.result) =
-    ap (option_and_then (call_to script at)) line ∙ call_is script 0 at step reads ∙ ap (λ n. Some (call_on step.action (record { 0 = n }))) (sym c.number.ensures) in
+    ap (option_and_then (call_to script at)) line ∙ call_is script 0 at step reads
+    ∙ ap (λ n. Some (call_on step.action (record { 0 = n }))) (sym c.number.ensures) in
     (λ yes. calls ∙ ap Some (c.is_call_on.ensures.0 yes), λ has. c.is_call_on.ensures.1 (same_Some _ _ (sym calls ∙ has)))

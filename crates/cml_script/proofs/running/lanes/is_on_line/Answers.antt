@@ -26,7 +26,8 @@ loop-lane-preserved c =
     let here = read_at items i lane c.loop-lane-test.true c.lane-item.is in
     let line = mapped_at _ items script.lanes i lane told.lines here in
     let reads = all_at (ReadsLane (names_of script)) items i lane told.said here in
-    let moved = moved_on_is script lanes entry lane reads ∙ ap (λ n. is_moved_to lanes lane.seat n entry) (sym c.number.ensures) ∙ sym c.is_moved_to.ensures ∙ c.if-is_moved_to.false in
+    let moved = moved_on_is script lanes entry lane reads ∙ ap (λ n. is_moved_to lanes lane.seat n entry) (sym c.number.ensures)
+    ∙ sym c.is_moved_to.ensures ∙ c.if-is_moved_to.false in
     none_more (is_moved_on script lanes entry) script.lanes i (source_of lane.line) line c.loop-lane.invariant moved
 
 pub returns-then-is_moved_to : goal.returns-then-is_moved_to
@@ -41,5 +42,6 @@ returns-then-is_moved_to c =
     let here = read_at items i lane c.loop-lane-test.true c.lane-item.is in
     let line = mapped_at _ items script.lanes i lane told.lines here in
     let reads = all_at (ReadsLane (names_of script)) items i lane told.said here in
-    let moved = moved_on_is script lanes entry lane reads ∙ ap (λ n. is_moved_to lanes lane.seat n entry) (sym c.number.ensures) ∙ sym c.is_moved_to.ensures ∙ c.if-is_moved_to.true in
+    let moved = moved_on_is script lanes entry lane reads ∙ ap (λ n. is_moved_to lanes lane.seat n entry) (sym c.number.ensures)
+    ∙ sym c.is_moved_to.ensures ∙ c.if-is_moved_to.true in
     sym (any_at (is_moved_on script lanes entry) script.lanes i (source_of lane.line) line moved)

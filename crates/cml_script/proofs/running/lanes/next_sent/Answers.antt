@@ -12,9 +12,12 @@ loop-i-preserved c =
     let script = c.args.plan.now in
     let steps = rw c.script.ensures at c.steps-i-end.ensures in
     let i = c.loop-i.i in
-    let within : i < length script.steps = omega (arith, c.loop-i-test.true, ap length steps.lines, length-map c.steps-i-end.result.now (λ (x : Step). source_of x.line)) in
+    let within : i < length script.steps =
+    omega (arith, c.loop-i-test.true, ap length steps.lines, length-map c.steps-i-end.result.now (λ (x : Step). source_of x.line)) in
     let there = stands script.steps i within in
-    let no : is_laid_to script c.args.seat c.args.at there.0 ≡ false = sym (ap (λ o. option_map_or (is_laid_to script c.args.seat c.args.at) o false) there.1) ∙ sym c.is_laid_to.ensures ∙ c.if-is_laid_to.false in
+    let no : is_laid_to script c.args.seat c.args.at there.0 ≡ false =
+    sym (ap (λ o. option_map_or (is_laid_to script c.args.seat c.args.at) o false) there.1)
+    ∙ sym c.is_laid_to.ensures ∙ c.if-is_laid_to.false in
     c.loop-i.invariant ∙ sends_past script c.args.seat c.args.at i there.0 there.1 no
 
 pub returns-then-is_laid_to : goal.returns-then-is_laid_to
@@ -22,7 +25,15 @@ returns-then-is_laid_to c =
     let script = c.args.plan.now in
     let steps = rw c.script.ensures at c.steps-i-end.ensures in
     let i = c.loop-i.i in
-    let within : i < length script.steps = omega (arith, c.loop-i-test.true, ap length steps.lines, length-map c.steps-i-end.result.now (λ (x : Step). source_of x.line)) in
+    let within : i < length script.steps =
+    omega (arith, c.loop-i-test.true, ap length steps.lines, length-map c.steps-i-end.result.now (λ (x : Step). source_of x.line)) in
     let there = stands script.steps i within in
-    let yes : is_laid_to script c.args.seat c.args.at there.0 ≡ true = sym (ap (λ o. option_map_or (is_laid_to script c.args.seat c.args.at) o false) there.1) ∙ sym c.is_laid_to.ensures ∙ c.if-is_laid_to.true in
-    record { line = there.0; found = there.1; few = omega (arith, c.loop-i-test.true, steps.few); more = c.loop-i.invariant ∙ sends_here script c.args.seat c.args.at i there.0 there.1 yes }
+    let yes : is_laid_to script c.args.seat c.args.at there.0 ≡ true =
+    sym (ap (λ o. option_map_or (is_laid_to script c.args.seat c.args.at) o false) there.1)
+    ∙ sym c.is_laid_to.ensures ∙ c.if-is_laid_to.true in
+    record {
+      line = there.0;
+      found = there.1;
+      few = omega (arith, c.loop-i-test.true, steps.few);
+      more = c.loop-i.invariant ∙ sends_here script c.args.seat c.args.at i there.0 there.1 yes;
+    }

@@ -13,5 +13,6 @@ returns-in-Feed-clause-way g c =
     let goes = turn_goes script seat c.args.step turn (route.Feed c.in-Feed.feed) (sym c.in-Feed.ensures.route) in
     on_ok c.poll_apart.result
     (λ made.
-    more_gone script seat c.args.step c.requires.way turn (by_feed c.in-Feed.feed) c.args.course.now (g.C.Caller.made c.poll_apart.new.self) (ap is_by_ring goes) (feed_acts script turn.line c.in-Feed.feed goes) made refl refl refl)
+    more_gone script seat c.args.step c.requires.way turn (by_feed c.in-Feed.feed) c.args.course.now (g.C.Caller.made c.poll_apart.new.self)
+    (ap is_by_ring goes) (feed_acts script turn.line c.in-Feed.feed goes) made refl refl refl)
     c.poll_apart.ensures.made

@@ -14,7 +14,8 @@ call-requires-clause-closed g c =
     let seat = c.args.thread + 1 in
     let told = c.in_ok-close_before.ensures in
     let under : IsUnderWay script seat c.args.step c.close_before.new.course (g.C.Caller.made c.close_before.new.caller) =
-    closed_before script seat c.args.step _ c.close_before.new.course (g.C.Caller.made c.close_before.new.caller) c.requires.way told.made told.course in
+    closed_before script seat c.args.step _ c.close_before.new.course
+    (g.C.Caller.made c.close_before.new.caller) c.requires.way told.made told.course in
     may_call script seat c.args.step c.args.course.now.is_sending c.in-Ok.call under (ap (λ (k : Course). k.is_sending) told.course)
 
 pub given-given-requires : goal.given-given-requires
@@ -23,8 +24,10 @@ given-given-requires g c = turn_within c.args.plan.now (c.args.thread + 1) c.arg
 pub bind-requires : goal.bind-requires
 bind-requires g c =
     let same = c.in_ok-close_before.ensures.course in
-    let bound = subst (λ (k : Course). AreBindings c.args.plan.now (c.requires.way.entries ++ an_opening c.args.plan.now) k.bindings.items) (sym same) (c.requires.way.bound (an_opening c.args.plan.now) (is_opening c.args.plan.now)) in
-    bind_within c.args.plan.now _ c.close_before.new.course.bindings.items c.args.step c.given-given.result c.requires.known bound c.given-given.ensures
+    let bound = subst (λ (k : Course). AreBindings c.args.plan.now (c.requires.way.entries ++ an_opening c.args.plan.now) k.bindings.items)
+    (sym same) (c.requires.way.bound (an_opening c.args.plan.now) (is_opening c.args.plan.now)) in
+    bind_within c.args.plan.now _ c.close_before.new.course.bindings.items c.args.step c.given-given.result
+    c.requires.known bound c.given-given.ensures
 
 pub overflow_add-course : goal.overflow_add-course
 overflow_add-course g c =
@@ -38,9 +41,13 @@ returns-clause-way g c =
     let turn = c.requires.turn in
     let told = c.in_ok-close_before.ensures in
     let under : IsUnderWay script seat c.args.step c.close_before.new.course (g.C.Caller.made c.close_before.new.caller) =
-    closed_before script seat c.args.step _ c.close_before.new.course (g.C.Caller.made c.close_before.new.caller) c.requires.way told.made told.course in
+    closed_before script seat c.args.step _ c.close_before.new.course
+    (g.C.Caller.made c.close_before.new.caller) c.requires.way told.made told.course in
     let seated = ap is_by_ring (turn_goes script seat c.args.step turn route.Seat c.requires.called) in
-    let bound = c.bind.ensures ∙ ap₂ (λ a r. with_binding c.close_before.new.course.bindings.items c.given-given.result (bound_by a r)) (c.call-3.ensures ∙ c.in_ok-answer.ensures.call) c.reply.ensures in
-    more_made script seat (omega arith) c.args.step under c.requires.known turn c.in-Ok.call c.in_ok-answer.answer.reply c.given-given.result _ _ seated c.in_ok-answer.ensures.reply
-    (λ history long is. c.in-Ok.ensures history (long ∙ ap (λ (k : Course). k.made) told.course) (subst (λ (k : Course). AreBindings script history k.bindings.items) told.course is))
+    let bound = c.bind.ensures ∙ ap₂ (λ a r. with_binding c.close_before.new.course.bindings.items c.given-given.result (bound_by a r))
+    (c.call-3.ensures ∙ c.in_ok-answer.ensures.call) c.reply.ensures in
+    more_made script seat (omega arith) c.args.step under c.requires.known turn c.in-Ok.call c.in_ok-answer.answer.reply
+    c.given-given.result _ _ seated c.in_ok-answer.ensures.reply
+    (λ history long is. c.in-Ok.ensures history (long ∙ ap (λ (k : Course). k.made) told.course)
+    (subst (λ (k : Course). AreBindings script history k.bindings.items) told.course is))
     c.given-given.ensures c.in_ok-answer.ensures.made refl bound refl

@@ -11,6 +11,9 @@ returns-clause-kind c =
     let trail = c.self.inside.trail in
     let told = c.self.invariant in
     let name = c.made.result in
-    let made = subst (λ (h : History). MatchOption name (made_of trail.script h c.args.at ≡ None) (λ n. made_of trail.script h c.args.at ≡ Some n.0)) told.followed c.made.ensures.object in
+    let made =
+    subst (λ (h : History). MatchOption name (made_of trail.script h c.args.at ≡ None) (λ n. made_of trail.script h c.args.at ≡ Some n.0))
+    told.followed c.made.ensures.object in
     let kinds = made_kind trail.script _ c.made.ensures.known c.args.at name told.own told.lawful made in
-    subst (λ (t : Told). IfSome name (λ n. (k : Kind) → IsObjectAt (names_of t.script) c.args.at k → kind_of t.history n.0 ≡ Some k)) c.self.view_is kinds
+    subst (λ (t : Told). IfSome name (λ n. (k : Kind) → IsObjectAt (names_of t.script) c.args.at k → kind_of t.history n.0 ≡ Some k))
+    c.self.view_is kinds

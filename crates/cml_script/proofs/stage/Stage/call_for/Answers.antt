@@ -17,5 +17,7 @@ returns-clause-call c =
 pub returns-clause-fits : goal.returns-clause-fits
 returns-clause-fits c =
     let names = names_of c.args.self.now.script in
-    let kinds = subst (λ n. (k : Kind) → IsObjectAt names n k → kind_of c.args.self.now.history c.bound_object-object.result.0 ≡ Some k) c.used_by.ensures c.bound_object-object.ensures.kind in
-    subst (Fits c.args.self.now.history) (sym c.in_ok-call.ensures) (fits_use names c.args.action.now c.args.self.now.history c.bound_object-object.result c.requires.uses kinds)
+    let kinds = subst (λ n. (k : Kind) → IsObjectAt names n k → kind_of c.args.self.now.history c.bound_object-object.result.0 ≡ Some k)
+    c.used_by.ensures c.bound_object-object.ensures.kind in
+    subst (Fits c.args.self.now.history) (sym c.in_ok-call.ensures)
+    (fits_use names c.args.action.now c.args.self.now.history c.bound_object-object.result c.requires.uses kinds)

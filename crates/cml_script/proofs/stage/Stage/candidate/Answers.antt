@@ -17,7 +17,8 @@ waits-requires-clause-within c =
 pub returns-then-waits : goal.returns-then-waits
 returns-then-waits c =
     let told = c.waits.ensures in
-    waits_there c.args.self.now.script c.args.self.now.history (c.args.thread + 1) _ told.0 (sym c.in_ok-i.ensures) told.1 (told.3.0 c.if-waits.true)
+    waits_there c.args.self.now.script c.args.self.now.history (c.args.thread + 1) _ told.0
+    (sym c.in_ok-i.ensures) told.1 (told.3.0 c.if-waits.true)
 
 pub returns : goal.returns
 returns c =

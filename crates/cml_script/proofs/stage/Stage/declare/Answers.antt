@@ -16,9 +16,12 @@ declare_next-requires-clause-next c =
     let d = c.declaration-item.result in
     let kept = ap (λ (p : Play). p.script) c.self.view_is ∙ sym c.loop-declaration.invariant.script in
     let same = c.script-script.ensures ∙ kept in
-    let read = subst (λ (s : Lines). (slice_get s.declarations i ≡ Some (source_of d.line)) × ReadsDeclaration (names_of s) d) same (declaration_read c.script-script.result.now items i d told.lines told.makes c.loop-declaration-test.true c.declaration-item.is) in
-    next_object c.loop-declaration.self (subst NamesObjects kept c.self.invariant.0.known.named) i d c.loop-declaration.invariant.made read.0 read.1
-    (subst (λ (s : Lines). IsMadeWell (names_of s) i d.makes) same (told.names.made i d (read_at items i d c.loop-declaration-test.true c.declaration-item.is)))
+    let read = subst (λ (s : Lines). (slice_get s.declarations i ≡ Some (source_of d.line)) × ReadsDeclaration (names_of s) d) same
+    (declaration_read c.script-script.result.now items i d told.lines told.makes c.loop-declaration-test.true c.declaration-item.is) in
+    next_object c.loop-declaration.self (subst NamesObjects kept c.self.invariant.0.known.named) i d
+    c.loop-declaration.invariant.made read.0 read.1
+    (subst (λ (s : Lines). IsMadeWell (names_of s) i d.makes) same
+    (told.names.made i d (read_at items i d c.loop-declaration-test.true c.declaration-item.is)))
 
 pub declare_next-requires-clause-plain : goal.declare_next-requires-clause-plain
 declare_next-requires-clause-plain c =
@@ -26,7 +29,8 @@ declare_next-requires-clause-plain c =
     let told = c.declarations-declaration-items.ensures in
     let i = c.loop-declaration.declaration-index in
     let d = c.declaration-item.result in
-    let read = declaration_read script c.declarations-declaration-items.result.now i d told.lines told.makes c.loop-declaration-test.true c.declaration-item.is in
+    let read = declaration_read script c.declarations-declaration-items.result.now i d told.lines told.makes
+    c.loop-declaration-test.true c.declaration-item.is in
     let plain = subst (λ (s : Lines). first_ring s ≡ None) (sym c.script-script.ensures) c.self.invariant.0.plain in
     sym (declaration_feed script d read.1) ∙ plain_feed script plain i (source_of d.line) read.0
 
@@ -37,7 +41,8 @@ loop-declaration-preserved c =
     let i = c.loop-declaration.declaration-index in
     let d = c.declaration-item.result in
     let same = c.script-script.ensures ∙ ap (λ (p : Play). p.script) c.self.view_is ∙ sym c.loop-declaration.invariant.script in
-    let read = subst (λ (s : Lines). (slice_get s.declarations i ≡ Some (source_of d.line)) × ReadsDeclaration (names_of s) d) same (declaration_read c.script-script.result.now items i d told.lines told.makes c.loop-declaration-test.true c.declaration-item.is) in
+    let read = subst (λ (s : Lines). (slice_get s.declarations i ≡ Some (source_of d.line)) × ReadsDeclaration (names_of s) d) same
+    (declaration_read c.script-script.result.now items i d told.lines told.makes c.loop-declaration-test.true c.declaration-item.is) in
     let script = c.loop-declaration.self.script in
     let counted = count_taken (is_object script) script.declarations i (source_of d.line) read.0 in
     let object = declaration_object script d read.1 in
@@ -46,6 +51,8 @@ loop-declaration-preserved c =
       script = c.in_ok-declare_next.ensures.script ∙ c.loop-declaration.invariant.script;
       limit = c.in_ok-declare_next.ensures.limit ∙ c.loop-declaration.invariant.limit;
       made =
-          grown ∙ ap (λ t. length c.loop-declaration.self.history + one_if t) (sym object) ∙ ap (λ n. n + one_if (is_object script (source_of d.line))) c.loop-declaration.invariant.made
-          ∙ sym counted ∙ ap (λ (s : Lines). how_many (is_object s) (take (i + 1) s.declarations)) (sym c.in_ok-declare_next.ensures.script);
+          grown ∙ ap (λ t. length c.loop-declaration.self.history + one_if t) (sym object)
+          ∙ ap (λ n. n + one_if (is_object script (source_of d.line))) c.loop-declaration.invariant.made
+          ∙ sym counted
+          ∙ ap (λ (s : Lines). how_many (is_object s) (take (i + 1) s.declarations)) (sym c.in_ok-declare_next.ensures.script);
     }

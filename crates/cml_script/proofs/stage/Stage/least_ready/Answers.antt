@@ -11,9 +11,12 @@ loop-thread-init c =
 pub loop-thread-preserved : goal.loop-thread-preserved
 loop-thread-preserved c =
     subst (IsLeastBelow c.args.self.now.script c.args.self.now.history (c.loop-thread.thread + 1)) (sym c.earlier_of-least.ensures)
-    (least_more c.args.self.now.script c.args.self.now.history c.loop-thread.thread c.loop-thread.least c.candidate.result c.loop-thread.invariant c.candidate.ensures)
+    (least_more c.args.self.now.script c.args.self.now.history c.loop-thread.thread c.loop-thread.least c.candidate.result
+    c.loop-thread.invariant c.candidate.ensures)
 
 pub returns : goal.returns
 returns c =
-    least_of_all c.args.self.now.script c.args.self.now.history (stands_at c.self.view_is c.self.invariant.0).known.seats c.loop-thread.least
-    (subst (λ n. IsLeastBelow c.args.self.now.script c.args.self.now.history n c.loop-thread.least) (omega (arith, c.self.invariant.0.counted.seats, c.self.inside.counts.ok.0)) c.loop-thread.invariant)
+    least_of_all c.args.self.now.script c.args.self.now.history
+    (stands_at c.self.view_is c.self.invariant.0).known.seats c.loop-thread.least
+    (subst (λ n. IsLeastBelow c.args.self.now.script c.args.self.now.history n c.loop-thread.least)
+    (omega (arith, c.self.invariant.0.counted.seats, c.self.inside.counts.ok.0)) c.loop-thread.invariant)

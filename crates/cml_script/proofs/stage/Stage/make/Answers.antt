@@ -19,7 +19,8 @@ pub invariant_of-self : goal.invariant_of-self
 invariant_of-self c =
     let adds = c.in-Answered.ensures.5 in
     let room = whole_below c.self.inside.board c.self.invariant.1 c.in-Answered.ensures.1 in (
-      stands_declared _ c.args.self.now _ _ c.apply.new.self.history c.apply.new.self.limit c.args.call c.in-Answered.field-0.reply c.self.view_is c.self.invariant.0 c.requires.next
+      stands_declared _ c.args.self.now _ _ c.apply.new.self.history c.apply.new.self.limit c.args.call c.in-Answered.field-0.reply
+          c.self.view_is c.self.invariant.0 c.requires.next
           adds.history adds.limit c.in-Answered.ensures.0 room c.in-Answered.ensures.2,
       adds.past ∙ c.self.invariant.1,
     )

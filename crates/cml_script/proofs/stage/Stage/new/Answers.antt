@@ -15,7 +15,8 @@ invariant_of-result c =
         follows = subst (Follows c.in_ok-plan.plan) (sym none) tt;
         plain = subst (λ (s : Lines). first_ring s ≡ None) (sym c.in_ok-plan.ensures.script) c.requires.plain;
         known = c.in_ok-plan.ensures.known;
-        counted = counted_none c.in_ok-board.board.history c.in_ok-counts.counts.items none (c.in_ok-counts.ensures.items_if_clones_equal (λ y is. is));
+        counted = counted_none c.in_ok-board.board.history c.in_ok-counts.counts.items none
+            (c.in_ok-counts.ensures.items_if_clones_equal (λ y is. is));
         bound = subst (λ h. AreBindings c.in_ok-plan.plan h c.in_ok-bindings.bindings.items) (sym none) c.in_ok-bindings.ensures;
       },
       c.in_ok-board.ensures.past,

@@ -13,8 +13,10 @@ returns c =
     let at = object_of c.args.self.now.script c.args.self.now.history in
     let action = c.args.action.now in
     let asked = call_on action c.bound_object-object.result in
-    let kinds = subst (λ n. (k : Kind) → IsObjectAt names n k → kind_of c.args.self.now.history c.bound_object-object.result.0 ≡ Some k) c.used_by.ensures c.bound_object-object.ensures.kind in
-    let fits : Fits c.args.self.now.history asked = fits_use names action c.args.self.now.history c.bound_object-object.result c.requires.uses kinds in
+    let kinds = subst (λ n. (k : Kind) → IsObjectAt names n k → kind_of c.args.self.now.history c.bound_object-object.result.0 ≡ Some k)
+    c.used_by.ensures c.bound_object-object.ensures.kind in
+    let fits : Fits c.args.self.now.history asked =
+    fits_use names action c.args.self.now.history c.bound_object-object.result c.requires.uses kinds in
     let calls = ap (λ n. option_map (λ (o : ℕ). call_on action (record { 0 = o })) (at n)) (sym c.used_by.ensures)
     ∙ ap (option_map (λ (o : ℕ). call_on action (record { 0 = o }))) c.bound_object-object.ensures.object in (
       asked,
@@ -22,6 +24,9 @@ returns c =
       fits,
       (
         λ yes. subst (λ (p : Play). answer p.history asked ≡ None) c.self.view_is (c.would_wait.ensures.0 yes).1,
-        λ none. c.would_wait.ensures.1 (subst (λ (p : Play). Fits p.history asked) (sym c.self.view_is) fits, subst (λ (p : Play). answer p.history asked ≡ None) (sym c.self.view_is) none),
+        λ none. c.would_wait.ensures.1 (
+          subst (λ (p : Play). Fits p.history asked) (sym c.self.view_is) fits,
+          subst (λ (p : Play). answer p.history asked ≡ None) (sym c.self.view_is) none,
+        ),
       ),
     )

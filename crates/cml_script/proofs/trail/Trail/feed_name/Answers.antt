@@ -10,7 +10,8 @@ pub declared_name-requires : goal.declared_name-requires
 declared_name-requires c =
     let script = c.self.inside.plan in
     subst (λ (s : Lines). IfSome c.feed_place.result (λ at. at < length s.declarations)) (sym c.script.ensures)
-    (placed_within (is_feed script) script.declarations c.args.feed c.feed_place.result (c.feed_place.ensures ∙ ap (λ l. slice_get l c.args.feed) c.self.invariant.objects.fed))
+    (placed_within (is_feed script) script.declarations c.args.feed c.feed_place.result
+    (c.feed_place.ensures ∙ ap (λ l. slice_get l c.args.feed) c.self.invariant.objects.fed))
 
 pub returns : goal.returns
 returns c =

@@ -10,7 +10,8 @@ bind-requires c =
     let trail = c.args.self.now in
     let follows = followed_at c.self.view_is c.self.invariant in
     subst (λ n. IfSome c.next_given-given.result (λ at. at < n)) (sym follows.bound.all)
-    (next_given_within trail.script (next_position trail.script (history_of trail) _) c.next_given-given.result follows.known.given c.next_given-given.ensures)
+    (next_given_within trail.script (next_position trail.script (history_of trail) _) c.next_given-given.result
+    follows.known.given c.next_given-given.ensures)
 
 pub count-requires : goal.count-requires
 count-requires c =
@@ -25,4 +26,6 @@ invariant_of-self c =
     let trail = c.args.self.now in
     let within = subst (λ (p : Progress). p.followed < length p.journal) (sym c.self.view_is) c.requires in
     let entry = get_or c.self.inside.journal.now c.self.inside.followed c.index-self-self.result in
-    follows_more _ trail _ _ _ _ _ entry c.next_given-given.result c.self.view_is c.self.invariant (slice_get-get_or c.self.inside.journal.now c.self.inside.followed c.index-self-self.result within) c.next_given-given.ensures c.count.ensures c.bind.ensures
+    follows_more _ trail _ _ _ _ _ entry c.next_given-given.result c.self.view_is c.self.invariant
+    (slice_get-get_or c.self.inside.journal.now c.self.inside.followed c.index-self-self.result within)
+    c.next_given-given.ensures c.count.ensures c.bind.ensures

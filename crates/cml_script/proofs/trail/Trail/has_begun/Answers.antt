@@ -12,6 +12,15 @@ returns c =
     let long = before_length trail.journal trail.followed follows.within in
     let made = places_length trail.script c.self.inside.objects.places.items follows.objects.placed in
     let same = ap (λ (p : Progress). p.followed) c.self.view_is in (
-      λ begun. omega (arith, long, made, same, leb-true c.len.result c.self.inside.followed begun, c.len.ensures, c.self.inside.objects.places.ok.0),
-      λ le. le-leb c.len.result c.self.inside.followed (omega (arith, long, made, same, le, c.len.ensures, c.self.inside.objects.places.ok.0)),
+      λ begun. omega (
+        arith,
+        long,
+        made,
+        same,
+        leb-true c.len.result c.self.inside.followed begun,
+        c.len.ensures,
+        c.self.inside.objects.places.ok.0,
+      ),
+      λ le. le-leb c.len.result c.self.inside.followed
+          (omega (arith, long, made, same, le, c.len.ensures, c.self.inside.objects.places.ok.0)),
     )

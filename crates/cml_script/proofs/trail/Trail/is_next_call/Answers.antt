@@ -7,33 +7,41 @@ use Rattle.cml_script.proofs.trail.Trail.is_next_call.Goals as goal
 pub bounds-steps-step : goal.bounds-steps-step
 bounds-steps-step c =
     let steps = rw c.script.ensures at c.steps.ensures in
-    step_within _ c.args.self.now _ _ _ c.self.view_is c.self.invariant c.steps.result.now c.args.who c.in-Some.step steps.lines (sym c.in-Some.ensures)
+    step_within _ c.args.self.now _ _ _ c.self.view_is c.self.invariant c.steps.result.now c.args.who c.in-Some.step steps.lines
+    (sym c.in-Some.ensures)
 
 pub offset_bounds-steps-step : goal.offset_bounds-steps-step
 offset_bounds-steps-step c =
     let steps = rw c.script.ensures at c.steps.ensures in
-    let within = step_within _ c.args.self.now _ _ _ c.self.view_is c.self.invariant c.steps.result.now c.args.who c.in-Some.step steps.lines (sym c.in-Some.ensures) in
+    let within = step_within _ c.args.self.now _ _ _ c.self.view_is c.self.invariant c.steps.result.now c.args.who c.in-Some.step
+    steps.lines (sym c.in-Some.ensures) in
     omega (arith, within, c.steps.ensures.few)
 
 pub object-requires : goal.object-requires
 object-requires c =
     let steps = rw c.script.ensures at c.steps.ensures in
-    let within = step_within _ c.args.self.now _ _ _ c.self.view_is c.self.invariant c.steps.result.now c.args.who c.in-Some.step steps.lines (sym c.in-Some.ensures) in
-    let used = used_at _ c.args.self.now c.steps.result.now c.in-Some.step _ c.self.view_is steps.asked (slice_get-get_or _ _ c.index-steps-step.result within) in
+    let within = step_within _ c.args.self.now _ _ _ c.self.view_is c.self.invariant c.steps.result.now c.args.who c.in-Some.step
+    steps.lines (sym c.in-Some.ensures) in
+    let used = used_at _ c.args.self.now c.steps.result.now c.in-Some.step _ c.self.view_is steps.asked
+    (slice_get-get_or _ _ c.index-steps-step.result within) in
     omega (arith, used, c.used_by.ensures)
 
 pub returns-in-Some-object : goal.returns-in-Some-object
 returns-in-Some-object c =
     let steps = rw c.script.ensures at c.steps.ensures in
-    let within = step_within _ c.args.self.now _ _ _ c.self.view_is c.self.invariant c.steps.result.now c.args.who c.in-Some.step steps.lines (sym c.in-Some.ensures) in
-    let calls = called_at _ c.args.self.now c.args.who c.steps.result.now c.in-Some.step c.used_by.result _ (Some c.in-Some-object.object) c.self.view_is (sym c.in-Some.ensures) steps.lines steps.asked
+    let within = step_within _ c.args.self.now _ _ _ c.self.view_is c.self.invariant c.steps.result.now c.args.who c.in-Some.step
+    steps.lines (sym c.in-Some.ensures) in
+    let calls = called_at _ c.args.self.now c.args.who c.steps.result.now c.in-Some.step c.used_by.result _
+    (Some c.in-Some-object.object) c.self.view_is (sym c.in-Some.ensures) steps.lines steps.asked
     (slice_get-get_or _ _ c.index-steps-step.result within) c.used_by.ensures c.in-Some-object.ensures in
     (λ yes. calls ∙ ap Some (c.is_call_on.ensures.0 yes), λ next. c.is_call_on.ensures.1 (same_Some _ _ (sym calls ∙ next)))
 
 pub returns-in-None : goal.returns-in-None
 returns-in-None c =
     let steps = rw c.script.ensures at c.steps.ensures in
-    let within = step_within _ c.args.self.now _ _ _ c.self.view_is c.self.invariant c.steps.result.now c.args.who c.in-Some.step steps.lines (sym c.in-Some.ensures) in
-    let calls = called_at _ c.args.self.now c.args.who c.steps.result.now c.in-Some.step c.used_by.result _ None c.self.view_is (sym c.in-Some.ensures) steps.lines steps.asked
+    let within = step_within _ c.args.self.now _ _ _ c.self.view_is c.self.invariant c.steps.result.now c.args.who c.in-Some.step
+    steps.lines (sym c.in-Some.ensures) in
+    let calls = called_at _ c.args.self.now c.args.who c.steps.result.now c.in-Some.step c.used_by.result _ None c.self.view_is
+    (sym c.in-Some.ensures) steps.lines steps.asked
     (slice_get-get_or _ _ c.index-steps-step.result within) c.used_by.ensures c.in-None.ensures in
     (λ yes. absurd (false≢true yes), λ next. absurd (none-some _ (sym calls ∙ next)))

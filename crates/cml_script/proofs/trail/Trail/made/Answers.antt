@@ -11,7 +11,8 @@ returns-then-at-declarations-clause-object c =
     let trail = c.args.self.now in
     let follows = followed_at c.self.view_is c.self.invariant in
     let within = object_within (names_of trail.script) c.args.at c.requires in
-    let long = declared_length c.declarations.result.now _ _ c.declarations.ensures.lines (c.script.ensures ∙ ap (λ (p : Progress). p.script) c.self.view_is) in
+    let long = declared_length c.declarations.result.now _ _ c.declarations.ensures.lines
+    (c.script.ensures ∙ ap (λ (p : Progress). p.script) c.self.view_is) in
     let ge : length trail.script.declarations ≤ c.args.at = omega (arith, c.if-at-declarations.true, long) in
     let here = binding_at trail.script (history_of trail) _ c.args.at c.index.result.now follows.bound within c.index.ensures in
     made_option c.made.result _ _ c.made.ensures (ap port_made here ∙ sym (made_given trail.script (history_of trail) c.args.at ge))
@@ -19,6 +20,7 @@ returns-then-at-declarations-clause-object c =
 pub returns-clause-object : goal.returns-clause-object
 returns-clause-object c =
     let trail = c.args.self.now in
-    let long = declared_length c.declarations.result.now _ _ c.declarations.ensures.lines (c.script.ensures ∙ ap (λ (p : Progress). p.script) c.self.view_is) in
+    let long = declared_length c.declarations.result.now _ _ c.declarations.ensures.lines
+    (c.script.ensures ∙ ap (λ (p : Progress). p.script) c.self.view_is) in
     let lt : c.args.at < length trail.script.declarations = omega (arith, c.if-at-declarations.false, long) in
     made_option c.declared_object.result _ _ c.declared_object.ensures (sym (made_declared trail.script (history_of trail) c.args.at lt))

@@ -8,7 +8,8 @@ use Rattle.cml_script.proofs.trail.Trail.next_step.Goals as goal
 pub returns-in_err-thread : goal.returns-in_err-thread
 returns-in_err-thread c =
     let trail = c.args.self.now in
-    c.from_residual.ensures ∙ sym (none_next trail.script (history_of trail) c.args.who (followed_at c.self.view_is c.self.invariant).known.seats c.in_err-thread.ensures)
+    c.from_residual.ensures ∙ sym (none_next trail.script (history_of trail) c.args.who
+    (followed_at c.self.view_is c.self.invariant).known.seats c.in_err-thread.ensures)
 
 pub returns : goal.returns
 returns c =
@@ -17,6 +18,7 @@ returns c =
     let is = c.in_ok-thread.ensures in
     let script = c.self.inside.plan in
     c.step.ensures
-    ∙ ap (slice_get (positions_from script (thread + 1) 0 script.steps)) (count_at _ c.self.inside.counts.items thread c.index.result.now c.self.invariant.counted is.0 c.index.ensures)
+    ∙ ap (slice_get (positions_from script (thread + 1) 0 script.steps))
+    (count_at _ c.self.inside.counts.items thread c.index.result.now c.self.invariant.counted is.0 c.index.ensures)
     ∙ ap (λ (p : Progress). next_position p.script (history_of p) (Seat (thread + 1))) c.self.view_is
     ∙ ap (next_position trail.script (history_of trail)) (sym is.1)

@@ -10,7 +10,8 @@ pub declared_name-requires : goal.declared_name-requires
 declared_name-requires c =
     let script = c.self.inside.plan in
     subst (λ (s : Lines). IfSome c.place.result (λ at. at < length s.declarations)) (sym c.script.ensures)
-    (placed_within (is_object script) script.declarations c.args.object.0 c.place.result (c.place.ensures ∙ ap (λ l. slice_get l c.args.object.0) c.self.invariant.objects.placed))
+    (placed_within (is_object script) script.declarations c.args.object.0 c.place.result
+    (c.place.ensures ∙ ap (λ l. slice_get l c.args.object.0) c.self.invariant.objects.placed))
 
 pub returns : goal.returns
 returns c =

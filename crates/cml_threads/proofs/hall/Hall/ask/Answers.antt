@@ -10,5 +10,6 @@ returns-clause-asks g c =
 
 pub returns-clause-turns : goal.returns-clause-turns
 returns-clause-turns g c =
-    told_turns c.args.self.now c.self.inside.room c.ask-outcome.new.self c.self.inside.book.total c.count.new.book.total c.args.seat.now.number c.number.result
+    told_turns c.args.self.now c.self.inside.room c.ask-outcome.new.self c.self.inside.book.total c.count.new.book.total
+    c.args.seat.now.number c.number.result
     c.ask-outcome.result c.self.view_is c.number.ensures c.ask-outcome.ensures.turns

@@ -13,4 +13,5 @@ count_since-requires g c = was_counted c.self.inside.room c.count_entries-before
 
 pub returns-clause-rings : goal.returns-clause-rings
 returns-clause-rings g c =
-    subst (λ (h : Hosted g.row.M.Denot). KeepsRings (floor_of h) (room.floor_of c.drain-told.new.self)) c.self.view_is c.drain-told.ensures.rings
+    subst (λ (h : Hosted g.row.M.Denot). KeepsRings (floor_of h) (room.floor_of c.drain-told.new.self))
+    c.self.view_is c.drain-told.ensures.rings

@@ -13,7 +13,8 @@ pub lefts_of-requires-clause-some : goal.lefts_of-requires-clause-some
 lefts_of-requires-clause-some g c = λ none.
     let all = c.entries-entries.ensures ∙ ap (λ (b : Shown g.row.M.Denot). entries_in b.history) c.board.ensures in
     let same = ap (λ (b : Shown g.row.M.Denot). seats_of b.history) c.in_ok-room.ensures.board in
-    let no_seats : seats_of c.args.restored.board.history ≡ 0 = omega (arith, none, c.seats.ensures, c.in_ok-room.ensures.behind_seats, same) in
+    let no_seats : seats_of c.args.restored.board.history ≡ 0 =
+    omega (arith, none, c.seats.ensures, c.in_ok-room.ensures.behind_seats, same) in
     omega (arith, all, c.makers-makers.ensures.right.rings, all_rings c.args.restored.board.history no_seats)
 
 pub invariant_of-result : goal.invariant_of-result
@@ -26,7 +27,16 @@ invariant_of-result g c =
     let parts = c.add.ensures.parts ∙ c.open-book.ensures.parts in
     record {
       entries = omega (arith, all, entries, c.add.ensures.total, c.open-book.ensures.total);
-      rings = omega (arith, all, rings, within, c.makers-makers.ensures.right.rings, lefts.amount, c.add.ensures.amount, c.open-book.ensures.amount);
+      rings = omega (
+        arith,
+        all,
+        rings,
+        within,
+        c.makers-makers.ensures.right.rings,
+        lefts.amount,
+        c.add.ensures.amount,
+        c.open-book.ensures.amount,
+      );
       shared = omega (arith, lefts.parts, parts, c.seats.ensures);
       enough = omega (arith, c.requires.parts, c.requires.enough);
       own_parts = omega (arith, lefts.parts, parts, c.seats.ensures, c.in_ok-room.ensures.small, c.requires.parts, c.requires.enough);

@@ -6,4 +6,5 @@ use Rattle.cml_threads.proofs.hall.Hall.take_journal.Goals as goal
 
 pub returns-clause-rings : goal.returns-clause-rings
 returns-clause-rings g c =
-    subst (λ (h : Hosted g.row.M.Denot). KeepsRings (floor_of h) (room.floor_of c.take_journal.new.self)) c.self.view_is c.take_journal.ensures.rings
+    subst (λ (h : Hosted g.row.M.Denot). KeepsRings (floor_of h) (room.floor_of c.take_journal.new.self))
+    c.self.view_is c.take_journal.ensures.rings

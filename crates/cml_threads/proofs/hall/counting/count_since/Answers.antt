@@ -13,8 +13,10 @@ overflow_sub-count_entries g c =
 
 pub returns : goal.returns
 returns g c =
-    let grown = grown_since c.args.before c.args.room.now c.args.book.now.total c.args.rest.now.amount c.args.rest.now.parts g.Led.Ledger.parts c.requires in
+    let grown = grown_since c.args.before c.args.room.now c.args.book.now.total c.args.rest.now.amount
+    c.args.rest.now.parts g.Led.Ledger.parts c.requires in
     counted_since c.args.before c.args.room.now c.args.book.now.total c.args.rest.now.amount c.args.rest.now.parts g.Led.Ledger.parts
     c.add.new.self.total c.add.new.share.amount c.add.new.share.parts c.requires
-    (omega (arith, grown, c.count_entries.ensures, c.add.ensures.total)) (omega (arith, grown, c.count_entries.ensures, c.add.ensures.amount))
+    (omega (arith, grown, c.count_entries.ensures, c.add.ensures.total))
+    (omega (arith, grown, c.count_entries.ensures, c.add.ensures.amount))
     c.add.ensures.parts

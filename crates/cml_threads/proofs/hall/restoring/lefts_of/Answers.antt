@@ -14,10 +14,17 @@ loop-number-preserved g c =
       room = omega (arith, pushed.capacity, was.room);
       numbers = numbers_more c.loop-number.lefts.items c.push_reserved.new.self.items c.new.result c.loop-number.number was.many
           (ap (λ (s : Sitting). s.number) c.new.ensures) pushed.items was.numbers;
-      shares = shares_more c.loop-number.lefts.items c.push_reserved.new.self.items c.new.result c.loop-number.number c.args.answers was.many
-          (ap (λ (s : Sitting). s.share) c.new.ensures ∙ next_share c.loop-number.number c.loop-number.answers c.args.answers was.first was.none) pushed.items was.shares;
+      shares =
+          shares_more c.loop-number.lefts.items c.push_reserved.new.self.items c.new.result c.loop-number.number c.args.answers was.many
+          (ap (λ (s : Sitting). s.share) c.new.ensures
+          ∙ next_share c.loop-number.number c.loop-number.answers c.args.answers was.first was.none) pushed.items was.shares;
       first = λ none. absurd (omega (arith, none));
-      answers = omega (arith, answers_more c.loop-number.lefts.items c.push_reserved.new.self.items c.new.result pushed.items, ap (λ (s : Sitting). s.share) c.new.ensures, was.answers);
+      answers = omega (
+        arith,
+        answers_more c.loop-number.lefts.items c.push_reserved.new.self.items c.new.result pushed.items,
+        ap (λ (s : Sitting). s.share) c.new.ensures,
+        was.answers,
+      );
       none = λ some. refl;
       amount = omega (arith, split.amount_left, was.amount);
       parts = omega (arith, split.parts_left, was.parts);

@@ -17,4 +17,5 @@ pub shares : (R : RattleType) (L : Laws R) → statement R L
 shares R L =
     of_Lends (S.struct R) (S.the_codes R.Denot R.coded (marker.the_row RawPtr).coded) (S.the_heap R) (S.the_lent R)
     (λ blocks _. lent_laws R L.shr_laws blocks.kept) (copy_shared (marker.the_field RawPtr) (field_copy (marker.the_type RawPtr) tt), tt)
-    (λ M 𝓤 𝓛 blocks _. Lends-all 𝓛 (S.the_row R).lives R L (Incl-trans (meet_⊑_left (R.lives ++ []) _) (meet_⊑_left R.lives [])) blocks.kept)
+    (λ M 𝓤 𝓛 blocks _. Lends-all 𝓛 (S.the_row R).lives R L
+    (Incl-trans (meet_⊑_left (R.lives ++ []) _) (meet_⊑_left R.lives [])) blocks.kept)

@@ -1,5 +1,7 @@
 -- `zero` makes a value of no bytes.
-use Rattle.cml_log.proofs.WalksLemmas.{[], ◌∷◌, refl, raw, ‵, ◌$◌, ◌∵◌, !, qed, by, keep, fjoin, use0, emp, ftrue, fact, fact_i, enter, alloc_all, pass_all, free_all, look_at, get, sets, agg, no_more, and_then, returns, nothing, tables, proved, leaves, ◌≡◌}
+use Rattle.cml_log.proofs.WalksLemmas.{[], ◌∷◌, refl, raw, ‵, ◌$◌, ◌∵◌, !, qed, by, keep, fjoin, use0, emp, ftrue, fact, fact_i}
+use Rattle.cml_log.proofs.WalksLemmas.{enter, alloc_all, pass_all, free_all, look_at, get, sets, agg, no_more, and_then}
+use Rattle.cml_log.proofs.WalksLemmas.{returns, nothing, tables, proved, leaves, ◌≡◌}
 use Rattle.cml_log.proofs.BlockValuesLemmas.{mark, count_made, Counting}
 use denote.Triple.Entry.{on_entry}
 use Rattle.cml_log.specs.Prelude.{Counter}
@@ -14,5 +16,7 @@ zero_spec 𝓤 𝓛 𝓜 𝓡 wired =
     qed 𝓛 (raw (on_entry 𝓛 f.signature κs qs a tt) ∷ ‵ ftrue ∷ []) ∵ keep ! [] $
     enter ! 𝓣.C 𝓣.Λ code.function [] _ $ alloc_all ! (λ l. pass_all ! refl tt $
     sets ! (agg ! (no_more !)) refl (tt, tt) $ sets ! (agg ! (and_then ! (get ! refl) (no_more !))) refl (tt, (tt, tt)) $
-    nothing ! $ use0 𝓛 (‵ (Counting.own_val (tt, tt) (mark ∷ []))) (count_made 𝓛) $ fjoin ! $ use0 𝓛 (raw (fact 𝓤 (0 ≡ 0))) (fact_i 𝓤 (0 ≡ 0) (emp 𝓤) refl) $ nothing ! $ nothing ! $
-    returns ! (look_at ! 0 refl) $ free_all ! refl $ keep ! (1 ∷ 0 ∷ 3 ∷ 2 ∷ []) $ by ! (leaves 𝓛 f.ended tt c ((κs, qs, bounds, a, tt), gh) mark none tt tt)))
+    nothing ! $ use0 𝓛 (‵ (Counting.own_val (tt, tt) (mark ∷ []))) (count_made 𝓛) $ fjoin ! $
+    use0 𝓛 (raw (fact 𝓤 (0 ≡ 0))) (fact_i 𝓤 (0 ≡ 0) (emp 𝓤) refl) $ nothing ! $ nothing ! $
+    returns ! (look_at ! 0 refl) $ free_all ! refl $ keep ! (1 ∷ 0 ∷ 3 ∷ 2 ∷ []) $
+    by ! (leaves 𝓛 f.ended tt c ((κs, qs, bounds, a, tt), gh) mark none tt tt)))

@@ -16,7 +16,8 @@ returns-clause-call c =
     elim c.match-apply.branch [
       | in-Answered w ↦
           let told = w.in-Answered.ensures in
-          rw w.result-is (floor_call c.self.inside.floor c.apply.new.self c.args.call w.in-Answered.answer told.barred (λ isnt. (told.applied isnt).3))
+          rw w.result-is
+          (floor_call c.self.inside.floor c.apply.new.self c.args.call w.in-Answered.answer told.barred (λ isnt. (told.applied isnt).3))
       | in-WouldWait w ↦ rw w.result-is tt
       | in-Refused w ↦ rw w.result-is tt
     ]
@@ -26,7 +27,8 @@ returns-clause-reply c =
     elim c.match-apply.branch [
       | in-Answered w ↦
           let told = w.in-Answered.ensures in
-          rw w.result-is (floor_suits c.self.inside.floor c.apply.new.self c.args.call w.in-Answered.answer told.barred (λ isnt. (told.applied isnt).2))
+          rw w.result-is
+          (floor_suits c.self.inside.floor c.apply.new.self c.args.call w.in-Answered.answer told.barred (λ isnt. (told.applied isnt).2))
       | in-WouldWait w ↦ rw w.result-is tt
       | in-Refused w ↦ rw w.result-is tt
     ]
