@@ -182,25 +182,22 @@ verdict_behind asked old mid new front ending first uncut concluded = by (is_of_
     never : is_behind_cut front ≡ true → ⊥
     never cut = cc
 
+    whole : {M : Type 0} {version : ℕ} {meaning : List ℕ → Option M} {text : M → List ℕ}
+        → (ends : Concludes version meaning text asked front mid new ending)
+        → TellsAs (is_of_bytes front) asked (front ++ ends.bytes) ending → IsVerdict asked old new ending
+    whole ends told = record {
+      front = front;
+      rest = ends.bytes;
+      long = ends.long;
+      given = Consumes-trans old mid new front ends.bytes first ends.given;
+      heard = ends.heard;
+      cut = λ cut. absurd (never cut);
+      told = told;
+    }
+
     by : (b : Bool) → is_of_bytes front ≡ b → ConcludesAs b asked front mid new ending → IsVerdict asked old new ending
-    by true is ends = record {
-      front = front;
-      rest = ends.bytes;
-      long = ends.long;
-      given = Consumes-trans old mid new front ends.bytes first ends.given;
-      heard = ends.heard;
-      cut = λ cut. absurd (never cut);
-      told = subst (λ (b : Bool). TellsAs b asked (front ++ ends.bytes) ending) (sym is) ends.told;
-    }
-    by false is ends = record {
-      front = front;
-      rest = ends.bytes;
-      long = ends.long;
-      given = Consumes-trans old mid new front ends.bytes first ends.given;
-      heard = ends.heard;
-      cut = λ cut. absurd (never cut);
-      told = subst (λ (b : Bool). TellsAs b asked (front ++ ends.bytes) ending) (sym is) ends.told;
-    }
+    by true is ends = whole ends (subst (λ (b : Bool). TellsAs b asked (front ++ ends.bytes) ending) (sym is) ends.told)
+    by false is ends = whole ends (subst (λ (b : Bool). TellsAs b asked (front ++ ends.bytes) ending) (sym is) ends.told)
 
 silent_heard : (ending : Ending) (new : Option (List ℕ)) → IsSilent ending → IsHeardOut ending new
 silent_heard ReadFault new silent = tt

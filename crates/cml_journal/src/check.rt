@@ -126,7 +126,8 @@ impl<M: Message + Written> Check<M> {
         ensures halted { IfErr result (λ halt. MayHaltAt self.old.checker entry self.new halt) }
     {
         self.entry.clear();
-        self.entry.push(entry)?;
+        self.entry.reserve(1)?;
+        self.entry.push_reserved(entry);
         if self.checker.entries() == u64::MAX {
             return Err(Halt::Fault(self.reader.lines(), What::TooMany));
         }

@@ -2,7 +2,7 @@
 ghost use Rattle.std.specs.Prelude.{◌≡◌};
 ghost use Rattle.cml_journal.specs.declared.fault.Unread.TheVariants.{Memory};
 
-use std::alloc::{AllocError, AllocFailed};
+use std::alloc::AllocError;
 use std::error::Error;
 use thiserror::Error;
 
@@ -60,14 +60,6 @@ impl From<AllocError> for Unread {
     ghost from_gives = { λ _ unread. unread ≡ Memory };
 
     fn from(_error: AllocError) -> Unread {
-        Unread::Memory
-    }
-}
-
-impl<T: Drop> From<AllocFailed<T>> for Unread {
-    ghost from_gives = { λ _ unread. unread ≡ Memory };
-
-    fn from(_error: AllocFailed<T>) -> Unread {
         Unread::Memory
     }
 }

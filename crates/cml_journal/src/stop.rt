@@ -4,7 +4,7 @@ ghost use Rattle.cml_journal.specs.declared.stop.Halt.TheVariants.{NoMemory as m
 ghost use Rattle.cml_journal.specs.Prelude.{halt_of};
 
 use crate::fault::{Unread, What};
-use std::alloc::{AllocError, AllocFailed};
+use std::alloc::AllocError;
 use thiserror::Error;
 
 /// Why a check stops.
@@ -48,14 +48,6 @@ impl From<AllocError> for Halt {
     ghost from_gives = { λ _ halt. halt ≡ memory };
 
     fn from(_error: AllocError) -> Halt {
-        Halt::NoMemory
-    }
-}
-
-impl<T: Drop> From<AllocFailed<T>> for Halt {
-    ghost from_gives = { λ _ halt. halt ≡ memory };
-
-    fn from(_error: AllocFailed<T>) -> Halt {
         Halt::NoMemory
     }
 }
