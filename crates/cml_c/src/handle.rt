@@ -1,6 +1,7 @@
 //! What C holds: where a room, a lane or a feed lies.
 ghost use Rattle.std.specs.Prelude.{◌≡◌, Option, Some, IfOk};
-ghost use Rattle.cml_c.specs.Prelude.{Kept, kept_coded, slot_coded};
+ghost use Rattle.cml_c.specs.declared.kept.Kept.{Kept};
+ghost use Rattle.cml_c.specs.Owning.{kept_coded, slot_coded};
 ghost use Rattle.cml_c.specs.contracts.kept.Kept.{the_row as kept_row};
 
 use crate::kept::Kept;

@@ -1,6 +1,7 @@
 //! What C holds of a message of more than 14 bytes.
 ghost use Rattle.std.specs.Prelude.{◌≡◌, Option, Some};
-ghost use Rattle.cml_c.specs.Prelude.{Held, kept_coded, slot_coded};
+ghost use Rattle.cml_c.specs.declared.keeper.Held.{Held};
+ghost use Rattle.cml_c.specs.Owning.{kept_coded, slot_coded};
 ghost use Rattle.cml_c.specs.contracts.keeper.Held.{the_row as held_row};
 
 use crate::raw::Loose;

@@ -1,6 +1,7 @@
 //! What a handle leads to.
 ghost use Rattle.std.specs.Prelude.{◌≡◌};
-ghost use Rattle.cml_c.specs.Prelude.{Kept, Resource};
+ghost use Rattle.cml_c.specs.declared.kept.Kept.{Kept};
+ghost use Rattle.cml_c.specs.declared.kept.Resource.{Resource};
 ghost use Rattle.cml_c.specs.declared.kept.Kept.TheVariants as kept;
 ghost use Rattle.cml_c.specs.declared.kept.Resource.TheVariants as resource;
 

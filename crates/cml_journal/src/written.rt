@@ -1,6 +1,6 @@
 //! Messages as words of a line.
 ghost use Rattle.std.specs.Prelude.{◌≡◌, ◌++◌, ℕ, Bool, List, Option, IfOk, OnOk, string_bytes};
-ghost use Rattle.cml_journal.specs.Prelude.{IsWritten};
+ghost use Rattle.cml_journal.specs.Written.{IsWritten};
 
 use cml_grammar::number_of;
 use std::alloc::{AllocError, Global};

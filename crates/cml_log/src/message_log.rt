@@ -1,7 +1,7 @@
 ghost use Rattle.std.specs.Prelude.{◌≡◌, ℕ, ◌+◌, ◌-◌, ◌%◌, ◌<◌, ◌≤◌, ◌↔◌, Some, None, length, IsTrue, OnOk, OnErr, IfOk};
 ghost use Rattle.std.specs.Prelude.{IfErr, option_copied, slice_get};
-ghost use Rattle.cml_log.specs.Prelude.{Log, empty_log, next_of, IsOpen, place_of, owed_items, cursor_count, chunk_count, chunk_start};
-ghost use Rattle.cml_log.specs.Prelude.{trimmed, with_item, with_place, Opens};
+ghost use Rattle.cml_log.specs.Log.{Log, empty_log, next_of, IsOpen, place_of, owed_items, cursor_count, chunk_count};
+ghost use Rattle.cml_log.specs.Log.{chunk_start, trimmed, with_item, with_place, Opens};
 
 use crate::{Back, Key};
 use std::alloc::{AllocError, Global};

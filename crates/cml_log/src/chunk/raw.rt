@@ -5,7 +5,8 @@ ghost use Rattle.std.specs.Prelude.{◌≡◌, ℕ, ◌+◌, List, Option, [], �
 ghost use base.Fml.{ftrue};
 ghost use denote.RawPtr.{Ptr};
 ghost use Rattle.std.specs.Mem.{FitsInMemory};
-ghost use Rattle.cml_log.specs.Prelude.{block_at, IsKept, IsBare, blocks_own, blocks_lent, right_owns, Address};
+ghost use Rattle.cml_log.specs.Blocks.{block_at, IsKept, IsBare, blocks_own, blocks_lent, right_owns};
+ghost use Rattle.cml_log.specs.declared.chunk.raw.Address.{Address};
 
 use std::alloc::{AllocError, Global};
 use std::marker::{Model, PhantomData, Send, Sync};

@@ -3,7 +3,8 @@ ghost use Rattle.std.specs.Prelude.{◌≡◌, Bool, true, Option, Some, None, I
 ghost use Rattle.std.specs.Option.{option_map};
 ghost use Rattle.cml_threads.specs.Prelude.{suits};
 ghost use Rattle.cml_grammar.specs.Prelude.{IsCapacity};
-ghost use Rattle.cml_script.specs.Prelude.{by_lane, by_feed, Made, MayCall, with_call, with_feed, with_apart, with_closed, with_refused};
+ghost use Rattle.cml_script.specs.Apart.{by_lane, by_feed};
+ghost use Rattle.cml_script.specs.Working.{Made, MayCall, with_call, with_feed, with_apart, with_closed, with_refused};
 
 use super::rings::{Rings, Subscription};
 use cml_board::{Answer, BoardLog, Call, Name, Refusal, Text};

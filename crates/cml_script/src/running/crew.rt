@@ -1,6 +1,6 @@
 //! The threads of a script.
 ghost use Rattle.std.specs.Prelude.{◌≡◌, ◌≢◌, ◌+◌, ◌<◌, ◌≤◌, true, length, vec_len, vec_capacity, IfOk};
-ghost use Rattle.cml_script.specs.Prelude.{IsUnheld};
+ghost use Rattle.cml_script.specs.Working.{IsUnheld};
 
 use super::caller::Seated;
 use super::declaring::declare;
