@@ -14,15 +14,15 @@ use Rattle.clap.specs.declared.error.Error.{Error}
 use Rattle.clap.proofs.FaultLemmas.{stopped_fault}
 use Rattle.clap.proofs.OnLiterals.{clap_on_literals}
 use Rattle.clap.proofs.WalkLemmas.{walk_stopped}
-use Rattle.cml_shell.specs.Prelude.{error_status}
-use Rattle.cml.specs.Prelude.{AsksFor, AsksHelp, HasOrder, Reads, asked_of, faults_of, limit_of, usage, AreUses, FindsBoth, FindsFlag, Flag}
-use Rattle.cml.specs.Prelude.{form_if, IsLimitOption, Limit, ReadsAs, Use, given_by, state_by, Order}
+use Rattle.cml_shell.specs.{error_status}
+use Rattle.cml.specs.{AsksFor, AsksHelp, HasOrder, Reads, asked_of, faults_of, limit_of, usage, AreUses, FindsBoth, FindsFlag, Flag}
+use Rattle.cml.specs.{form_if, IsLimitOption, Limit, ReadsAs, Use, given_by, state_by, Order}
 use Rattle.cml.specs.declared.asked.Order.TheVariants.{Replay, Run, Check}
 use Rattle.cml.proofs.CommandWordsLemmas.{Found, IsBare, IsOrOther, Uses, a_flag, a_value, dashes, flagged, help, help_alone}
 use Rattle.cml.proofs.CommandWordsLemmas.{holding, limit_parser, limited, long_help, neither, none_of_both, same_or_other}
 use Rattle.cml.proofs.CommandWordsLemmas.{some_kind, turn_of, uses_of}
 use Rattle.clap.specs.Lexer.{long_of, short_of}
-use Rattle.cml_script.specs.Prelude.{Form}
+use Rattle.cml_script.specs.{Form}
 use Rattle.cml_script.specs.declared.form.Form.TheVariants.{Report, Journal}
 use Rattle.clap.proofs.KindLemmas.{value_kinds-ok}
 

@@ -4,19 +4,19 @@ use Rattle.std.proofs.Common.{reverse, Option, Some, None, Ok, refl, sym, ap, �
 use Rattle.std.proofs.lemmas.List.{append-nil, take_all, take_at, take-append-drop}
 use Rattle.std.proofs.KnownBytes.{Consumes-nil, Consumes-trans}
 use Rattle.std.specs.Io.KnownBytes.{Appends, Consumes, IsAtEnd}
-use Rattle.cml_journal.specs.Prelude.{Stop, line_of, State, Read, Progress, IsSoFar, Goes, StopsIn, ShowsUnlawful, IsLawfulJournal}
-use Rattle.cml_journal.specs.Prelude.{IsRestored, number_of, bytes_text, message_of_word}
+use Rattle.cml_journal.specs.{Stop, line_of, State, Read, Progress, IsSoFar, Goes, StopsIn, ShowsUnlawful, IsLawfulJournal, IsRestored}
+use Rattle.cml_journal.specs.{number_of, bytes_text, message_of_word}
 use Rattle.cml_journal.specs.declared.stop.Stop.TheVariants as stop
-use Rattle.cml_board.specs.Prelude.{Entry, Expected, expected_of, RestoredShown}
+use Rattle.cml_board.specs.{Entry, Expected, expected_of, RestoredShown}
 use Rattle.std.specs.Fmt.{decimal}
 use Rattle.std.specs.Global.{Global}
 use Rattle.std.specs.Prelude.{String, string_bytes}
 use Rattle.cml.specs.declared.check.ending.Ending.{Ending}
 use Rattle.cml.specs.declared.check.ending.Ending.TheVariants.{Lawful as lawful, Unlawful, Fault, Torn, BehindCut, ReadFault}
 use Rattle.cml.specs.declared.check.ending.Ending.TheVariants.{WriteFault, NoMemory}
-use Rattle.cml.specs.Prelude.{Writes, answer_text, lines_for, object_line, object_lines, state_lines, told_state, IsSilent, IsRead, IsFront}
-use Rattle.cml.specs.Prelude.{GivesCut, EndsInFront, is_behind_cut, IsVerdict, TellsAs, ConcludesAs, ConcludesBy, is_of_bytes, Tells}
-use Rattle.cml.specs.Prelude.{EndsAs, EndsIn, IsEarly, IsHeardOut, IsStateOf, IsToldLawful, IsToldUnlawful, Concludes}
+use Rattle.cml.specs.{Writes, answer_text, lines_for, object_line, object_lines, state_lines, told_state, IsSilent, IsRead, IsFront}
+use Rattle.cml.specs.{GivesCut, EndsInFront, is_behind_cut, IsVerdict, TellsAs, ConcludesAs, ConcludesBy, is_of_bytes, Tells, EndsAs}
+use Rattle.cml.specs.{EndsIn, IsEarly, IsHeardOut, IsStateOf, IsToldLawful, IsToldUnlawful, Concludes}
 
 -- a front that is all
 short_front : (front : List ℕ) → length front ≤ 15 → front ≡ take 15 (front ++ [])

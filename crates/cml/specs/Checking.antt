@@ -2,9 +2,9 @@
 use Rattle.std.specs.Prelude.{◌≡◌, ◌⊎◌, ℕ, ◌<◌, ◌≤◌, Bool, true, false, ◌||◌, nat_eq, codes, string_bytes, List, ◌++◌, take}
 use Rattle.std.specs.Prelude.{length, reverse, String, Option, Some, None, Result, Ok, Err, ⊤}
 use Rattle.std.specs.Io.KnownBytes.{Consumes, IsAtEnd}
-use Rattle.cml_board.specs.Prelude.{Entry, Lawful, Expected, expected_of}
-use Rattle.cml_journal.specs.Prelude.{Stop, State, waiting_at, end_of, reading, Progress, IsSoFar, IsUnlawfulJournal, IsFaultyJournal}
-use Rattle.cml_journal.specs.Prelude.{IsLawfulJournal, number_of, bytes_text, message_of_word, line_of}
+use Rattle.cml_board.specs.{Entry, Lawful, Expected, expected_of}
+use Rattle.cml_journal.specs.{Stop, State, waiting_at, end_of, reading, Progress, IsSoFar, IsUnlawfulJournal, IsFaultyJournal}
+use Rattle.cml_journal.specs.{IsLawfulJournal, number_of, bytes_text, message_of_word, line_of}
 use Rattle.cml_journal.specs.declared.stop.Stop.TheVariants as stop
 use Rattle.std.specs.List.{starts_with}
 use Rattle.std.specs.Fmt.{decimal}

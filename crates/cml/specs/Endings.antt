@@ -1,7 +1,7 @@
 -- The exit status of an ending, and whether standard error shows it.
 use Rattle.std.specs.Prelude.{ℕ, Bool, true, false}
 use Rattle.cml_script.specs.Endings as script
-use Rattle.cml_script.specs.Prelude.{Ending as ScriptEnding}
+use Rattle.cml_script.specs.{Ending as ScriptEnding}
 use Rattle.cml_script.specs.declared.ending.Ending.TheVariants as ended
 use Rattle.cml.specs.declared.check.ending.Ending.{Ending as CheckEnding}
 use Rattle.cml.specs.declared.check.ending.Ending.TheVariants.{Lawful, Unlawful, Fault, Torn, BehindCut, ReadFault, WriteFault, NoMemory}

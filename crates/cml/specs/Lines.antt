@@ -2,13 +2,13 @@
 use Rattle.std.specs.Prelude.{ℕ, zero, suc, Bool, true, false, List, [], ◌∷◌, ◌++◌, codes, string_bytes, unwrap_or, Option, Some, None, ⊤}
 use Rattle.std.specs.Fmt.{decimal}
 use Rattle.std.specs.Io.KnownBytes.{Appends}
-use Rattle.cml_calls.specs.Prelude.{Kind}
+use Rattle.cml_calls.specs.{Kind}
 use Rattle.cml_calls.specs.declared.kind.Kind.TheVariants as kind
-use Rattle.cml_board.specs.Prelude.{Entry, Expected, sent_count, got_count, owed_count, start_of, first_of, kept_count, held_by, entries_in}
-use Rattle.cml_board.specs.Prelude.{kind_of}
+use Rattle.cml_board.specs.{Entry, Expected, sent_count, got_count, owed_count, start_of, first_of, kept_count, held_by, entries_in}
+use Rattle.cml_board.specs.{kind_of}
 use Rattle.cml_board.specs.declared.outcome.Refusal.TheVariants.{NoSuch}
 use Rattle.cml_board.specs.declared.expected.Expected.TheVariants as expected
-use Rattle.cml_journal.specs.Prelude.{reply_text}
+use Rattle.cml_journal.specs.{reply_text}
 use Rattle.cml.specs.declared.check.ending.Ending.{Ending}
 use Rattle.cml.specs.declared.check.ending.Ending.TheVariants.{Lawful, Unlawful, WriteFault}
 

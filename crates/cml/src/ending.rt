@@ -1,6 +1,6 @@
 //! How the program ends.
 ghost use Rattle.std.specs.Prelude.{◌≡◌};
-ghost use Rattle.cml.specs.Prelude.{is_script_shown};
+ghost use Rattle.cml.specs.{is_script_shown};
 
 use crate::check;
 use cml_script::status_of;

@@ -3,7 +3,8 @@ use Rattle.std.proofs.Common.{◌≡◌, ◌≢◌, inl, inr, ℕ, List, [], ◌
 use Rattle.std.specs.Option.{option_map}
 use Rattle.std.proofs.lemmas.Bool.{cases_eq}
 use Rattle.std.proofs.lemmas.Option.{none-some, slice_get_within}
-use Rattle.cml_board.specs.Prelude.{Object, Reading, Facts, map_log, key_in, cursor_in, on_log, AgreesReading, Agrees}
+use Rattle.cml_board.specs.{Object, Reading, map_log, key_in, cursor_in, on_log, AgreesReading, Agrees}
+use Rattle.cml_board.specs.Facts.{Facts}
 use Rattle.cml_board.specs.declared.object.Object.TheVariants.{Mailbox, Channel, Port, Variable}
 use Rattle.cml_board.specs.declared.object.Reading.TheVariants.{Open, Closed}
 use Rattle.cml_board.proofs.ListLemmas.{pushed_cases}

@@ -2,9 +2,9 @@
 use Rattle.std.proofs.Common.{◌≡◌, ◌≢◌, true, false, Bool, List, [], ◌∷◌, slice_get, Option, Some, None, IsTrue, IsSome, IfSome, refl, ◌∙◌}
 use Rattle.std.specs.Option.{option_map_or}
 use Rattle.std.proofs.lemmas.Bool.{false≢true}
-use Rattle.cml_board.specs.Prelude.{Name, Call, Entry, given_call, asked_call, adds, takes_next, asks_port, object_in, takes, Fits, kind_of}
-use Rattle.cml_board.specs.Prelude.{is_open, owed, answer, new_name, is_a}
-use Rattle.cml_calls.specs.Prelude.{Kind, Ask, Give, is_receiver}
+use Rattle.cml_board.specs.{Name, Call, Entry, given_call, asked_call, adds, takes_next, asks_port, object_in, takes, Fits, kind_of}
+use Rattle.cml_board.specs.{is_open, owed, answer, new_name, is_a}
+use Rattle.cml_calls.specs.{Kind, Ask, Give, is_receiver}
 use Rattle.cml_board.specs.declared.call.Call.TheVariants.{CopyPort, ClosePort, Recv, Poll}
 use Rattle.cml_board.specs.declared.entry.Reply.TheVariants.{Done, Got, Nothing, Closed}
 use Rattle.cml_calls.specs.declared.table.Ask.TheVariants as ask

@@ -1,8 +1,7 @@
 -- What the calls that make an object tell of it.
 use Rattle.std.proofs.Common.{◌≡◌, ℕ, ◌+◌, cond, List, length, Some, None, unwrap_or, refl, sym, ap, ◌∙◌}
 use Rattle.std.proofs.lemmas.Bool.{eq-eqb, ne_eqb}
-use Rattle.cml_board.specs.Prelude.{Name, Entry, Form, mailbox, channel, port, mvar, copy_of, variable_call, made, origin_of, sent, got}
-use Rattle.cml_board.specs.Prelude.{begun_as}
+use Rattle.cml_board.specs.{Name, Entry, Form, mailbox, channel, port, mvar, copy_of, variable_call, made, origin_of, sent, got, begun_as}
 use Rattle.cml_board.specs.declared.call.Call.TheVariants.{NewMailbox, NewChannel, NewPort, CopyPort, MVarInit}
 use Rattle.cml_board.specs.declared.object.Form.TheVariants.{Once, Mutable}
 use Rattle.cml_board.proofs.UnmadeLemmas.{none_at}

@@ -4,10 +4,13 @@ use Rattle.std.proofs.Common.{sym, ap, subst, ◌∙◌, arith}
 use Rattle.std.proofs.lemmas.Bool.{cases_eq}
 use Rattle.std.proofs.lemmas.List.{length_push}
 use Rattle.std.proofs.lemmas.Option.{none-some, same_Some}
-use Rattle.cml_log.specs.Prelude.{Log, IsOpen, place_at, place_of, Holds}
+use Rattle.cml_log.specs.Log.{Log}
+use Rattle.cml_log.specs.{IsOpen, place_at, place_of}
+use Rattle.cml_log.specs.Holds.{Holds}
 use Rattle.cml_log.proofs.LogLemmas.{place_of-at, IsOpen-at, place_at-with_place_same, place_at-with_place_other}
 use Rattle.cml_log.proofs.HoldsLemmas.{Holds-close}
-use Rattle.cml_board.specs.Prelude.{Object, Facts, place_by, log_at, cursor_at, advanced, shut, Agrees}
+use Rattle.cml_board.specs.{Object, place_by, log_at, cursor_at, advanced, shut, Agrees}
+use Rattle.cml_board.specs.Facts.{Facts}
 use Rattle.cml_board.specs.Keeps.{Shows}
 use Rattle.cml_board.proofs.LogsLemmas.{same_source, same_key, log_at_past, cursor_at_past}
 

@@ -1,8 +1,8 @@
 -- A journal from elsewhere that came in one piece.
 use Rattle.std.proofs.Common.{◌≡◌, ◌+◌, ℕ, List, [], slice_get, Some, sym, subst, arith}
 use Rattle.std.proofs.lemmas.List.{append-nil}
-use Rattle.cml_board.specs.Prelude.{Entry, Expected, Lawful, entries_in, before, IsLawfulNext, IsFirstUnlawful, StopsAt, IsExpected}
-use Rattle.cml_board.specs.Prelude.{Expects, followed_by}
+use Rattle.cml_board.specs.{Entry, Expected, Lawful, entries_in, before, IsLawfulNext, IsFirstUnlawful, StopsAt, IsExpected, Expects}
+use Rattle.cml_board.specs.{followed_by}
 
 module _ {M : Type 0} where
   followed_from_nothing : (journal : List (Entry M)) (k : ℕ) → followed_by [] journal k ≡ before journal k

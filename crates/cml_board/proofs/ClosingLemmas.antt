@@ -4,10 +4,10 @@ use Rattle.std.proofs.Common.{IsSome, IfSome, refl, sym, ap, ◌∙◌}
 use Rattle.std.specs.Option.{option_map}
 use Rattle.std.proofs.lemmas.Option.{none-some, same_Some}
 use Rattle.std.proofs.lemmas.Bool.{eqb-true, false≢true, true≢false}
-use Rattle.cml_calls.specs.Prelude.{Kind, is_port}
+use Rattle.cml_calls.specs.{Kind, is_port}
 use Rattle.cml_calls.specs.declared.kind.Kind.TheVariants as kind
-use Rattle.cml_board.specs.Prelude.{Call, Reply, Entry, Origin, kind_by, Lawful, Fits, made, begun_by, if_made, origin_of, kind_of, is_open}
-use Rattle.cml_board.specs.Prelude.{closes, is_done}
+use Rattle.cml_board.specs.{Call, Reply, Entry, Origin, kind_by, Lawful, Fits, made, begun_by, if_made, origin_of, kind_of, is_open, closes}
+use Rattle.cml_board.specs.{is_done}
 use Rattle.cml_board.specs.declared.call.Call.TheVariants.{ClosePort}
 use Rattle.cml_board.proofs.ListLemmas.{slice_get-append_some}
 

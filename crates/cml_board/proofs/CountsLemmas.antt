@@ -2,12 +2,14 @@
 use Rattle.std.proofs.Common.{◌≡◌, ℕ, ◌-◌, ◌≤◌, true, length, Some, refl, sym, ap, subst, ◌∙◌, arith}
 use Rattle.std.specs.Option.{option_map, option_and_then}
 use Rattle.std.proofs.lemmas.Option.{same_Some}
-use Rattle.cml_log.specs.Prelude.{Log, IsOpen, place_of}
-use Rattle.cml_board.specs.Prelude.{Object, Port as port_data, start_by, got, place, origin_of, is_a, got_count, map_log, log_in, log_at}
-use Rattle.cml_board.specs.Prelude.{key_in, cursor_in, Shown, ReadsAt, Stands}
+use Rattle.cml_log.specs.Log.{Log}
+use Rattle.cml_log.specs.{IsOpen, place_of}
+use Rattle.cml_board.specs.{Object, Port as port_data, start_by, got, place, origin_of, is_a, got_count, map_log, log_in, log_at, key_in}
+use Rattle.cml_board.specs.{cursor_in, ReadsAt, Stands}
+use Rattle.cml_board.specs.Shown.{Shown}
 use Rattle.cml_board.specs.declared.object.Object.TheVariants.{Mailbox, Port}
 use Rattle.cml_board.specs.declared.object.Reading.TheVariants.{Open}
-use Rattle.cml_calls.specs.Prelude.{is_receiver}
+use Rattle.cml_calls.specs.{is_receiver}
 
 module _ {M : Type 0} where
   -- a cursor is open in whatever log it reads

@@ -3,7 +3,7 @@ use Rattle.std.proofs.Common.{◌≡◌, ℕ, ◌≤◌, inl, inr, List, [], ◌
 use Rattle.std.proofs.lemmas.Grind.{reverse_onto}
 use Rattle.std.proofs.lemmas.List.{reverse-reverse, take-append-le, take_at}
 use Rattle.std.proofs.lemmas.Option.{slice_get_within, none-some}
-use Rattle.cml_board.specs.Prelude.{Entry, Lawful, Fits, answer, before, IsLawfulAt, IsLawfulEverywhere}
+use Rattle.cml_board.specs.{Entry, Lawful, Fits, answer, before, IsLawfulAt, IsLawfulEverywhere}
 use Rattle.cml_board.proofs.ListLemmas.{pushed_cases, slice_get-append_some, slice_get_pushed}
 
 module _ {M : Type 0} where

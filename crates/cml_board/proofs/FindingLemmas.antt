@@ -4,8 +4,10 @@ use Rattle.std.proofs.Common.{sym, ap, ◌∙◌, arith}
 use Rattle.std.specs.Borrow.{Bor}
 use Rattle.std.proofs.lemmas.List.{length-map}
 use Rattle.std.proofs.lemmas.Option.{slice_get_past}
-use Rattle.cml_log.specs.Prelude.{Log}
-use Rattle.cml_board.specs.Prelude.{Entry, Object, origin_of, made, map_log, seen_all, Shown, Keeps, shown, Stands}
+use Rattle.cml_log.specs.Log.{Log}
+use Rattle.cml_board.specs.{Entry, Object, origin_of, made, map_log, seen_all, shown, Stands}
+use Rattle.cml_board.specs.Shown.{Shown}
+use Rattle.cml_board.specs.Keeps.{Keeps}
 use Rattle.cml_board.proofs.PlacingLemmas.{seen_read}
 use Rattle.cml_board.proofs.LookingLemmas.{stands_at}
 

@@ -3,10 +3,12 @@ use Rattle.std.proofs.Common.{◌≡◌, ◌≢◌, ℕ, true, false, List, slic
 use Rattle.std.proofs.Common.{IsSome, IfSome, refl, sym, ap, subst, ◌∙◌}
 use Rattle.std.specs.Option.{option_map, option_map_or, option_and_then}
 use Rattle.std.proofs.lemmas.Bool.{false≢true}
-use Rattle.cml_log.specs.Prelude.{Log}
-use Rattle.cml_board.specs.Prelude.{Name, Entry, Form, Object, kind_by, asked_call, variable_call, reads_variable, held, Fits, kind_of}
-use Rattle.cml_board.specs.Prelude.{answer, new_name, is_a, facts_of, held_in, HasVariable, SetsHeld, Shown, KeepsVariables, Agrees, Keeps}
-use Rattle.cml_calls.specs.Prelude.{Kind, Ask, is_variable, is_mvar, asked}
+use Rattle.cml_log.specs.Log.{Log}
+use Rattle.cml_board.specs.{Name, Entry, Form, Object, kind_by, asked_call, variable_call, reads_variable, held, Fits, kind_of, answer}
+use Rattle.cml_board.specs.{new_name, is_a, facts_of, held_in, HasVariable, SetsHeld, KeepsVariables, Agrees}
+use Rattle.cml_board.specs.Shown.{Shown}
+use Rattle.cml_board.specs.Keeps.{Keeps}
+use Rattle.cml_calls.specs.{Kind, Ask, is_variable, is_mvar, asked}
 use Rattle.cml_calls.specs.declared.kind.Kind.TheVariants as kind
 use Rattle.cml_board.specs.declared.call.Call.TheVariants as call
 use Rattle.cml_calls.specs.declared.table.Ask.TheVariants as ask

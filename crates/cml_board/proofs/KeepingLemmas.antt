@@ -4,11 +4,15 @@ use Rattle.std.proofs.Common.{Option, Some, None, refl, sym, ap, ◌∙◌, arit
 use Rattle.std.specs.Option.{option_map}
 use Rattle.std.proofs.lemmas.Bool.{cases_eq, cases_Bool, false≢true, eq-eqb, eqb-true, and_parts, and_from, cond-true, cond-false}
 use Rattle.std.proofs.lemmas.Option.{none-some, same_Some, some_pair_parts, option_and_then_some, slice_get_within}
-use Rattle.cml_log.specs.Prelude.{Log, least}
+use Rattle.cml_log.specs.Log.{Log}
+use Rattle.cml_log.specs.{least}
 use Rattle.cml_log.proofs.LeastLemmas.{least-le_end, least-le_place, least-ge}
-use Rattle.cml_board.specs.Prelude.{Entry, Object, Reading, Origin, mailbox, port, made, origin_of, is_open, sent, place, Facts, facts_of}
-use Rattle.cml_board.specs.Prelude.{key_in, cursor_in, log_at, cursor_at, Shown, KeepsLogs, Agrees, AgreesReading, Keeps, reads_by, reads}
-use Rattle.cml_board.specs.Prelude.{least_of, least_place, kept_from}
+use Rattle.cml_board.specs.{Entry, Object, Reading, Origin, mailbox, port, made, origin_of, is_open, sent, place, facts_of, key_in}
+use Rattle.cml_board.specs.{cursor_in, log_at, cursor_at, KeepsLogs, Agrees, AgreesReading, reads_by, reads, least_of, least_place}
+use Rattle.cml_board.specs.{kept_from}
+use Rattle.cml_board.specs.Facts.{Facts}
+use Rattle.cml_board.specs.Shown.{Shown}
+use Rattle.cml_board.specs.Keeps.{Keeps}
 use Rattle.cml_board.specs.declared.object.Object.TheVariants.{Mailbox, Channel, Port, Variable}
 use Rattle.cml_board.specs.declared.object.Reading.TheVariants.{Open, Closed}
 use Rattle.cml_board.specs.Keeps.{Shows}

@@ -3,10 +3,10 @@ use Rattle.std.proofs.Common.{◌≡◌, ◌≢◌, ℕ, true, false, cond, List
 use Rattle.std.proofs.Common.{None, unwrap_or, refl, sym, ap, ◌∙◌}
 use Rattle.std.proofs.lemmas.Bool.{eq-eqb, ne_eqb, false≢true}
 use Rattle.std.proofs.lemmas.List.{append-nil}
-use Rattle.cml_board.specs.Prelude.{Name, Call, Who, Reply, Entry, Origin, asked_call, reads_variable, empties, only_at, left_by, held}
-use Rattle.cml_board.specs.Prelude.{made, if_made, begun_by, origin_of, sent_by, got_by, closes, facts_of}
+use Rattle.cml_board.specs.{Name, Call, Who, Reply, Entry, Origin, asked_call, reads_variable, empties, only_at, left_by, held, made}
+use Rattle.cml_board.specs.{if_made, begun_by, origin_of, sent_by, got_by, closes, facts_of}
 use Rattle.cml_board.specs.declared.call.Call.TheVariants as call
-use Rattle.cml_calls.specs.Prelude.{Ask}
+use Rattle.cml_calls.specs.{Ask}
 use Rattle.cml_calls.specs.declared.table.Ask.TheVariants as ask
 use Rattle.cml_board.specs.declared.entry.Reply.TheVariants.{Done, Got, Nothing, Put}
 use Rattle.cml_board.proofs.UnmadeLemmas.{facts_equal, none_at}

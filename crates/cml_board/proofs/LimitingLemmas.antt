@@ -1,7 +1,9 @@
 -- A board whose journal was cut keeps all that it keeps under another limit.
 use Rattle.std.proofs.Common.{◌≡◌, ℕ, ◌+◌, ◌≤◌, ◌^◌, ap, arith}
 use Rattle.std.proofs.Math.Nat.{min-le_right, le-min}
-use Rattle.cml_board.specs.Prelude.{entries_in, Shown, Keeps}
+use Rattle.cml_board.specs.{entries_in}
+use Rattle.cml_board.specs.Shown.{Shown}
+use Rattle.cml_board.specs.Keeps.{Keeps}
 
 module _ {M : Type 0} where
   abbrev pub with_limit : Shown M → ℕ → Shown M

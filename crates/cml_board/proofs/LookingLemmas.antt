@@ -4,13 +4,17 @@ use Rattle.std.proofs.Common.{Some, None, refl, sym, ap, subst, ◌∙◌, arith
 use Rattle.std.specs.Option.{option_map, option_map_or, option_and_then}
 use Rattle.std.proofs.lemmas.List.{drop-drop}
 use Rattle.std.proofs.lemmas.Option.{none-some, some_pair_parts, slice_get_past, same_Some}
-use Rattle.cml_log.specs.Prelude.{Log, next_of, owed_items}
-use Rattle.cml_board.specs.Prelude.{Entry, Object, Reading, kind_by, source_by, start_by, entries_in, made, origin_of, sent, got, owed}
-use Rattle.cml_board.specs.Prelude.{Facts, facts_of, key_in, log_in, cursor_in, log_at, cursor_at, HasLog, HasRoomAt, HasOwed, Shown}
-use Rattle.cml_board.specs.Prelude.{Agrees, AgreesReading, Keeps, ReadsAt, Stands, HasRoom}
+use Rattle.cml_log.specs.Log.{Log}
+use Rattle.cml_log.specs.{next_of, owed_items}
+use Rattle.cml_board.specs.{Entry, Object, Reading, kind_by, source_by, start_by, entries_in, made, origin_of, sent, got, owed, facts_of}
+use Rattle.cml_board.specs.{key_in, log_in, cursor_in, log_at, cursor_at, HasLog, HasRoomAt, HasOwed, Agrees, AgreesReading, ReadsAt}
+use Rattle.cml_board.specs.{Stands, HasRoom}
+use Rattle.cml_board.specs.Facts.{Facts}
+use Rattle.cml_board.specs.Shown.{Shown}
+use Rattle.cml_board.specs.Keeps.{Keeps}
 use Rattle.cml_board.specs.declared.object.Object.TheVariants.{Mailbox, Channel, Port, Variable}
 use Rattle.cml_board.specs.declared.object.Reading.TheVariants.{Open, Closed}
-use Rattle.cml_calls.specs.Prelude.{is_receiver}
+use Rattle.cml_calls.specs.{is_receiver}
 use Rattle.cml_board.specs.Keeps.{Shows}
 use Rattle.cml_board.proofs.StandingLemmas.{next_is, cursor_is, owed_is}
 use Rattle.cml_board.proofs.KeepingLemmas.{first_is_told}

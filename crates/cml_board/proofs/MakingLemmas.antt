@@ -1,12 +1,14 @@
 -- Calls that make an object.
 use Rattle.std.proofs.Common.{◌≡◌, ℕ, List, ◌∷◌, Some, refl}
-use Rattle.cml_log.specs.Prelude.{Log}
-use Rattle.cml_board.specs.Prelude.{Name, Making, Who, Object, making_call, Fits, answer, new_name, Shown, Keeps, CanMake, HasSource}
-use Rattle.cml_board.specs.Prelude.{AddsMade}
+use Rattle.cml_log.specs.Log.{Log}
+use Rattle.cml_board.specs.{Name, Who, Object, making_call, Fits, answer, new_name, CanMake, HasSource, AddsMade}
+use Rattle.cml_board.specs.declared.board.note.Making.{Making}
+use Rattle.cml_board.specs.Shown.{Shown}
+use Rattle.cml_board.specs.Keeps.{Keeps}
 use Rattle.cml_board.specs.declared.call.Call.TheVariants.{NewPort, CopyPort}
 use Rattle.cml_board.specs.declared.board.note.Making.TheVariants as making
 use Rattle.cml_board.specs.declared.entry.Reply.TheVariants.{Made}
-use Rattle.cml_calls.specs.Prelude.{is_channel, is_port}
+use Rattle.cml_calls.specs.{is_channel, is_port}
 use Rattle.cml_board.proofs.AnsweringLemmas.{fits_by, answer_copied}
 use Rattle.cml_board.proofs.HoldingLemmas.{fits_making, answer_making}
 use Rattle.cml_board.proofs.SourcesLemmas.{channel_stands, port_origin}

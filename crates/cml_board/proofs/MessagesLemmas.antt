@@ -2,10 +2,13 @@
 use Rattle.std.proofs.Common.{◌≡◌, ℕ, ◌<◌, List, ◌++◌, length, drop, Option, Some, None, refl, ap, ◌∙◌}
 use Rattle.std.specs.Option.{option_map}
 use Rattle.std.proofs.lemmas.Option.{none-some, slice_get_within}
-use Rattle.cml_log.specs.Prelude.{owed_items}
+use Rattle.cml_log.specs.{owed_items}
 use Rattle.cml_calls.specs.declared.kind.Kind.TheVariants as kind
-use Rattle.cml_board.specs.Prelude.{Entry, Origin, mailbox, channel, port, ivar, mvar, kind_by, source_by, start_by, made, origin_of, sent}
-use Rattle.cml_board.specs.Prelude.{got, due, Facts, facts_of, cursor_at, Shown, Reads, KeepsMailboxes, KeepsPorts, KeepsClosed, Keeps}
+use Rattle.cml_board.specs.{Entry, Origin, mailbox, channel, port, ivar, mvar, kind_by, source_by, start_by, made, origin_of, sent, got}
+use Rattle.cml_board.specs.{due, facts_of, cursor_at, Reads, KeepsMailboxes, KeepsPorts, KeepsClosed}
+use Rattle.cml_board.specs.Facts.{Facts}
+use Rattle.cml_board.specs.Shown.{Shown}
+use Rattle.cml_board.specs.Keeps.{Keeps}
 use Rattle.cml_board.proofs.StandingLemmas.{cursor_of_mailbox, cursor_of_port, kept_is}
 use Rattle.cml_board.proofs.ReceivedLemmas.{got_begins_due, got_append_owed}
 use Rattle.cml_board.proofs.LookingLemmas.{owed_told}

@@ -5,9 +5,11 @@ use Rattle.std.proofs.lemmas.Bool.{false≢true}
 use Rattle.std.proofs.lemmas.List.{reverse-append}
 use Rattle.std.proofs.lemmas.Option.{none-some}
 use Rattle.std.specs.declared.alloc.AllocError.{AllocError}
-use Rattle.cml_log.specs.Prelude.{Log}
-use Rattle.cml_board.specs.Prelude.{Call, Who, Reply, Entry, Object, Lawful, Fits, made, answer, new_name, facts_of, Shown, Keeps, HasRoom}
-use Rattle.cml_board.specs.Prelude.{Performs, AddsEntry, IsAsBefore, IsSpared}
+use Rattle.cml_log.specs.Log.{Log}
+use Rattle.cml_board.specs.{Call, Who, Reply, Entry, Object, Lawful, Fits, made, answer, new_name, facts_of, HasRoom, Performs, AddsEntry}
+use Rattle.cml_board.specs.{IsAsBefore, IsSpared}
+use Rattle.cml_board.specs.Shown.{Shown}
+use Rattle.cml_board.specs.Keeps.{Keeps}
 use Rattle.cml_board.specs.declared.entry.Reply.TheVariants.{Made}
 use Rattle.cml_board.specs.Keeps.{Shows}
 

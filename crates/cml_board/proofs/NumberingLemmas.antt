@@ -1,8 +1,9 @@
 -- The makers of a history with one entry more.
 use Rattle.std.proofs.Common.{◌≡◌, ◌≤◌, ◌+◌, ℕ, List, [], ◌∷◌, length, arith, ap, ◌∙◌}
 use Rattle.std.specs.Prelude.{max}
-use Rattle.cml_board.specs.Prelude.{Entry, Who, Makers, ring_by, rings_in, AreMakers, capped, behind_seat, behind_lane, behind_feed}
-use Rattle.cml_board.specs.Prelude.{seats_of, lanes_of, feeds_of}
+use Rattle.cml_board.specs.{Entry, Who, ring_by, rings_in, AreMakers, capped, behind_seat, behind_lane, behind_feed, seats_of, lanes_of}
+use Rattle.cml_board.specs.{feeds_of}
+use Rattle.cml_board.specs.declared.restored.Makers.{Makers}
 use Rattle.cml_board.specs.declared.entry.Who.TheVariants.{Seat, Lane, Feed}
 
 capped_max : (one two : ℕ) → max (capped one) (capped two) ≡ capped (max one two)

@@ -1,10 +1,11 @@
 -- A call is taken apart and put together again, and what is said of its parts is said of it.
 use Rattle.std.proofs.Common.{◌≡◌, refl, subst}
-use Rattle.cml_calls.specs.Prelude.{Make, Give, Ask}
+use Rattle.cml_calls.specs.{Make, Give, Ask}
 use Rattle.cml_calls.specs.declared.table.Make.TheVariants as make
 use Rattle.cml_calls.specs.declared.table.Give.TheVariants as give
 use Rattle.cml_calls.specs.declared.table.Ask.TheVariants as ask
-use Rattle.cml_board.specs.Prelude.{Name, Call, Parts, parts_of, made_call, given_call, asked_call, call_of}
+use Rattle.cml_board.specs.{Name, Call, parts_of, made_call, given_call, asked_call, call_of}
+use Rattle.cml_board.specs.declared.parts.Parts.{Parts}
 use Rattle.cml_board.specs.declared.call.Call.TheVariants as call
 use Rattle.cml_board.specs.declared.parts.Parts.TheVariants as parts
 

@@ -3,8 +3,8 @@ use Rattle.std.proofs.Common.{◌≡◌, ℕ, zero, suc, ◌+◌, ◌-◌, ◌�
 use Rattle.std.proofs.Common.{Some, refl, sym, ap, subst, ◌∙◌, arith}
 use Rattle.std.proofs.lemmas.Bool.{cases_lt}
 use Rattle.std.proofs.lemmas.List.{length-append, length-drop}
-use Rattle.cml_board.specs.Prelude.{Call, Reply, Entry, Origin, mailbox, channel, port, ivar, mvar, source_by, start_by, copy_of, Lawful}
-use Rattle.cml_board.specs.Prelude.{made, if_made, begun_by, origin_of, sent, sent_by, got, due}
+use Rattle.cml_board.specs.{Call, Reply, Entry, Origin, mailbox, channel, port, ivar, mvar, source_by, start_by, copy_of, Lawful, made}
+use Rattle.cml_board.specs.{if_made, begun_by, origin_of, sent, sent_by, got, due}
 use Rattle.cml_board.specs.declared.call.Call.TheVariants.{NewMailbox, NewChannel, NewPort, CopyPort, NewIVar, NewMVar, MVarInit}
 use Rattle.cml_board.specs.declared.entry.Reply.TheVariants.{Made}
 use Rattle.cml_board.proofs.ReceivedLemmas.{slice_get-append_within, got_begins_due}

@@ -4,9 +4,10 @@ use Rattle.std.proofs.Common.{Option, Some, sym, ap, ◌∙◌, arith}
 use Rattle.std.specs.Option.{option_and_then}
 use Rattle.std.proofs.lemmas.List.{length-map, map-append, map-set}
 use Rattle.std.proofs.lemmas.Option.{same_Some, none-some, slice_get_within}
-use Rattle.cml_log.specs.Prelude.{Log, place_of}
-use Rattle.cml_board.specs.Prelude.{Object, Name, map_log, seen_all, log_in, held_in, with_held, log_at, on_log, shut, HasLog, HasVariable}
-use Rattle.cml_board.specs.Prelude.{OpensIn, OpensAt, AddsPort, ClosesPort, SetsHeld, open_port, closed_port}
+use Rattle.cml_log.specs.Log.{Log}
+use Rattle.cml_log.specs.{place_of}
+use Rattle.cml_board.specs.{Object, Name, map_log, seen_all, log_in, held_in, with_held, log_at, on_log, shut, HasLog, HasVariable, OpensIn}
+use Rattle.cml_board.specs.{OpensAt, AddsPort, ClosesPort, SetsHeld, open_port, closed_port}
 use Rattle.cml_board.specs.declared.object.Object.TheVariants.{Mailbox, Channel, Port, Variable}
 use Rattle.cml_board.specs.declared.object.Reading.TheVariants.{Open, Closed}
 

@@ -4,8 +4,8 @@ use Rattle.std.proofs.Common.{slice_get, Option, Some, None, unwrap_or, refl, sy
 use Rattle.std.proofs.lemmas.Bool.{eqb-true, cases_lt}
 use Rattle.std.proofs.lemmas.List.{append-nil, append_assoc, drop_at}
 use Rattle.std.proofs.lemmas.Option.{same_Some, none-some}
-use Rattle.cml_board.specs.Prelude.{Call, Reply, Entry, source_by, start_by, Lawful, answer, made, if_made, begun_by, origin_of, is_open}
-use Rattle.cml_board.specs.Prelude.{sent, sent_by, got, got_by, message_in, due, owed, received, where_open}
+use Rattle.cml_board.specs.{Call, Reply, Entry, source_by, start_by, Lawful, answer, made, if_made, begun_by, origin_of, is_open, sent}
+use Rattle.cml_board.specs.{sent_by, got, got_by, message_in, due, owed, received, where_open}
 use Rattle.cml_board.specs.declared.call.Call.TheVariants.{Send, Cast, Recv, Poll}
 use Rattle.cml_board.specs.declared.entry.Reply.TheVariants.{Got, Nothing, Closed}
 use Rattle.cml_board.proofs.UnmadeLemmas.{untold, unmade_got}

@@ -5,10 +5,9 @@ use Rattle.std.specs.Option.{option_map, option_map_or}
 use Rattle.std.proofs.lemmas.Bool.{cases_lt, cases_Bool, eq-eqb, and_parts, and_from, cond-true, cond-false, false≢true}
 use Rattle.std.proofs.lemmas.List.{append_assoc, drop_at, drop-drop, drop-append-le}
 use Rattle.std.proofs.lemmas.Option.{slice_get_past}
-use Rattle.cml_board.specs.Prelude.{Entry, Origin, mailbox, port, kind_by, source_by, start_by, Lawful, made, origin_of, is_open, sent, got}
-use Rattle.cml_board.specs.Prelude.{owed, reads_by, kept_from, is_a, base_of, stood_at, stream_start, stream_since, origin_since, due_since}
-use Rattle.cml_board.specs.Prelude.{owed_since}
-use Rattle.cml_calls.specs.Prelude.{is_receiver}
+use Rattle.cml_board.specs.{Entry, Origin, mailbox, port, kind_by, source_by, start_by, Lawful, made, origin_of, is_open, sent, got, owed}
+use Rattle.cml_board.specs.{reads_by, kept_from, is_a, base_of, stood_at, stream_start, stream_since, origin_since, due_since, owed_since}
+use Rattle.cml_calls.specs.{is_receiver}
 use Rattle.cml_board.proofs.ReceivedLemmas.{got_append_owed}
 use Rattle.cml_board.proofs.SplittingLemmas.{lawful_past, sent_split, got_split, length-got_split, open_split, origin_split, got_none}
 use Rattle.cml_board.proofs.ResumingLemmas.{stood_told, origin_told}

@@ -3,9 +3,9 @@ use Rattle.std.proofs.Common.{◌≡◌, ℕ, Bool, true, false, cond, List, ◌
 use Rattle.std.proofs.Common.{IsTrue, IsSome, IfSome, refl, ap, ◌∙◌}
 use Rattle.std.specs.Option.{option_map_or}
 use Rattle.std.proofs.lemmas.Bool.{false≢true}
-use Rattle.cml_board.specs.Prelude.{Name, Call, Reply, Entry, Lawful, Fits, answer, kind_of, is_open, owed, received, given, new_name}
-use Rattle.cml_board.specs.Prelude.{where_open, base_of, name_since, where_open_since, owed_since, answer_since, next_base}
-use Rattle.cml_calls.specs.Prelude.{Kind, is_receiver}
+use Rattle.cml_board.specs.{Name, Call, Reply, Entry, Lawful, Fits, answer, kind_of, is_open, owed, received, given, new_name, where_open}
+use Rattle.cml_board.specs.{base_of, name_since, where_open_since, owed_since, answer_since, next_base}
+use Rattle.cml_calls.specs.{Kind, is_receiver}
 use Rattle.cml_board.specs.declared.call.Call.TheVariants.{NewMailbox, NewChannel, NewPort, CopyPort, ClosePort, NewIVar, NewMVar, MVarInit}
 use Rattle.cml_board.specs.declared.call.Call.TheVariants.{Send, Cast, Recv, Poll, Put, Get, GetPoll, Take, TakePoll, Swap}
 use Rattle.cml_board.specs.declared.entry.Reply.TheVariants.{Done, Made, Nothing, Closed}

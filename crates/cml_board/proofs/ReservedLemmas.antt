@@ -1,7 +1,8 @@
 -- What was reserved lasts over a run of calls.
 use Rattle.std.proofs.Common.{◌≡◌, ℕ, ◌+◌, ◌<◌, ◌≤◌, ◌||◌, Bool, true, false, not, List, [], ◌∷◌, ap, arith}
-use Rattle.cml_board.specs.Prelude.{Call, Who, Outcome, Shown, makes_object, fills_chunk, shares, Applies, Refuses, Step, Runs, answered_by}
-use Rattle.cml_board.specs.Prelude.{answered_count}
+use Rattle.cml_board.specs.{Call, Who, makes_object, fills_chunk, shares, Applies, Refuses, Step, Runs, answered_by, answered_count}
+use Rattle.cml_board.specs.declared.outcome.Outcome.{Outcome}
+use Rattle.cml_board.specs.Shown.{Shown}
 use Rattle.cml_board.specs.declared.outcome.Refusal.TheVariants.{NoMemory}
 use Rattle.cml_board.specs.declared.outcome.Outcome.TheVariants.{Answered, WouldWait, Refused}
 

@@ -3,9 +3,9 @@ use Rattle.std.proofs.Common.{◌≡◌, ℕ, zero, suc, ◌+◌, ◌<◌, inl, 
 use Rattle.std.proofs.Common.{Some, is_some, unwrap_or, refl, sym, ap, ◌∙◌, arith}
 use Rattle.std.proofs.lemmas.Bool.{cases_lt, cond-true, cond-false}
 use Rattle.std.proofs.lemmas.Option.{slice_get_past}
-use Rattle.cml_board.specs.Prelude.{Call, Entry, Origin, port, start_by, copy_of, left_by, held, Lawful, made, if_made, begun_by, origin_of}
-use Rattle.cml_board.specs.Prelude.{is_open, sent, got, place, base_of, copy_at, count_since, held_since, stood_at, place_from, begun_since}
-use Rattle.cml_board.specs.Prelude.{made_since, origin_since, place_since, open_since}
+use Rattle.cml_board.specs.{Call, Entry, Origin, port, start_by, copy_of, left_by, held, Lawful, made, if_made, begun_by, origin_of}
+use Rattle.cml_board.specs.{is_open, sent, got, place, base_of, copy_at, count_since, held_since, stood_at, place_from, begun_since}
+use Rattle.cml_board.specs.{made_since, origin_since, place_since, open_since}
 use Rattle.cml_board.specs.declared.call.Call.TheVariants.{NewPort, CopyPort}
 use Rattle.cml_board.proofs.UnmadeLemmas.{unmade_got}
 use Rattle.cml_board.proofs.SplittingLemmas.{lawful_past, length-sent_split, length-got_split, open_split, origin_split}

@@ -5,9 +5,11 @@ use Rattle.std.specs.Option.{option_and_then}
 use Rattle.std.proofs.lemmas.Bool.{cases_eq}
 use Rattle.std.proofs.lemmas.List.{length_push, length-set}
 use Rattle.std.proofs.lemmas.Option.{none-some, same_Some}
-use Rattle.cml_log.specs.Prelude.{Log, Holds}
-use Rattle.cml_board.specs.Prelude.{Name, Call, Who, Reply, Entry, Form, Object, variable_call, Lawful, made, left_by, Facts, facts_of}
-use Rattle.cml_board.specs.Prelude.{new_facts, place_by, log_in, cursor_in, log_at, cursor_at, SetsHeld, Agrees, begun_as}
+use Rattle.cml_log.specs.Log.{Log}
+use Rattle.cml_log.specs.Holds.{Holds}
+use Rattle.cml_board.specs.{Name, Call, Who, Reply, Entry, Form, Object, variable_call, Lawful, made, left_by, facts_of, new_facts}
+use Rattle.cml_board.specs.{place_by, log_in, cursor_in, log_at, cursor_at, SetsHeld, Agrees, begun_as}
+use Rattle.cml_board.specs.Facts.{Facts}
 use Rattle.cml_board.specs.declared.call.Call.TheVariants.{MVarInit}
 use Rattle.cml_board.specs.declared.entry.Reply.TheVariants.{Made}
 use Rattle.cml_board.specs.declared.object.Form.TheVariants.{Mutable}

@@ -5,11 +5,14 @@ use Rattle.std.specs.Option.{option_and_then}
 use Rattle.std.proofs.lemmas.Bool.{cases_eq}
 use Rattle.std.proofs.lemmas.List.{length_push, length-set}
 use Rattle.std.proofs.lemmas.Option.{none-some, same_Some}
-use Rattle.cml_log.specs.Prelude.{Log, empty_log, place_at, place_of, Opens, Holds}
+use Rattle.cml_log.specs.Log.{Log}
+use Rattle.cml_log.specs.{empty_log, place_at, place_of, Opens}
+use Rattle.cml_log.specs.Holds.{Holds}
 use Rattle.cml_log.proofs.LogLemmas.{place_at-with_place_other}
 use Rattle.cml_log.proofs.HoldsLemmas.{Holds-empty, Holds-push, Holds-advance, Holds-open_cursor}
-use Rattle.cml_board.specs.Prelude.{Object, mailbox, channel, port, Facts, place_by, new_facts, log_in, cursor_in, log_at, cursor_at}
-use Rattle.cml_board.specs.Prelude.{on_log, pushed, advanced, shut, HasLog, HasOwed, OpensAt, Agrees}
+use Rattle.cml_board.specs.{Object, mailbox, channel, port, place_by, new_facts, log_in, cursor_in, log_at, cursor_at, on_log, pushed}
+use Rattle.cml_board.specs.{advanced, shut, HasLog, HasOwed, OpensAt, Agrees}
+use Rattle.cml_board.specs.Facts.{Facts}
 use Rattle.cml_board.specs.declared.object.Object.TheVariants.{Mailbox, Channel, Port}
 use Rattle.cml_board.specs.declared.object.Reading.TheVariants.{Open, Closed}
 use Rattle.cml_board.specs.Keeps.{Shows}

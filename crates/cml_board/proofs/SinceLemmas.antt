@@ -4,11 +4,13 @@ use Rattle.std.specs.Option.{option_map, option_map_or}
 use Rattle.std.proofs.lemmas.Bool.{cases_lt}
 use Rattle.std.proofs.lemmas.List.{append_assoc, drop_at}
 use Rattle.std.proofs.lemmas.Option.{slice_get_past}
-use Rattle.cml_log.specs.Prelude.{owed_items}
-use Rattle.cml_board.specs.Prelude.{Entry, Origin, mailbox, port, kind_by, source_by, start_by, Lawful, made, kind_of, origin_of, is_open}
-use Rattle.cml_board.specs.Prelude.{sent, got, due, owed, place, reads, reads_by, kept_from, is_a, base_of, open_since, reads_since, Shown}
-use Rattle.cml_board.specs.Prelude.{MailboxesSince, PortsSince, ClosedSince, LogSince, KeepsSince, Keeps}
-use Rattle.cml_calls.specs.Prelude.{is_source, is_receiver}
+use Rattle.cml_log.specs.{owed_items}
+use Rattle.cml_board.specs.{Entry, Origin, mailbox, port, kind_by, source_by, start_by, Lawful, made, kind_of, origin_of, is_open, sent}
+use Rattle.cml_board.specs.{got, due, owed, place, reads, reads_by, kept_from, is_a, base_of, open_since, reads_since, MailboxesSince}
+use Rattle.cml_board.specs.{PortsSince, ClosedSince, LogSince, KeepsSince}
+use Rattle.cml_board.specs.Shown.{Shown}
+use Rattle.cml_board.specs.Keeps.{Keeps}
+use Rattle.cml_calls.specs.{is_source, is_receiver}
 use Rattle.cml_board.proofs.KeepingLemmas.{keeps_logs}
 use Rattle.cml_board.proofs.MessagesLemmas.{is_mailbox, keeps_mailboxes, keeps_ports}
 use Rattle.cml_board.proofs.ReceivedLemmas.{got_append_owed}

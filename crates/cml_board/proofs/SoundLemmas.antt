@@ -1,6 +1,8 @@
 -- What a board keeps says all that always holds of it.
 use Rattle.std.specs.Prelude.{ℕ}
-use Rattle.cml_board.specs.Prelude.{Shown, IsSound, Keeps}
+use Rattle.cml_board.specs.Shown.{Shown}
+use Rattle.cml_board.specs.{IsSound}
+use Rattle.cml_board.specs.Keeps.{Keeps}
 use Rattle.cml_board.proofs.MessagesLemmas.{keeps_mailboxes, keeps_ports, keeps_closed}
 use Rattle.cml_board.proofs.HoldingLemmas.{keeps_variables}
 use Rattle.cml_board.proofs.KeepingLemmas.{keeps_logs}

@@ -3,9 +3,11 @@ use Rattle.std.proofs.Common.{◌≡◌, ℕ, true, false, length, slice_get, Op
 use Rattle.std.specs.Option.{option_map, option_map_or}
 use Rattle.std.proofs.lemmas.Option.{slice_get_within, some_pair_parts}
 use Rattle.std.proofs.lemmas.Bool.{false≢true}
-use Rattle.cml_board.specs.Prelude.{Name, Origin, mailbox, channel, port, kind_by, takes, given_call, Fits, made, origin_of, is_open, is_a}
-use Rattle.cml_board.specs.Prelude.{adds, facts_of, HasLog, cursor_at, open_port, Shown, Keeps}
-use Rattle.cml_calls.specs.Prelude.{Kind, Give, is_channel, is_port, is_source}
+use Rattle.cml_board.specs.{Name, Origin, mailbox, channel, port, kind_by, takes, given_call, Fits, made, origin_of, is_open, is_a, adds}
+use Rattle.cml_board.specs.{facts_of, HasLog, cursor_at, open_port}
+use Rattle.cml_board.specs.Shown.{Shown}
+use Rattle.cml_board.specs.Keeps.{Keeps}
+use Rattle.cml_calls.specs.{Kind, Give, is_channel, is_port, is_source}
 use Rattle.cml_calls.specs.declared.kind.Kind.TheVariants as kind
 use Rattle.cml_calls.specs.declared.table.Give.TheVariants as give
 use Rattle.cml_board.proofs.StandingLemmas.{source_stands_mailbox, source_stands_channel, cursor_of_port}

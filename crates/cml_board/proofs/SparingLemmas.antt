@@ -1,11 +1,14 @@
 -- Where want of memory refuses a call, the call needed more than what was reserved.
 use Rattle.std.proofs.Common.{◌≡◌, ℕ, ◌-◌, ◌<◌, ◌%◌, ◌||◌, Bool, true, false, not, List, length, Some, refl, sym, ap, ◌∙◌, arith}
 use Rattle.std.proofs.lemmas.Bool.{false≢true, true≢false, eq-eqb}
-use Rattle.cml_log.specs.Prelude.{Log, next_of}
-use Rattle.cml_board.specs.Prelude.{Call, Name, Entry, given_call, adds, answer, made, sent, facts_of, log_at, HasLog, Shown, Keeps}
-use Rattle.cml_board.specs.Prelude.{IsSpared, tells_name, tells_message, has_message, fills_chunk, ends_chunk, shares}
+use Rattle.cml_log.specs.Log.{Log}
+use Rattle.cml_log.specs.{next_of}
+use Rattle.cml_board.specs.{Call, Name, Entry, given_call, adds, answer, made, sent, facts_of, log_at, HasLog, IsSpared, tells_name}
+use Rattle.cml_board.specs.{tells_message, has_message, fills_chunk, ends_chunk, shares}
+use Rattle.cml_board.specs.Shown.{Shown}
+use Rattle.cml_board.specs.Keeps.{Keeps}
 use Rattle.cml_board.specs.declared.entry.Reply.TheVariants.{Made, Got}
-use Rattle.cml_calls.specs.Prelude.{Give}
+use Rattle.cml_calls.specs.{Give}
 use Rattle.cml_calls.specs.declared.table.Give.TheVariants as give
 use Rattle.cml_board.proofs.StandingLemmas.{next_is}
 

@@ -5,8 +5,8 @@ use Rattle.std.proofs.Math.Bool.{and_assoc}
 use Rattle.std.proofs.lemmas.Bool.{eqb-true, and_left}
 use Rattle.std.proofs.lemmas.List.{append-nil, append_assoc, length-append}
 use Rattle.std.proofs.lemmas.Option.{same_Some}
-use Rattle.cml_board.specs.Prelude.{Call, Reply, Entry, Lawful, answer, entries_in, rings_in, made, if_made, begun_by, origin_of, is_open}
-use Rattle.cml_board.specs.Prelude.{closes, sent, sent_by, got, got_by, message_in, owed, received}
+use Rattle.cml_board.specs.{Call, Reply, Entry, Lawful, answer, entries_in, rings_in, made, if_made, begun_by, origin_of, is_open, closes}
+use Rattle.cml_board.specs.{sent, sent_by, got, got_by, message_in, owed, received}
 use Rattle.cml_board.specs.declared.call.Call.TheVariants.{Recv, Poll}
 use Rattle.cml_board.specs.declared.entry.Reply.TheVariants.{Nothing, Closed}
 use Rattle.cml_board.proofs.ReceivedLemmas.{slice_get-append_within}

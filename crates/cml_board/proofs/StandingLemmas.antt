@@ -3,11 +3,13 @@ use Rattle.std.proofs.Common.{◌≡◌, ◌≢◌, ℕ, zero, suc, ◌<◌, ◌
 use Rattle.std.proofs.Common.{Some, refl, sym, ap, subst, ◌∙◌, arith}
 use Rattle.std.specs.Option.{option_and_then}
 use Rattle.std.proofs.lemmas.Bool.{false≢true}
-use Rattle.cml_log.specs.Prelude.{Log, next_of, IsOpen, place_of, owed_items}
+use Rattle.cml_log.specs.Log.{Log}
+use Rattle.cml_log.specs.{next_of, IsOpen, place_of, owed_items}
 use Rattle.cml_log.proofs.LogLemmas.{place_of-at, IsOpen-at}
 use Rattle.cml_log.proofs.HoldsLemmas.{Holds-next, Holds-owed, Holds-first_le_place}
-use Rattle.cml_board.specs.Prelude.{Object, Reading, Origin, mailbox, channel, port, Facts, place_by, log_in, cursor_in, log_at, cursor_at}
-use Rattle.cml_board.specs.Prelude.{HasLog, HasCursor, HasOwed, Agrees, AgreesReading}
+use Rattle.cml_board.specs.{Object, Reading, Origin, mailbox, channel, port, place_by, log_in, cursor_in, log_at, cursor_at, HasLog}
+use Rattle.cml_board.specs.{HasCursor, HasOwed, Agrees, AgreesReading}
+use Rattle.cml_board.specs.Facts.{Facts}
 use Rattle.cml_board.specs.declared.object.Object.TheVariants.{Mailbox, Channel, Port, Variable}
 use Rattle.cml_board.specs.declared.object.Form.TheVariants.{Once, Mutable}
 use Rattle.cml_board.specs.declared.object.Reading.TheVariants.{Open, Closed}

@@ -1,13 +1,16 @@
 -- The objects that a call leaves show the history with its entry.
 use Rattle.std.proofs.Common.{true, ◌≡◌, ℕ, ◌+◌, ◌-◌, List, [], ◌∷◌, ◌++◌, length, slice_get, Some, None, refl, sym, ap, subst, ◌∙◌, arith}
 use Rattle.std.specs.Option.{option_and_then}
-use Rattle.cml_log.specs.Prelude.{Log, empty_log, next_of, place_of, Holds}
+use Rattle.cml_log.specs.Log.{Log}
+use Rattle.cml_log.specs.{empty_log, next_of, place_of}
+use Rattle.cml_log.specs.Holds.{Holds}
 use Rattle.cml_log.proofs.HoldsLemmas.{Holds-open_cursor, Holds-copy_cursor}
-use Rattle.cml_board.specs.Prelude.{Name, Who, Entry, Object, mailbox, channel, port, start_by, given_call, asked_call, adds, takes_next}
-use Rattle.cml_board.specs.Prelude.{asks_port, Lawful, made, origin_of, sent, got, Facts, facts_of, new_facts, log_at, cursor_in, cursor_at}
-use Rattle.cml_board.specs.Prelude.{on_log, pushed, advanced, open_port, HasLog, HasOwed, HasPort, AddsMailbox, AddsPort, ClosesPort}
+use Rattle.cml_board.specs.{Name, Who, Entry, Object, mailbox, channel, port, start_by, given_call, asked_call, adds, takes_next, asks_port}
+use Rattle.cml_board.specs.{Lawful, made, origin_of, sent, got, facts_of, new_facts, log_at, cursor_in, cursor_at, on_log, pushed, advanced}
+use Rattle.cml_board.specs.{open_port, HasLog, HasOwed, HasPort, AddsMailbox, AddsPort, ClosesPort}
+use Rattle.cml_board.specs.Facts.{Facts}
 use Rattle.cml_board.specs.declared.call.Call.TheVariants.{NewMailbox, NewChannel, NewPort, CopyPort, ClosePort, Poll}
-use Rattle.cml_calls.specs.Prelude.{Ask, Give}
+use Rattle.cml_calls.specs.{Ask, Give}
 use Rattle.cml_board.specs.declared.entry.Reply.TheVariants.{Done, Made, Got, Nothing, Closed}
 use Rattle.cml_board.specs.declared.object.Object.TheVariants.{Channel}
 use Rattle.cml_board.specs.Keeps.{Shows}

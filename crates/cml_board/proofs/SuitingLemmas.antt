@@ -4,7 +4,7 @@ use Rattle.std.proofs.Common.{sym, ap, ◌∙◌, zero, suc, subst}
 use Rattle.std.specs.Prelude.{unwrap_or, is_some}
 use Rattle.std.specs.Option.{option_map}
 use Rattle.std.proofs.lemmas.Option.{same_Some, none-some}
-use Rattle.cml_board.specs.Prelude.{Call, Entry, Reply, Lawful, answer, is_open, owed, held, row_of, may_have}
+use Rattle.cml_board.specs.{Call, Entry, Reply, Lawful, answer, is_open, owed, held, row_of, may_have}
 use Rattle.cml_board.specs.declared.call.Call.TheVariants as call
 use Rattle.cml_board.specs.declared.entry.Reply.TheVariants as reply
 

@@ -3,11 +3,10 @@ use Rattle.std.proofs.Common.{◌≡◌, ◌≢◌, ℕ, ◌+◌, Bool, true, fa
 use Rattle.std.proofs.Common.{Option, None, unwrap_or, refl, sym, ap, ◌∙◌, arith}
 use Rattle.std.proofs.lemmas.Bool.{false≢true, eq-eqb, ne_eqb}
 use Rattle.std.proofs.lemmas.List.{append-nil, length_push}
-use Rattle.cml_board.specs.Prelude.{Name, Call, Who, Reply, Entry, Origin, given_call, asked_call, adds, takes_next, asks_port, left_by}
-use Rattle.cml_board.specs.Prelude.{held, Lawful, made, begun_by, origin_of, sent, sent_by, got, got_by, is_open, closes, facts_of}
-use Rattle.cml_board.specs.Prelude.{new_facts}
+use Rattle.cml_board.specs.{Name, Call, Who, Reply, Entry, Origin, given_call, asked_call, adds, takes_next, asks_port, left_by, held}
+use Rattle.cml_board.specs.{Lawful, made, begun_by, origin_of, sent, sent_by, got, got_by, is_open, closes, facts_of, new_facts}
 use Rattle.cml_board.specs.declared.call.Call.TheVariants.{ClosePort, Poll}
-use Rattle.cml_calls.specs.Prelude.{Ask, Give}
+use Rattle.cml_calls.specs.{Ask, Give}
 use Rattle.cml_calls.specs.declared.table.Ask.TheVariants as ask
 use Rattle.cml_calls.specs.declared.table.Give.TheVariants as give
 use Rattle.cml_board.specs.declared.entry.Reply.TheVariants.{Done, Made, Got, Nothing, Closed}

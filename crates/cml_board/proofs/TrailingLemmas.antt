@@ -5,10 +5,10 @@ use Rattle.std.proofs.Math.Nat.{mul-div-le, mul-le-mul_left}
 use Rattle.std.proofs.lemmas.Nat.{le-div}
 use Rattle.std.proofs.lemmas.Bool.{cases_lt, eqb-true, and_parts, and_from, false≢true}
 use Rattle.std.proofs.lemmas.List.{length-drop, drop-drop, drop-append-le}
-use Rattle.cml_board.specs.Prelude.{Name, Call, Reply, Entry, Origin, mailbox, channel, port, ivar, mvar, start_by, copy_of, Lawful, answer}
-use Rattle.cml_board.specs.Prelude.{new_name, made, if_made, begun_by, origin_of, is_open, sent, got, place, reads_by, reads, least_of}
-use Rattle.cml_board.specs.Prelude.{least_place, kept_from, base_of, reads_since, least_since, kept_since, place_since, open_since}
-use Rattle.cml_board.specs.Prelude.{stream_start, stream_since, messages_since}
+use Rattle.cml_board.specs.{Name, Call, Reply, Entry, Origin, mailbox, channel, port, ivar, mvar, start_by, copy_of, Lawful, answer}
+use Rattle.cml_board.specs.{new_name, made, if_made, begun_by, origin_of, is_open, sent, got, place, reads_by, reads, least_of, least_place}
+use Rattle.cml_board.specs.{kept_from, base_of, reads_since, least_since, kept_since, place_since, open_since, stream_start, stream_since}
+use Rattle.cml_board.specs.{messages_since}
 use Rattle.cml_board.specs.declared.call.Call.TheVariants.{NewMailbox, NewChannel, NewPort, CopyPort, NewIVar, NewMVar, MVarInit}
 use Rattle.cml_board.specs.declared.entry.Reply.TheVariants.{Made, Closed}
 use Rattle.cml_board.proofs.UnmadeLemmas.{unmade_sent}

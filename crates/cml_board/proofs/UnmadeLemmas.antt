@@ -5,9 +5,9 @@ use Rattle.std.proofs.lemmas.Bool.{false≢true, ne_eqb}
 use Rattle.std.proofs.lemmas.List.{length-append, length_push}
 use Rattle.std.proofs.lemmas.Option.{slice_get_past, same_Some}
 use Rattle.std.specs.Option.{option_map}
-use Rattle.cml_board.specs.Prelude.{Name, Call, Reply, Entry, kind_by, mvar, only_at, left_by, held, Lawful, IsMade, made, if_made}
-use Rattle.cml_board.specs.Prelude.{begun_by, answer, kind_of, sent, sent_by, got, got_by, message_in, is_open, is_done, closes, Facts}
-use Rattle.cml_board.specs.Prelude.{facts_of}
+use Rattle.cml_board.specs.{Name, Call, Reply, Entry, kind_by, mvar, only_at, left_by, held, Lawful, IsMade, made, if_made, begun_by}
+use Rattle.cml_board.specs.{answer, kind_of, sent, sent_by, got, got_by, message_in, is_open, is_done, closes, facts_of}
+use Rattle.cml_board.specs.Facts.{Facts}
 use Rattle.cml_board.specs.declared.call.Call.TheVariants.{ClosePort, MVarInit, Send, Cast, Recv, Poll, Put, Take, TakePoll, Swap}
 use Rattle.cml_board.specs.declared.entry.Reply.TheVariants.{Done, Made, Got}
 

@@ -1,7 +1,7 @@
 -- How many objects and messages a history can have: each entry makes one object or sends one message, and not both.
 use Rattle.std.proofs.Common.{ℕ, ◌+◌, ◌≤◌, List, [], ◌∷◌, length, slice_get, Option, Some, arith}
 use Rattle.std.proofs.lemmas.List.{length-append}
-use Rattle.cml_board.specs.Prelude.{Call, Reply, Entry, Origin, port, copy_of, made, if_made, begun_by, sent, sent_by, got, entries_in}
+use Rattle.cml_board.specs.{Call, Reply, Entry, Origin, port, copy_of, made, if_made, begun_by, sent, sent_by, got, entries_in}
 use Rattle.cml_board.specs.declared.call.Call.TheVariants.{NewMailbox, NewChannel, NewPort, CopyPort, NewIVar, NewMVar}
 use Rattle.cml_board.specs.declared.call.Call.TheVariants.{MVarInit, Send, Cast}
 use Rattle.cml_board.specs.declared.entry.Reply.TheVariants.{Made}

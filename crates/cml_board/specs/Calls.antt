@@ -6,7 +6,7 @@ use Rattle.cml_board.specs.declared.object.Form.{Form}
 use Rattle.cml_board.specs.declared.object.Form.TheVariants.{Once, Mutable}
 use Rattle.cml_board.specs.declared.board.note.Making.{Making}
 use Rattle.cml_board.specs.declared.board.note.Making.TheVariants as making
-use Rattle.cml_calls.specs.Prelude.{Give, Ask}
+use Rattle.cml_calls.specs.{Give, Ask}
 use Rattle.cml_calls.specs.declared.table.Give.TheVariants as give
 use Rattle.cml_calls.specs.declared.table.Ask.TheVariants as ask
 

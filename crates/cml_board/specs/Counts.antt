@@ -2,7 +2,7 @@
 use Rattle.std.specs.Prelude.{ℕ, Bool, false, ◌&&◌, List, length, Option, Some, None, if◌then◌else◌}
 use Rattle.std.specs.Option.{option_map_or}
 use Rattle.cml_board.specs.declared.call.Name.{Name}
-use Rattle.cml_calls.specs.Prelude.{Kind, is_source, is_receiver, is_port, is_variable}
+use Rattle.cml_calls.specs.{Kind, is_source, is_receiver, is_port, is_variable}
 use Rattle.cml_board.specs.declared.entry.Entry.{Entry}
 use Rattle.cml_board.specs.Origins.{Origin, port}
 use Rattle.cml_board.specs.Held.{held}

@@ -2,7 +2,8 @@
 use Rattle.std.specs.Prelude.{ℕ, zero, suc, ◌≡◌, ◌+◌, ◌-◌, ◌<◌, ◌≤◌, List, [], ◌∷◌, ◌++◌, length, map, slice_get}
 use Rattle.std.specs.Prelude.{slice_set, Option, Some, None}
 use Rattle.std.specs.Option.{option_map, option_and_then}
-use Rattle.cml_log.specs.Prelude.{Log, empty_log, next_of, IsOpen, place_of, owed_items, trimmed, with_item, with_place, Opens}
+use Rattle.cml_log.specs.Log.{Log}
+use Rattle.cml_log.specs.{empty_log, next_of, IsOpen, place_of, owed_items, trimmed, with_item, with_place, Opens}
 use Rattle.cml_board.specs.declared.object.Object.{Object}
 use Rattle.cml_board.specs.declared.object.Object.TheVariants.{Mailbox, Channel, Port, Variable}
 use Rattle.cml_board.specs.declared.object.Form.{Form}

@@ -1,6 +1,8 @@
 -- What a board always keeps.
 use Rattle.std.specs.Prelude.{ℕ, ◌≡◌, ◌<◌, ◌≤◌, ◌^◌, true, false, List, ◌++◌, length, reverse, slice_get, Some}
-use Rattle.cml_log.specs.Prelude.{Log, place_at, Holds}
+use Rattle.cml_log.specs.Log.{Log}
+use Rattle.cml_log.specs.{place_at}
+use Rattle.cml_log.specs.Holds.{Holds}
 use Rattle.cml_board.specs.declared.entry.Entry.{Entry}
 use Rattle.cml_board.specs.declared.object.Object.{Object}
 use Rattle.cml_board.specs.declared.object.Object.TheVariants.{Mailbox, Channel, Port, Variable}

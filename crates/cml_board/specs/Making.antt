@@ -1,11 +1,12 @@
 -- What a call that makes an object needs of a board, and what it adds.
 use Rattle.std.specs.Prelude.{◌≡◌, true, List, [], ◌∷◌, ◌++◌, None, ⊤}
-use Rattle.cml_log.specs.Prelude.{Log, empty_log, next_of, place_of}
+use Rattle.cml_log.specs.Log.{Log}
+use Rattle.cml_log.specs.{empty_log, next_of, place_of}
 use Rattle.cml_board.specs.declared.board.note.Making.{Making}
 use Rattle.cml_board.specs.declared.board.note.Making.TheVariants as making
 use Rattle.cml_board.specs.declared.object.Object.{Object}
 use Rattle.cml_board.specs.declared.object.Object.TheVariants.{Channel, Variable}
-use Rattle.cml_calls.specs.Prelude.{is_channel, is_port}
+use Rattle.cml_calls.specs.{is_channel, is_port}
 use Rattle.cml_board.specs.Counts.{is_a}
 use Rattle.cml_board.specs.Holdings.{HasLog, HasCursor, AddsMailbox, AddsPort}
 use Rattle.cml_board.specs.Shown.{Shown}

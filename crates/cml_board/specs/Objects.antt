@@ -1,6 +1,6 @@
 -- Which object a call is made on, and which calls an object takes.
 use Rattle.std.specs.Prelude.{Bool, Option, Some, None}
-use Rattle.cml_calls.specs.Prelude.{Kind, admits, Row, made, filled, given, asked}
+use Rattle.cml_calls.specs.{Kind, admits, Row, made, filled, given, asked}
 use Rattle.cml_board.specs.declared.call.Name.{Name}
 use Rattle.cml_board.specs.declared.call.Call.{Call}
 use Rattle.cml_board.specs.declared.parts.Parts.{Parts}

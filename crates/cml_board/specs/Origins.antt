@@ -1,6 +1,6 @@
 -- How objects begin.
 use Rattle.std.specs.Prelude.{ℕ, ◌+◌, List, [], ◌∷◌, Option, Some}
-use Rattle.cml_calls.specs.Prelude.{Kind}
+use Rattle.cml_calls.specs.{Kind}
 use Rattle.cml_calls.specs.declared.kind.Kind.TheVariants as kind
 
 -- a port receives what is multicast on a channel, from a place on

@@ -1,5 +1,5 @@
 -- A call taken apart, and put together again.
-use Rattle.cml_calls.specs.Prelude.{Make, Give, Ask}
+use Rattle.cml_calls.specs.{Make, Give, Ask}
 use Rattle.cml_calls.specs.declared.table.Make.TheVariants as make
 use Rattle.cml_calls.specs.declared.table.Give.TheVariants as give
 use Rattle.cml_calls.specs.declared.table.Ask.TheVariants as ask

@@ -1,7 +1,7 @@
 -- Which replies a call may have.
 use Rattle.std.specs.Prelude.{Bool, true, false}
 use Rattle.std.specs.List.{list_any}
-use Rattle.cml_calls.specs.Prelude.{ReplyKind, Row}
+use Rattle.cml_calls.specs.{ReplyKind, Row}
 use Rattle.cml_calls.specs.declared.shape.ReplyKind.TheVariants as kind
 use Rattle.cml_board.specs.declared.entry.Reply.{Reply}
 use Rattle.cml_board.specs.declared.entry.Reply.TheVariants.{Done, Made, Got, Nothing, Put, Closed}

@@ -1,11 +1,12 @@
 -- What a board shows of itself, and what always holds of it.
 use Rattle.std.specs.Prelude.{ℕ, ◌≡◌, ◌+◌, ◌≤◌, min, true, false, List, ◌++◌, drop, Some}
-use Rattle.cml_log.specs.Prelude.{Log, next_of, place_at, owed_items}
+use Rattle.cml_log.specs.Log.{Log}
+use Rattle.cml_log.specs.{next_of, place_at, owed_items}
 use Rattle.cml_calls.specs.declared.kind.Kind.TheVariants.{Mailbox}
 use Rattle.cml_board.specs.declared.entry.Entry.{Entry}
 use Rattle.cml_board.specs.declared.object.Object.{Object}
 use Rattle.cml_board.specs.Origins.{port}
-use Rattle.cml_calls.specs.Prelude.{is_source, is_variable}
+use Rattle.cml_calls.specs.{is_source, is_variable}
 use Rattle.cml_board.specs.Held.{held}
 use Rattle.cml_board.specs.History.{entries_in, kind_of, origin_of, is_open, sent, got, due, place}
 use Rattle.cml_board.specs.Kept.{reads, kept_from}

@@ -1,10 +1,11 @@
 -- What a board shows since its journal was last cut, in the words of its history. The base says what was cut away.
 use Rattle.std.specs.Prelude.{ℕ, ◌≡◌, true, false, List, ◌++◌, Some}
-use Rattle.cml_log.specs.Prelude.{Log, place_at, owed_items}
+use Rattle.cml_log.specs.Log.{Log}
+use Rattle.cml_log.specs.{place_at, owed_items}
 use Rattle.cml_calls.specs.declared.kind.Kind.TheVariants.{Mailbox}
 use Rattle.cml_board.specs.declared.entry.Entry.{Entry}
 use Rattle.cml_board.specs.Origins.{port}
-use Rattle.cml_calls.specs.Prelude.{is_source}
+use Rattle.cml_calls.specs.{is_source}
 use Rattle.cml_board.specs.History.{kind_of, origin_of, is_open, sent, got, owed}
 use Rattle.cml_board.specs.Counts.{is_a}
 use Rattle.cml_board.specs.Base.{base_of, due_since, reads_since, place_since, kept_since, messages_since}

@@ -1,8 +1,9 @@
 -- What a look at a board finds.
 use Rattle.std.specs.Prelude.{ℕ, ◌≡◌, ◌≤◌, true, length, slice_get, Some}
-use Rattle.cml_log.specs.Prelude.{Log, next_of, place_of, owed_items}
+use Rattle.cml_log.specs.Log.{Log}
+use Rattle.cml_log.specs.{next_of, place_of, owed_items}
 use Rattle.cml_board.specs.declared.object.Object.{Object}
-use Rattle.cml_calls.specs.Prelude.{is_receiver}
+use Rattle.cml_calls.specs.{is_receiver}
 use Rattle.cml_board.specs.History.{sent, owed, place, is_open}
 use Rattle.cml_board.specs.Kept.{kept_from}
 use Rattle.cml_board.specs.Counts.{is_a}

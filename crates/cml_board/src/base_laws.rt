@@ -3,10 +3,10 @@
 //! give what is owed to each open receiver, and what is due to it since the cut. They give the answer of each call that
 //! fits, and the next base.
 ghost use Rattle.std.specs.Prelude.{◌≡◌, ℕ, List, [], ◌++◌, length, drop, true, false};
-ghost use Rattle.cml_board.specs.Prelude.{Entry, Call, source_by, held, Lawful, Fits, made, origin_of, sent, got, owed, place, is_open};
-ghost use Rattle.cml_board.specs.Prelude.{answer, kept_from, is_a, base_of, made_since, count_since, place_since, open_since, held_since};
-ghost use Rattle.cml_board.specs.Prelude.{kept_since, messages_since, due_since, owed_since, answer_since, next_base};
-ghost use Rattle.cml_calls.specs.Prelude.{is_receiver};
+ghost use Rattle.cml_board.specs.{Entry, Call, source_by, held, Lawful, Fits, made, origin_of, sent, got, owed, place, is_open, answer};
+ghost use Rattle.cml_board.specs.{kept_from, is_a, base_of, made_since, count_since, place_since, open_since, held_since, kept_since};
+ghost use Rattle.cml_board.specs.{messages_since, due_since, owed_since, answer_since, next_base};
+ghost use Rattle.cml_calls.specs.{is_receiver};
 
 /// Shows that a base and the entries since give the same facts about each object as the whole history. These are how it
 /// began, how many messages were sent to it, its place, whether it is open, and what it holds.

@@ -1,10 +1,9 @@
 ghost use Rattle.std.specs.Prelude.{◌≡◌, List, ◌^◌, ◌<◌, ◌≤◌, ◌↔◌, ◌&&◌, false, [], ◌++◌, length, reverse, Some, None, option_map};
 ghost use Rattle.std.specs.Prelude.{option_copied, IfOk, OnOk, OnErr, IsTrue, MatchOption, MatchBool};
-ghost use Rattle.cml_board.specs.Prelude.{Entry, no_entries, entries_in, Lawful, origin_of, kind_of, is_open, is_a, sent_count, got_count};
-ghost use Rattle.cml_board.specs.Prelude.{owed_count, channel_of, start_of, first_of, kept_count, port_is_open, held_by, map_log, log_at};
-ghost use Rattle.cml_board.specs.Prelude.{HasLog, ReadsAt, Stands, IsNoted, IsAsBefore, HasRoom, Cuts, IsSound, base_of, next_base};
-ghost use Rattle.cml_board.specs.Prelude.{full_at};
-ghost use Rattle.cml_calls.specs.Prelude.{is_receiver};
+ghost use Rattle.cml_board.specs.{Entry, no_entries, entries_in, Lawful, origin_of, kind_of, is_open, is_a, sent_count, got_count};
+ghost use Rattle.cml_board.specs.{owed_count, channel_of, start_of, first_of, kept_count, port_is_open, held_by, map_log, log_at, HasLog};
+ghost use Rattle.cml_board.specs.{ReadsAt, Stands, IsNoted, IsAsBefore, HasRoom, Cuts, IsSound, base_of, next_base, full_at};
+ghost use Rattle.cml_calls.specs.{is_receiver};
 
 mod apply;
 mod making;

@@ -1,7 +1,7 @@
 ghost use Rattle.std.specs.Prelude.{◌≡◌, ◌↔◌, false, IsTrue, IfOk, OnErr};
 ghost use Rattle.std.specs.Option.{option_map};
-ghost use Rattle.cml_calls.specs.Prelude.{shown};
-ghost use Rattle.cml_board.specs.Prelude.{parts_map, parts_of, made_call, given_call, asked_call, object_in, message_of, row_of};
+ghost use Rattle.cml_calls.specs.{shown};
+ghost use Rattle.cml_board.specs.{parts_map, parts_of, made_call, given_call, asked_call, object_in, message_of, row_of};
 
 use crate::message::Message;
 use crate::parts::Parts;

@@ -1,7 +1,7 @@
 //! Whether a journal from elsewhere is a lawful history of one thread.
 ghost use Rattle.std.specs.Prelude.{◌≡◌, ◌+◌, ◌≤◌, ◌<◌, ◌^◌, length, option_map, IfOk, OnErr};
-ghost use Rattle.cml_board.specs.Prelude.{no_entries, entries_in, Checks, Feeds, Pauses, Restores, RestoresWith, count_of, verdict_of};
-ghost use Rattle.cml_board.specs.Prelude.{expected_of, IsClean, Follows, FollowsOne, FollowsSome};
+ghost use Rattle.cml_board.specs.{no_entries, entries_in, Checks, Feeds, Pauses, Restores, RestoresWith, count_of, verdict_of, expected_of};
+ghost use Rattle.cml_board.specs.{IsClean, Follows, FollowsOne, FollowsSome};
 
 use crate::board::{Board, BoardLog};
 use crate::entry::Entry;

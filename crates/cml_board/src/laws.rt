@@ -1,8 +1,9 @@
 //! What follows from the definitions.
 ghost use Rattle.std.specs.Prelude.{◌≡◌, ℕ, ◌+◌, ◌<◌, ◌≤◌, ◌||◌, ◌↔◌, Some, None, Bool, true, false, not, List, reverse, slice_get};
-ghost use Rattle.cml_board.specs.Prelude.{Entry, Call, Want, Lawful, Fits, answer, want_in, Waits, IsLawfulEverywhere, Parts, parts_of};
-ghost use Rattle.cml_board.specs.Prelude.{call_of, row_of, may_have, Shown, makes_object, fills_chunk, shares, Refuses, Step, Runs};
-ghost use Rattle.cml_board.specs.Prelude.{answered_count};
+ghost use Rattle.cml_board.specs.{Entry, Call, Want, Lawful, Fits, answer, want_in, Waits, IsLawfulEverywhere, parts_of, call_of, row_of};
+ghost use Rattle.cml_board.specs.{may_have, makes_object, fills_chunk, shares, Refuses, Step, Runs, answered_count};
+ghost use Rattle.cml_board.specs.declared.parts.Parts.{Parts};
+ghost use Rattle.cml_board.specs.Shown.{Shown};
 ghost use Rattle.cml_board.specs.declared.outcome.Refusal.TheVariants.{NoMemory};
 
 /// Shows when a journal is a lawful history: exactly if at every position the call fits the entries before it, and its

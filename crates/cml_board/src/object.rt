@@ -1,9 +1,10 @@
 //! The objects of a board, and what a call does to one of them.
 ghost use Rattle.std.specs.Prelude.{◌≡◌, ℕ, ◌-◌, ◌%◌, ◌<◌, length, Some, IsSome, OnOk, OnErr, IfOk};
 ghost use Rattle.std.specs.Option.{option_map};
-ghost use Rattle.cml_log.specs.Prelude.{Log, next_of, IsOpen, place_of, owed_items, Opens};
-ghost use Rattle.cml_board.specs.Prelude.{map_log, log_in, cursor_in, held_in, with_held, pushed, advanced, shut, OpensIn, kind_by};
-ghost use Rattle.cml_board.specs.Prelude.{variable_call, begun_as};
+ghost use Rattle.cml_log.specs.Log.{Log};
+ghost use Rattle.cml_log.specs.{next_of, IsOpen, place_of, owed_items, Opens};
+ghost use Rattle.cml_board.specs.{map_log, log_in, cursor_in, held_in, with_held, pushed, advanced, shut, OpensIn, kind_by, variable_call};
+ghost use Rattle.cml_board.specs.{begun_as};
 
 use crate::call::{Call, Name};
 use cml_calls::Kind;

@@ -1,6 +1,6 @@
 //! A call taken apart. What is said of a call by its row in the table, its object or its message goes by these parts.
 ghost use Rattle.std.specs.Prelude.{◌≡◌, ◌↔◌, IsTrue};
-ghost use Rattle.cml_board.specs.Prelude.{parts_map};
+ghost use Rattle.cml_board.specs.{parts_map};
 
 use crate::call::Name;
 use crate::message::Message;

@@ -1,6 +1,6 @@
 //! A board whose history was read from a journal, and who made its entries.
 ghost use Rattle.std.specs.Prelude.{◌≡◌, ◌+◌, ◌<◌, ◌^◌, max};
-ghost use Rattle.cml_board.specs.Prelude.{ring_by, AreMakers, behind_seat, behind_lane, behind_feed, capped};
+ghost use Rattle.cml_board.specs.{ring_by, AreMakers, behind_seat, behind_lane, behind_feed, capped};
 
 use crate::board::Board;
 use crate::entry::Who;

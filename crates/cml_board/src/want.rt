@@ -1,5 +1,5 @@
 ghost use Rattle.std.specs.Prelude.{◌≡◌};
-ghost use Rattle.cml_board.specs.Prelude.{want_in};
+ghost use Rattle.cml_board.specs.{want_in};
 
 use crate::call::{Call, Name};
 

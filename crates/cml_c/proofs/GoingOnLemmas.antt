@@ -3,11 +3,10 @@ use Rattle.std.proofs.Common.{◌≡◌, ℕ, List, Option, Some, None, refl, sy
 use Rattle.std.specs.Prelude.{Box}
 use Rattle.std.specs.declared.alloc.Global.{Global}
 use Rattle.std_alloc.specs.Box.{with_value}
-use Rattle.cml_board.specs.Prelude.{RestoredShown}
-use Rattle.cml_journal.specs.Prelude.{Halt, Progress, IsSoFar, IsRestored}
+use Rattle.cml_board.specs.{RestoredShown}
+use Rattle.cml_journal.specs.{Halt, Progress, IsSoFar, IsRestored}
 use Rattle.cml_c.specs.declared.code.Code.TheVariants.{Unlawful}
-use Rattle.cml_c.specs.Prelude.{Slot, Kept, Resource, Stocked, number, IsLimit, Writes, IsRoomOn, OpensOn, RestoresBy, left_stopped}
-use Rattle.cml_c.specs.Prelude.{told_stopped}
+use Rattle.cml_c.specs.{Slot, Kept, Resource, Stocked, number, IsLimit, Writes, IsRoomOn, OpensOn, RestoresBy, left_stopped, told_stopped}
 use Rattle.cml_c.specs.declared.kept.Resource.TheVariants.{Room, Reading, Spent}
 
 -- a handle to a room on this board is written

@@ -1,12 +1,12 @@
 -- An entry that C was shown is the same entry where C feeds it to a checker.
 use Rattle.std.proofs.Common.{◌≡◌, ℕ, List, [], Option, Some, None, slice_get, refl, sym, ap, ◌∙◌}
 use Rattle.std.specs.Prelude.{unwrap_or}
-use Rattle.cml_board.specs.Prelude.{message_of, Call, Name, Entry, Reply, Who}
+use Rattle.cml_board.specs.{message_of, Call, Name, Entry, Reply, Who}
 use Rattle.cml_board.specs.declared.call.Call.TheVariants as call
 use Rattle.cml_board.specs.declared.entry.Reply.TheVariants as reply
 use Rattle.cml_board.specs.declared.entry.Who.TheVariants as who
-use Rattle.cml_c.specs.Prelude.{who_in, call_at, replies, entry_of, entry_in, entry_with, parts_of, or_empty, maker_of, call_kind}
-use Rattle.cml_c.specs.Prelude.{call_object, given_by, reply_kind, reply_name, reply_message, or_zero, flat}
+use Rattle.cml_c.specs.{who_in, call_at, replies, entry_of, entry_in, entry_with, parts_of, or_empty, maker_of, call_kind, call_object}
+use Rattle.cml_c.specs.{given_by, reply_kind, reply_name, reply_message, or_zero, flat}
 
 who_round : (who : Who) → who_in (maker_of who) ≡ Some who
 who_round (who.Seat number) = refl

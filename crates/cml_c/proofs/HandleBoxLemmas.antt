@@ -10,7 +10,7 @@ use Rattle.std.specs.declared.alloc.Global.{Global}
 use Rattle.std_alloc.proofs.BoxSteps.Form.{Bx, B, D}
 use Rattle.cml_log.proofs.HeapBoxLemmas.{on_heap}
 pub use Rattle.cml_c.specs.contracts.kept.Kept.{the_row as Room}
-use Rattle.cml_c.specs.Prelude.{Kept}
+use Rattle.cml_c.specs.{Kept}
 use Rattle.cml_c.proofs.kept.Kept.TheLaws as kept_laws
 
 abbrev pub E : Bx

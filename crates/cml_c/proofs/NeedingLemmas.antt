@@ -6,14 +6,15 @@ use Rattle.std.specs.Option.{option_map, option_map_or}
 use Rattle.std.proofs.lemmas.Bool.{false≢true, cases_lt}
 use Rattle.std.proofs.lemmas.Option.{same_Some, none-some}
 use Rattle.cml_board.proofs.SuitingLemmas.{answer_suits}
-use Rattle.cml_board.specs.Prelude.{only_if, held, Fits, answer, is_open, kind_of, owed, received, given, Call, Entry, Reply, Outcome}
+use Rattle.cml_board.specs.{only_if, held, Fits, answer, is_open, kind_of, owed, received, given, Call, Entry, Reply}
+use Rattle.cml_board.specs.declared.outcome.Outcome.{Outcome}
 use Rattle.cml_board.specs.declared.call.Call.TheVariants.{Recv, Poll, Get, GetPoll, Take, TakePoll, Swap}
 use Rattle.cml_board.specs.declared.entry.Reply.TheVariants.{Got, Nothing, Closed}
 use Rattle.cml_board.specs.declared.outcome.Outcome.TheVariants as outcome
-use Rattle.cml_calls.specs.Prelude.{is_receiver, is_variable, is_mvar, Kind}
+use Rattle.cml_calls.specs.{is_receiver, is_variable, is_mvar, Kind}
 use Rattle.cml_calls.specs.declared.kind.Kind.TheVariants.{Mailbox, Channel, Port, IVar, MVar}
-use Rattle.cml_room.specs.Prelude.{Asks, RoomShown}
-use Rattle.cml_c.specs.Prelude.{MayMake, chunk, MayBeLong, IsGiven, NeedsBlock, IsOwed, HoldsLong, IsThere, IsShortReply, GivesShort}
+use Rattle.cml_room.specs.{Asks, RoomShown}
+use Rattle.cml_c.specs.{MayMake, chunk, MayBeLong, IsGiven, NeedsBlock, IsOwed, HoldsLong, IsThere, IsShortReply, GivesShort}
 
 abbrev Message : Type 0
 Message = List ℕ

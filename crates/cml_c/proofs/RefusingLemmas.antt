@@ -1,12 +1,13 @@
 -- A call of a seat that may not make it.
 use Rattle.std.proofs.Common.{◌≡◌, ℕ, Bool, true, false, refl, sym, ◌∙◌}
 use Rattle.std.proofs.lemmas.Bool.{false≢true}
-use Rattle.cml_board.specs.Prelude.{Call, Outcome}
+use Rattle.cml_board.specs.{Call}
+use Rattle.cml_board.specs.declared.outcome.Outcome.{Outcome}
 use Rattle.cml_board.specs.declared.outcome.Outcome.TheVariants.{Refused}
 use Rattle.cml_board.specs.declared.outcome.Refusal.TheVariants as refusal
-use Rattle.cml_room.specs.Prelude.{RoomShown}
+use Rattle.cml_room.specs.{RoomShown}
 use Rattle.cml_c.specs.declared.code.Code.TheVariants.{Gone}
-use Rattle.cml_c.specs.Prelude.{number, Makes, MayMake}
+use Rattle.cml_c.specs.{number, Makes, MayMake}
 
 -- it fails with `Gone`, and nothing is changed
 pub is_gone : {M : Type 0} (sure again : Bool) (seat : ℕ) (call : Call M) (code : ℕ) (Gives : Outcome M → Type 0) (room : RoomShown M)

@@ -1,7 +1,7 @@
 -- A reading that stops in the bytes that it takes.
 use Rattle.std.proofs.Common.{◌≡◌, ◌++◌, ℕ, List, Option, Some, sym, ap, subst, ◌∙◌}
-use Rattle.cml_journal.specs.Prelude.{Halt, Progress, HaltsIn}
-use Rattle.cml_c.specs.Prelude.{number, IsReadTo, told_halt, told_so_far}
+use Rattle.cml_journal.specs.{Halt, Progress, HaltsIn}
+use Rattle.cml_c.specs.{number, IsReadTo, told_halt, told_so_far}
 use Rattle.cml_c.specs.ReadJournals.{Takes}
 
 pub stops_in : {M : Type 0} (version : ℕ) (meaning : List ℕ → Option M) (bytes : List ℕ) (code : ℕ) (old new : Progress M) (halted : Halt)

@@ -1,10 +1,11 @@
 -- What a seat's call returns to C.
 use Rattle.std.specs.Prelude.{ℕ, ◌≡◌, Bool, true, false, Option, Some}
-use Rattle.cml_log.specs.Prelude.{chunk_of}
-use Rattle.cml_board.specs.Prelude.{Call, Reply, want_in, Want, Outcome}
+use Rattle.cml_log.specs.{chunk_of}
+use Rattle.cml_board.specs.{Call, Reply, want_in, Want}
+use Rattle.cml_board.specs.declared.outcome.Outcome.{Outcome}
 use Rattle.cml_board.specs.declared.call.Call.TheVariants as call
 use Rattle.cml_board.specs.declared.entry.Reply.TheVariants as reply
-use Rattle.cml_room.specs.Prelude.{RoomShown, MayAsk, state_of, Asks, Turns, news_by, asked_by}
+use Rattle.cml_room.specs.{RoomShown, MayAsk, state_of, Asks, Turns, news_by, asked_by}
 use Rattle.cml_room.specs.declared.state.State.TheVariants.{Parked}
 use Rattle.cml_board.specs.declared.outcome.Outcome.TheVariants as outcome
 use Rattle.cml_c.specs.declared.code.Code.{Code}

@@ -1,11 +1,13 @@
 -- When a call in a room of bytes needs a block of memory, which keeps the message that the call gives.
 use Rattle.std.specs.Prelude.{ℕ, ◌≡◌, ◌<◌, ◌≤◌, Bool, List, length, Option, Some, None, ⊤}
-use Rattle.cml_board.specs.Prelude.{owed_count, held_by, Fits, answer, HasRoom, Shown, Call, Entry, Reply, Outcome}
+use Rattle.cml_board.specs.{owed_count, held_by, Fits, answer, HasRoom, Call, Entry, Reply}
+use Rattle.cml_board.specs.Shown.{Shown}
+use Rattle.cml_board.specs.declared.outcome.Outcome.{Outcome}
 use Rattle.cml_board.specs.declared.call.Call.TheVariants.{Recv, Poll, Get, GetPoll, Take, TakePoll, Swap}
 use Rattle.cml_board.specs.declared.entry.Reply.TheVariants.{Got}
 use Rattle.cml_board.specs.declared.outcome.Outcome.TheVariants.{Answered}
-use Rattle.cml_messages.specs.Prelude.{IsShort}
-use Rattle.cml_room.specs.Prelude.{RoomShown}
+use Rattle.cml_messages.specs.{IsShort}
+use Rattle.cml_room.specs.{RoomShown}
 use Rattle.cml_c.specs.Asking.{MayMake}
 
 -- the message that this call gives may need a block: one of a variable has more than 14 bytes, and of the next one of a mailbox or

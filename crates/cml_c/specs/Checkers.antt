@@ -2,9 +2,9 @@
 use Rattle.std.specs.Prelude.{ℕ, ◌==◌, if◌then◌else◌, ◌≡◌, ◌+◌, ◌<◌, ◌≤◌, ◌^◌, ◌⊎◌, List, [], ◌∷◌, length, drop, slice_get}
 use Rattle.std.specs.Prelude.{Option, Some, None, Result, Ok, Err, ⊤}
 use Rattle.std.specs.Option.{option_map, option_or}
-use Rattle.cml_calls.specs.Prelude.{filled, make_at, give_at, ask_at}
-use Rattle.cml_board.specs.Prelude.{message_of, made_call, given_call, asked_call, Call, Name, Entry, Reply, Who, Feeds, Pauses, count_of}
-use Rattle.cml_board.specs.Prelude.{verdict_of}
+use Rattle.cml_calls.specs.{filled, make_at, give_at, ask_at}
+use Rattle.cml_board.specs.{message_of, made_call, given_call, asked_call, Call, Name, Entry, Reply, Who, Feeds, Pauses, count_of}
+use Rattle.cml_board.specs.{verdict_of}
 use Rattle.cml_board.specs.declared.call.Call.TheVariants as call
 use Rattle.cml_board.specs.declared.entry.Reply.TheVariants as reply
 use Rattle.cml_board.specs.declared.entry.Who.TheVariants as who

@@ -1,6 +1,6 @@
 -- What a call returns to C, and by which number.
 use Rattle.std.specs.Prelude.{ℕ, Result, Ok, Err}
-use Rattle.cml_board.specs.Prelude.{Refusal}
+use Rattle.cml_board.specs.{Refusal}
 use Rattle.cml_board.specs.declared.outcome.Refusal.TheVariants as refusal
 use Rattle.cml_c.specs.declared.code.Code.{Code}
 use Rattle.cml_c.specs.declared.code.Code.TheVariants as code

@@ -1,9 +1,9 @@
 -- Which seat C wakes next, and whether a seat is due.
 use Rattle.std.specs.Prelude.{ℕ, ◌≡◌, ◌⊎◌, true, false, Some, None}
-use Rattle.cml_board.specs.Prelude.{Want}
+use Rattle.cml_board.specs.{Want}
 use Rattle.cml_room.specs.declared.state.State.TheVariants.{Parked}
 use Rattle.cml_room.specs.Running as running
-use Rattle.cml_room.specs.Prelude.{RoomShown, state_of, is_due, SleepsRightly}
+use Rattle.cml_room.specs.{RoomShown, state_of, is_due, SleepsRightly}
 use Rattle.cml_c.specs.declared.code.Code.TheVariants.{Done, Nothing}
 use Rattle.cml_c.specs.Codes.{number}
 

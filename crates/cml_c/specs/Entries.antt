@@ -2,10 +2,10 @@
 use Rattle.std.specs.Prelude.{ℕ, ◌≡◌, ◌-◌, ◌<◌, ◌≤◌, ◌⊎◌, List, length, ◌++◌, reverse, slice_get, Option, Some, None, Box}
 use Rattle.std.specs.Option.{option_map_or}
 use Rattle.std.specs.declared.alloc.Global.{Global}
-use Rattle.cml_board.specs.Prelude.{Call, Entry, Reply, Who, object_in, message_of, row_of, entries_in}
+use Rattle.cml_board.specs.{Call, Entry, Reply, Who, object_in, message_of, row_of, entries_in}
 use Rattle.cml_board.specs.declared.entry.Reply.TheVariants as reply
 use Rattle.cml_board.specs.declared.entry.Who.TheVariants.{Seat, Lane, Feed}
-use Rattle.cml_room.specs.Prelude.{RoomShown}
+use Rattle.cml_room.specs.{RoomShown}
 use Rattle.cml_c.specs.declared.code.Code.TheVariants.{Done, NoSuch, NoMemory}
 use Rattle.cml_c.specs.declared.entries.SeryugoCall.{SeryugoCall}
 use Rattle.cml_c.specs.declared.entries.SeryugoEntry.{SeryugoEntry}

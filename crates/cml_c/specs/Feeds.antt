@@ -1,8 +1,9 @@
 -- What the calls on feeds return to C.
 use Rattle.std.specs.Prelude.{ℕ, ◌≡◌, ◌<◌, ◌⊎◌, [], ◌∷◌, ◌++◌, length, List, Option, Result, Bool}
-use Rattle.cml_board.specs.Prelude.{Name, Refusal}
-use Rattle.cml_lanes.specs.Prelude.{FeedShown, Ended, KeepsRings, SameFeedRing, OpensAFeed, Ends}
-use Rattle.cml_room.specs.Prelude.{RoomShown, floor_of, KeepsSeats, Stirs, MakesNoneDue}
+use Rattle.cml_board.specs.{Name, Refusal}
+use Rattle.cml_lanes.specs.{FeedShown, Ended, KeepsRings, SameFeedRing, OpensAFeed}
+use Rattle.cml_lanes.specs.Feeds.{Ends}
+use Rattle.cml_room.specs.{RoomShown, floor_of, KeepsSeats, Stirs, MakesNoneDue}
 use Rattle.cml_c.specs.declared.code.Code.{Code}
 use Rattle.cml_c.specs.declared.code.Code.TheVariants.{Done, Nothing, NoMemory}
 use Rattle.cml_c.specs.declared.handle.Slot.{Slot}

@@ -1,8 +1,8 @@
 -- What the calls on a room's floor return to C: those of lanes and feeds, reservations and cuts.
 use Rattle.std.specs.Prelude.{ℕ, ◌≡◌, Result, ⊤}
-use Rattle.cml_board.specs.Prelude.{Refusal}
-use Rattle.cml_lanes.specs.Prelude.{FloorShown, KeepsRings}
-use Rattle.cml_room.specs.Prelude.{RoomShown, floor_of}
+use Rattle.cml_board.specs.{Refusal}
+use Rattle.cml_lanes.specs.{FloorShown, KeepsRings}
+use Rattle.cml_room.specs.{RoomShown, floor_of}
 use Rattle.cml_c.specs.Codes.{number, told_outcome, written_count}
 
 -- this becomes of the floor and of the seats, with the code that tells it; the rings of the lanes and feeds stay

@@ -1,10 +1,10 @@
 -- What becomes of what a handle leads to.
 use Rattle.std.specs.Prelude.{ℕ, ◌≡◌, Bool, true, false, List, Box}
 use Rattle.std.specs.declared.alloc.Global.{Global}
-use Rattle.cml_board.specs.Prelude.{Entry, Found}
-use Rattle.cml_lanes.specs.Prelude.{LaneShown, FeedShown}
-use Rattle.cml_journal.specs.Prelude.{Progress}
-use Rattle.cml_room.specs.Prelude.{RoomShown}
+use Rattle.cml_board.specs.{Entry, Found}
+use Rattle.cml_lanes.specs.{LaneShown, FeedShown}
+use Rattle.cml_journal.specs.{Progress}
+use Rattle.cml_room.specs.{RoomShown}
 use Rattle.cml_c.specs.declared.code.Code.TheVariants.{WrongHandle}
 use Rattle.cml_c.specs.declared.kept.Kept.{Kept}
 use Rattle.cml_c.specs.declared.kept.Kept.TheVariants.{Numbers, Bytes}

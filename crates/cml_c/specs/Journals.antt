@@ -1,9 +1,9 @@
 -- What C gets of a journal that is taken.
 use Rattle.std.specs.Prelude.{ℕ, ◌≡◌, ◌⊎◌, Some, Vec, length}
 use Rattle.std.specs.declared.alloc.Global.{Global}
-use Rattle.cml_board.specs.Prelude.{Entry}
-use Rattle.cml_lanes.specs.Prelude.{CutsFloor, IsBusy, KeepsRings}
-use Rattle.cml_room.specs.Prelude.{RoomShown, floor_of, KeepsSeats}
+use Rattle.cml_board.specs.{Entry}
+use Rattle.cml_lanes.specs.{CutsFloor, IsBusy, KeepsRings}
+use Rattle.cml_room.specs.{RoomShown, floor_of, KeepsSeats}
 use Rattle.cml_c.specs.declared.code.Code.TheVariants.{Done, Busy, NoMemory}
 use Rattle.cml_c.specs.declared.handle.Slot.{Slot}
 use Rattle.cml_c.specs.declared.kept.Kept.{Kept}

@@ -1,8 +1,8 @@
 -- What the calls on lanes return to C.
 use Rattle.std.specs.Prelude.{ℕ, ◌≡◌, ◌<◌, ◌≤◌, ◌⊎◌, Bool, true, false, List, Some, [], ◌∷◌, ◌++◌, length, Result, Ok, Err, ⊤}
-use Rattle.cml_board.specs.Prelude.{Name, Refusal}
-use Rattle.cml_lanes.specs.Prelude.{FloorShown, KeepsRings, SameRing, LaneShown, Ended, OpensALane, ClosesCounted, Drops}
-use Rattle.cml_room.specs.Prelude.{RoomShown, floor_of, KeepsSeats, Stirs, MakesFewByOne}
+use Rattle.cml_board.specs.{Name, Refusal}
+use Rattle.cml_lanes.specs.{FloorShown, KeepsRings, SameRing, LaneShown, Ended, OpensALane, ClosesCounted, Drops}
+use Rattle.cml_room.specs.{RoomShown, floor_of, KeepsSeats, Stirs, MakesFewByOne}
 use Rattle.cml_c.specs.declared.code.Code.{Code}
 use Rattle.cml_c.specs.declared.code.Code.TheVariants.{Done, Gone, NoMemory, Full, StillOpen, OutOfBounds}
 use Rattle.cml_c.specs.declared.handle.Slot.{Slot}

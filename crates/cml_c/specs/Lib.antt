@@ -20,4 +20,37 @@ pub mod Checkers
 pub mod Texts
 pub mod ReadJournals
 pub mod Restoring
-pub mod Prelude
+-- the names that others import from here
+pub use Version.{number_of_version}
+pub use Owning.{kept_coded, slot_coded}
+pub use Lending.{with_kept}
+pub use Codes.{number, of_refusal, written_count}
+pub use Handles.{OnBoth, OnBytes, OnChecker, OnEither, OnEitherKept, OnFeed, OnJournal, OnNumbers, OnReading, OnRoom}
+pub use Asking.{Calls, CallsPlain, Makes, MayMake, MayWant, Names, NamesNothing, chunk, named_outcome, sending_call, told_reply}
+pub use Asking.{written_outcome}
+pub use Blocks.{GivesShort, HoldsLong, IsGiven, IsOwed, IsShortReply, IsThere, MayBeLong, NeedsBlock, WouldGive}
+pub use Messages.{CallsBytes, FillsBytes, HandsHeld, HandsOutcome, HandsShare, IsHanded, MakesBytes, MakesCopied, NotCopied, SwapsBytes}
+pub use Messages.{SwapsCopied}
+pub use Opening.{IsLimit, IsNew, OpensAChecker, OpensARoom, Writes}
+pub use Seats.{Leaves, MakesSeat, Withdraws}
+pub use Due.{GivesNext, TellsDue}
+pub use Floors.{Counts, Does}
+pub use Reserved.{CutsReserved, ReservesSome}
+pub use Lanes.{Closes, ClosesEnd, ClosesLane, DropsLane, Finishes, OpensLane, Sends, SendsCopied, told_dropped, told_sent, written_dropped}
+pub use Feeds.{EndsFeed, OpensFeed, TakesBytes, TakesNumber, TellsPort}
+pub use Reading.{Holds, HoldsBytes, Reads, ReadsOn, TellsFull, TellsOpen, bare, found_in, number_of_kind, told_found, told_held, told_open}
+pub use Reading.{written_found, written_held}
+pub use Entries.{Finds, FindsBytes, FindsBytesIn, FindsIn, IsAt, IsShown, call_kind, call_object, call_of, count_of, flat, given_by}
+pub use Entries.{maker_of, or_zero, reply_kind, reply_message, reply_name, reply_of}
+pub use Journals.{TakesJournal}
+pub use Checkers.{FeedsEntry, FeedsFrom, FeedsIn, FeedsJournal, FeedsParts, FeedsTaken, TellsVerdict, call_at, entry_in, entry_of}
+pub use Checkers.{entry_with, or_empty, parts_of, replies, told_verdict, who_in}
+pub use Texts.{HandsJournal, HandsText}
+pub use ReadJournals.{EndsSo, IsReadTo, OpensBytes, OpensNumbers, TakesPart, Tells, TellsEnd, entries_read, lines_read, told_halt}
+pub use ReadJournals.{told_so_far}
+pub use Restoring.{IsRoomOn, OpensOn, Restores, RestoresBy, RestoresKept, left_halted, left_stopped, told_stopped}
+pub use declared.handle.Slot.{Slot}
+pub use declared.keeper.Held.{Held}
+pub use declared.kept.Kept.{Kept}
+pub use declared.kept.Resource.{Resource}
+pub use declared.kept.Stocked.{Stocked}

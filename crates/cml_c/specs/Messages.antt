@@ -1,9 +1,10 @@
 -- What a call in a room of bytes returns to C, and the messages that it hands over.
 use Rattle.std.specs.Prelude.{ℕ, ◌≡◌, ◌<◌, ◌⊎◌, Bool, false, List, length, take, Option, Some, None, ⊤}
-use Rattle.cml_messages.specs.Prelude.{IsShort, IsLong, IsTooLong}
-use Rattle.cml_board.specs.Prelude.{Call, Reply, Outcome}
+use Rattle.cml_messages.specs.{IsShort, IsLong, IsTooLong}
+use Rattle.cml_board.specs.{Call, Reply}
+use Rattle.cml_board.specs.declared.outcome.Outcome.{Outcome}
 use Rattle.cml_board.specs.declared.entry.Reply.TheVariants as reply
-use Rattle.cml_room.specs.Prelude.{RoomShown}
+use Rattle.cml_room.specs.{RoomShown}
 use Rattle.cml_board.specs.declared.outcome.Outcome.TheVariants as outcome
 use Rattle.cml_c.specs.declared.code.Code.TheVariants.{Done, Nothing, NoSuch, NoMemory, OutOfBounds}
 use Rattle.cml_c.specs.declared.kept.Kept.{Kept}

@@ -1,8 +1,8 @@
 -- What a room and a checker are when they are opened.
 use Rattle.std.specs.Prelude.{ℕ, ◌≡◌, ◌≤◌, ◌^◌, ◌⊎◌, [], Some, Ok, Box}
 use Rattle.std.specs.declared.alloc.Global.{Global}
-use Rattle.cml_board.specs.Prelude.{no_entries}
-use Rattle.cml_room.specs.Prelude.{RoomShown, NoneDue}
+use Rattle.cml_board.specs.{no_entries}
+use Rattle.cml_room.specs.{RoomShown, NoneDue}
 use Rattle.cml_c.specs.declared.code.Code.TheVariants.{Done, NoMemory, OutOfBounds}
 use Rattle.cml_c.specs.declared.handle.Slot.{Slot}
 use Rattle.cml_c.specs.declared.kept.Kept.{Kept}

@@ -1,7 +1,7 @@
 -- What C gets of a journal whose text is read back.
 use Rattle.std.specs.Prelude.{ℕ, ◌≡◌, ◌⊎◌, ◌↔◌, Bool, true, false, List, [], ◌++◌, Option, Some, None, ⊤}
-use Rattle.cml_board.specs.Prelude.{count_of}
-use Rattle.cml_journal.specs.Prelude.{Halt, Progress, IsSoFar, HaltTells, IsLawfulJournal, is_whole, message_of_word, number_of}
+use Rattle.cml_board.specs.{count_of}
+use Rattle.cml_journal.specs.{Halt, Progress, IsSoFar, HaltTells, IsLawfulJournal, is_whole, message_of_word, number_of}
 use Rattle.cml_journal.specs.declared.stop.Halt.TheVariants as halt
 use Rattle.cml_c.specs.declared.code.Code.{Code}
 use Rattle.cml_c.specs.declared.code.Code.TheVariants.{Done, NoMemory, Unlawful, Fault, Torn}

@@ -1,10 +1,10 @@
 -- What C reads of a room.
 use Rattle.std.specs.Prelude.{ℕ, ◌≡◌, ◌⊎◌, Bool, true, false, List, Option, Some, None, option_map}
-use Rattle.cml_calls.specs.Prelude.{Kind}
+use Rattle.cml_calls.specs.{Kind}
 use Rattle.cml_calls.specs.declared.kind.Kind.TheVariants as kind
-use Rattle.cml_board.specs.Prelude.{Name, entries_in, kind_of, full_at, HasRoom, sent_count, got_count, owed_count, first_of, kept_count}
-use Rattle.cml_board.specs.Prelude.{channel_of, start_of, port_is_open, held_by}
-use Rattle.cml_room.specs.Prelude.{RoomShown}
+use Rattle.cml_board.specs.{Name, entries_in, kind_of, full_at, HasRoom, sent_count, got_count, owed_count, first_of, kept_count}
+use Rattle.cml_board.specs.{channel_of, start_of, port_is_open, held_by}
+use Rattle.cml_room.specs.{RoomShown}
 use Rattle.cml_c.specs.declared.code.Code.{Code}
 use Rattle.cml_c.specs.declared.code.Code.TheVariants.{Done, Nothing, Closed, NoSuch, JournalFull}
 use Rattle.cml_c.specs.declared.kept.Kept.{Kept}

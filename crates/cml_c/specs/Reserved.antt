@@ -1,7 +1,7 @@
 -- A reservation of so many entries, and a cut, as of a floor.
 use Rattle.std.specs.Prelude.{ℕ, ◌≤◌, Result, ⊤}
-use Rattle.cml_board.specs.Prelude.{Refusal}
-use Rattle.cml_lanes.specs.Prelude.{FloorShown, Reserves, CutsAFloor}
+use Rattle.cml_board.specs.{Refusal}
+use Rattle.cml_lanes.specs.{FloorShown, Reserves, CutsAFloor}
 
 abbrev pub ReservesSome : {M : Type 0} → ℕ → FloorShown M → FloorShown M → Result ⊤ Refusal → Type 0
 ReservesSome entries old new outcome = Reserves old new entries outcome

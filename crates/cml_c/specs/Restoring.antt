@@ -1,10 +1,10 @@
 -- What C gets of a room that goes on from a journal which was read back.
 use Rattle.std.specs.Prelude.{ℕ, ◌≡◌, ◌⊎◌, List, replicate, Option, None, Some, Box}
 use Rattle.std.specs.declared.alloc.Global.{Global}
-use Rattle.cml_board.specs.Prelude.{RestoredShown}
-use Rattle.cml_journal.specs.Prelude.{Halt, Progress, IsSoFar, IsRestored, message_of_word, number_of}
+use Rattle.cml_board.specs.{RestoredShown}
+use Rattle.cml_journal.specs.{Halt, Progress, IsSoFar, IsRestored, message_of_word, number_of}
 use Rattle.cml_journal.specs.declared.stop.Halt.TheVariants as halt
-use Rattle.cml_room.specs.Prelude.{RoomShown, NoneDue}
+use Rattle.cml_room.specs.{RoomShown, NoneDue}
 use Rattle.cml_room.specs.declared.state.State.TheVariants.{Left}
 use Rattle.cml_c.specs.declared.code.Code.{Code}
 use Rattle.cml_c.specs.declared.code.Code.TheVariants.{NoMemory, OutOfBounds, Unlawful}

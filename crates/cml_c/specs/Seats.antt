@@ -1,8 +1,7 @@
 -- What C gets of a new seat, of one that leaves, and of one that withdraws its call.
 use Rattle.std.specs.Prelude.{ℕ, ◌≡◌, ◌≢◌, ◌⊎◌, [], ◌∷◌, ◌++◌, length, Some, None}
-use Rattle.cml_board.specs.Prelude.{Want}
-use Rattle.cml_room.specs.Prelude.{Turns, MakesNoneDue, RoomShown, MayAsk, state_of, with_state, floor_of, AskOf, Other, IsMade, free_in}
-use Rattle.cml_room.specs.Prelude.{parked_in}
+use Rattle.cml_board.specs.{Want}
+use Rattle.cml_room.specs.{Turns, MakesNoneDue, RoomShown, MayAsk, state_of, with_state, floor_of, AskOf, Other, IsMade, free_in, parked_in}
 use Rattle.cml_room.specs.declared.state.State.TheVariants.{Free, Left, Parked}
 use Rattle.cml_c.specs.declared.code.Code.TheVariants.{Done, Gone, NoMemory}
 use Rattle.cml_c.specs.Codes.{number}

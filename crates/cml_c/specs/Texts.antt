@@ -1,8 +1,8 @@
 -- What C gets of a journal as text.
 use Rattle.std.specs.Prelude.{ℕ, ◌≡◌, ◌+◌, ◌<◌, ◌≤◌, ◌^◌, ◌⊎◌, List, length}
 use Rattle.std.specs.Fmt.{decimal}
-use Rattle.cml_board.specs.Prelude.{Entry}
-use Rattle.cml_journal.specs.Prelude.{bytes_text, text_of, piece_lines}
+use Rattle.cml_board.specs.{Entry}
+use Rattle.cml_journal.specs.{bytes_text, text_of, piece_lines}
 use Rattle.cml_c.specs.declared.code.Code.TheVariants.{Done, NoMemory, OutOfBounds}
 use Rattle.cml_c.specs.declared.kept.Kept.{Kept}
 use Rattle.cml_c.specs.declared.kept.Kept.TheVariants.{Numbers, Bytes}

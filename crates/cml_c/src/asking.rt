@@ -1,7 +1,7 @@
 //! A seat's call, and the code of what becomes of it.
 ghost use Rattle.std.specs.Prelude.{◌≡◌, false};
-ghost use Rattle.cml_room.specs.Prelude.{Asks, Turns, news_by, asked_by};
-ghost use Rattle.cml_c.specs.Prelude.{number, Calls, CallsPlain, MayMake, chunk, named_outcome, written_outcome, told_reply};
+ghost use Rattle.cml_room.specs.{Asks, Turns, news_by, asked_by};
+ghost use Rattle.cml_c.specs.{number, Calls, CallsPlain, MayMake, chunk, named_outcome, written_outcome, told_reply};
 ghost use Rattle.cml_c.specs.Asking.{told_outcome};
 
 use crate::code::Code;

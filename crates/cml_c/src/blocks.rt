@@ -1,7 +1,7 @@
 //! Whether a call, made now, needs a block of memory, which keeps the message that it gives.
 ghost use Rattle.std.specs.Prelude.{◌≡◌, Decides};
-ghost use Rattle.cml_board.specs.Prelude.{owed_count, held_by, Fits, HasRoom};
-ghost use Rattle.cml_c.specs.Prelude.{MayWant, NeedsBlock, WouldGive, IsOwed, HoldsLong, IsThere};
+ghost use Rattle.cml_board.specs.{owed_count, held_by, Fits, HasRoom};
+ghost use Rattle.cml_c.specs.{MayWant, NeedsBlock, WouldGive, IsOwed, HoldsLong, IsThere};
 
 use crate::kept::{BoardOf, RoomOf};
 use crate::messages::IN_PLACE;

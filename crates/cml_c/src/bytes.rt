@@ -2,7 +2,7 @@
 ghost use Rattle.std.specs.Prelude.{false};
 ghost use Rattle.cml_board.specs.declared.call.Call.TheVariants.{Send, Cast, Recv, Poll, MVarInit, Put, Get, GetPoll, Take, TakePoll, Swap};
 ghost use Rattle.cml_c.specs.Messages.{SendsBytes};
-ghost use Rattle.cml_c.specs.Prelude.{CallsBytes, FillsBytes, SwapsBytes};
+ghost use Rattle.cml_c.specs.{CallsBytes, FillsBytes, SwapsBytes};
 
 use crate::bytes_asking::make_call;
 use crate::bytes_sending::{make_nameless_sending_call, make_sending_call, swap};

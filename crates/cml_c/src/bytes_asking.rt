@@ -1,7 +1,7 @@
 //! A seat's call in a room of bytes.
 ghost use Rattle.std.specs.Prelude.{◌≡◌};
 ghost use Rattle.cml_c.specs.Asking.{told_outcome};
-ghost use Rattle.cml_c.specs.Prelude.{GivesShort, CallsBytes, MakesBytes, HandsOutcome};
+ghost use Rattle.cml_c.specs.{GivesShort, CallsBytes, MakesBytes, HandsOutcome};
 
 use crate::asking::{ask, code_of_outcome, code_of_reply};
 use crate::blocks::needs_block;

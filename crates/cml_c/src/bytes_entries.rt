@@ -1,8 +1,8 @@
 //! Entries of a journal whose messages are bytes.
 ghost use Rattle.std.specs.Prelude.{◌≡◌, IfOk, option_copied};
-ghost use Rattle.cml_board.specs.Prelude.{message_of};
-ghost use Rattle.cml_c.specs.Prelude.{call_kind, call_object, count_of, reply_kind, reply_name, reply_message, IsShown, FindsBytes};
-ghost use Rattle.cml_c.specs.Prelude.{FindsBytesIn, OnBytes, OnRoom};
+ghost use Rattle.cml_board.specs.{message_of};
+ghost use Rattle.cml_c.specs.{call_kind, call_object, count_of, reply_kind, reply_name, reply_message, IsShown, FindsBytes, FindsBytesIn};
+ghost use Rattle.cml_c.specs.{OnBytes, OnRoom};
 
 use crate::code::Code;
 use crate::entries::{SeryugoMaker, entry_at, kind_and_object, maker_of, reply_parts};

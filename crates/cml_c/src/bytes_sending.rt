@@ -1,6 +1,6 @@
 //! A seat's call that sends a copy of bytes from C.
 ghost use Rattle.cml_board.specs.declared.call.Call.TheVariants.{Swap};
-ghost use Rattle.cml_c.specs.Prelude.{sending_call, FillsBytes, MakesCopied, SwapsCopied};
+ghost use Rattle.cml_c.specs.{sending_call, FillsBytes, MakesCopied, SwapsCopied};
 ghost use Rattle.cml_c.specs.Messages.{SendsBytes};
 
 use crate::asking::tell_name;

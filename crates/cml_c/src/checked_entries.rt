@@ -1,7 +1,7 @@
 //! Entries from C are checked, wherever C has them from.
 ghost use Rattle.std.specs.Prelude.{◌≡◌, slice_get, ⊤};
-ghost use Rattle.cml_c.specs.Prelude.{who_in, call_at, replies, entry_in, entry_with, entry_of, FeedsEntry, FeedsParts, OnNumbers, OnBytes};
-ghost use Rattle.cml_c.specs.Prelude.{OnChecker};
+ghost use Rattle.cml_c.specs.{who_in, call_at, replies, entry_in, entry_with, entry_of, FeedsEntry, FeedsParts, OnNumbers, OnBytes};
+ghost use Rattle.cml_c.specs.{OnChecker};
 
 use crate::checkers::feed;
 use crate::code::Code;

@@ -1,9 +1,9 @@
 //! Journals are checked: a checker says how far one is a lawful history of one thread.
 ghost use Rattle.std.specs.Prelude.{◌≡◌, IfOk, Ok, ⊤};
-ghost use Rattle.cml_board.specs.Prelude.{no_entries};
+ghost use Rattle.cml_board.specs.{no_entries};
 ghost use Rattle.cml_c.specs.declared.kept.Kept.TheVariants as kept;
-ghost use Rattle.cml_c.specs.Prelude.{OpensAChecker, FeedsIn, FeedsFrom, FeedsTaken, FeedsJournal, TellsVerdict, told_verdict, OnEither};
-ghost use Rattle.cml_c.specs.Prelude.{OnBoth, OnChecker};
+ghost use Rattle.cml_c.specs.{OpensAChecker, FeedsIn, FeedsFrom, FeedsTaken, FeedsJournal, TellsVerdict, told_verdict, OnEither, OnBoth};
+ghost use Rattle.cml_c.specs.{OnChecker};
 
 use crate::code::Code;
 use crate::handle::{Handle, Slot};

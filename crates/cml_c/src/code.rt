@@ -1,5 +1,5 @@
 ghost use Rattle.std.specs.Prelude.{◌≡◌};
-ghost use Rattle.cml_c.specs.Prelude.{number, of_refusal};
+ghost use Rattle.cml_c.specs.{number, of_refusal};
 
 use cml_board::Refusal;
 

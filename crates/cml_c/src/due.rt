@@ -1,6 +1,6 @@
 //! Which of the waiting seats are due.
 ghost use Rattle.std.specs.Prelude.{◌≡◌, ⊤};
-ghost use Rattle.cml_c.specs.Prelude.{GivesNext, TellsDue, OnEither, OnRoom};
+ghost use Rattle.cml_c.specs.{GivesNext, TellsDue, OnEither, OnRoom};
 
 use crate::code::Code;
 use crate::handle::Handle;

@@ -1,7 +1,7 @@
 //! Entries of the journal.
 ghost use Rattle.std.specs.Prelude.{◌≡◌, slice_get, option_copied};
-ghost use Rattle.cml_c.specs.Prelude.{flat, maker_of, call_of, call_kind, call_object, reply_of, reply_kind, reply_name, reply_message};
-ghost use Rattle.cml_c.specs.Prelude.{Finds, IsAt, FindsIn, OnNumbers, OnRoom};
+ghost use Rattle.cml_c.specs.{flat, maker_of, call_of, call_kind, call_object, reply_of, reply_kind, reply_name, reply_message, Finds};
+ghost use Rattle.cml_c.specs.{IsAt, FindsIn, OnNumbers, OnRoom};
 
 use crate::code::Code;
 use crate::handle::Handle;

@@ -1,9 +1,9 @@
 //! Feeds, on which a thread receives without the room's lock.
 ghost use Rattle.std.specs.Prelude.{◌≡◌, ⊤};
-ghost use Rattle.cml_lanes.specs.Prelude.{Pumps};
-ghost use Rattle.cml_room.specs.Prelude.{Stirs, MakesNoneDue};
-ghost use Rattle.cml_c.specs.Prelude.{chunk, Counts, OnEither, OnEitherKept, OnNumbers, OnBytes, OnRoom, OnFeed, OpensFeed, TakesNumber};
-ghost use Rattle.cml_c.specs.Prelude.{TakesBytes, TellsPort, EndsFeed};
+ghost use Rattle.cml_lanes.specs.{Pumps};
+ghost use Rattle.cml_room.specs.{Stirs, MakesNoneDue};
+ghost use Rattle.cml_c.specs.{chunk, Counts, OnEither, OnEitherKept, OnNumbers, OnBytes, OnRoom, OnFeed, OpensFeed, TakesNumber};
+ghost use Rattle.cml_c.specs.{TakesBytes, TellsPort, EndsFeed};
 
 use crate::code::Code;
 use crate::handle::{Handle, Slot};

@@ -1,8 +1,8 @@
 //! The journal: memory that is reserved for it, and its cuts.
 ghost use Rattle.std.specs.Prelude.{◌≡◌, slice_get, ⊤};
-ghost use Rattle.cml_room.specs.Prelude.{KeepsSeats};
-ghost use Rattle.cml_c.specs.Prelude.{Finds, FindsBytes, Does, OnEither, OnEitherKept, OnNumbers, OnBytes, OnRoom, OnJournal, ReservesSome};
-ghost use Rattle.cml_c.specs.Prelude.{CutsReserved, TakesJournal};
+ghost use Rattle.cml_room.specs.{KeepsSeats};
+ghost use Rattle.cml_c.specs.{Finds, FindsBytes, Does, OnEither, OnEitherKept, OnNumbers, OnBytes, OnRoom, OnJournal, ReservesSome};
+ghost use Rattle.cml_c.specs.{CutsReserved, TakesJournal};
 
 use crate::bytes_entries::{SeryugoBytesEntry, hand_over_found};
 use crate::code::Code;

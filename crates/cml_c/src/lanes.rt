@@ -1,11 +1,11 @@
 //! Lanes, on which a thread sends without the room's lock.
 ghost use Rattle.std.specs.Prelude.{◌≡◌, ⊤};
-ghost use Rattle.cml_lanes.specs.Prelude.{Drains, Abandons};
-ghost use Rattle.cml_room.specs.Prelude.{Stirs, MakesFewByOne, MakesNoneDue};
+ghost use Rattle.cml_lanes.specs.{Drains, Abandons};
+ghost use Rattle.cml_room.specs.{Stirs, MakesFewByOne, MakesNoneDue};
 ghost use Rattle.cml_c.specs.Codes.{told_outcome};
-ghost use Rattle.cml_c.specs.Prelude.{number, written_count, chunk, Does, Counts, OnEither, OnEitherKept, OnNumbers, OnBytes, OnBoth};
-ghost use Rattle.cml_c.specs.Prelude.{OnRoom, OpensLane, Sends, SendsCopied, Finishes, Closes, ClosesLane, ClosesEnd, DropsLane, told_sent};
-ghost use Rattle.cml_c.specs.Prelude.{told_dropped, written_dropped};
+ghost use Rattle.cml_c.specs.{number, written_count, chunk, Does, Counts, OnEither, OnEitherKept, OnNumbers, OnBytes, OnBoth, OnRoom};
+ghost use Rattle.cml_c.specs.{OpensLane, Sends, SendsCopied, Finishes, Closes, ClosesLane, ClosesEnd, DropsLane, told_sent, told_dropped};
+ghost use Rattle.cml_c.specs.{written_dropped};
 ghost use Rattle.cml_c.specs.Lanes.{SendsBytes};
 
 use crate::code::Code;

@@ -1,7 +1,7 @@
 //! Laws of what C is shown.
 ghost use Rattle.std.specs.Prelude.{◌≡◌, ℕ, List, Some};
-ghost use Rattle.cml_board.specs.Prelude.{Entry};
-ghost use Rattle.cml_c.specs.Prelude.{entry_in, entry_with, parts_of, flat};
+ghost use Rattle.cml_board.specs.{Entry};
+ghost use Rattle.cml_c.specs.{entry_in, entry_with, parts_of, flat};
 
 /// Shows that an entry which C was shown, and feeds to a checker, is the same entry there.
 pub fn entries_go_round()

@@ -1,6 +1,6 @@
 //! Messages of bytes: how they are copied from C, and how they are handed to C.
 ghost use Rattle.std.specs.Prelude.{◌≡◌, ◌<◌, ◌≤◌, length, IfOk, IfErr, option_map, option_copied};
-ghost use Rattle.cml_c.specs.Prelude.{number, IsHanded, NotCopied, HandsHeld, HandsShare};
+ghost use Rattle.cml_c.specs.{number, IsHanded, NotCopied, HandsHeld, HandsShare};
 
 use crate::code::Code;
 use crate::keeper::{Held, Keeper, Share};

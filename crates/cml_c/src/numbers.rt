@@ -1,7 +1,7 @@
 //! Calls with messages of numbers, which a room of numbers alone takes.
 ghost use Rattle.std.specs.Prelude.{false};
 ghost use Rattle.cml_board.specs.declared.call.Call.TheVariants.{Send, Cast, Recv, Poll, MVarInit, Put, Get, GetPoll, Take, TakePoll, Swap};
-ghost use Rattle.cml_c.specs.Prelude.{Calls, CallsPlain};
+ghost use Rattle.cml_c.specs.{Calls, CallsPlain};
 
 use crate::asking::{make_call, make_plain_call};
 use crate::handle::Handle;

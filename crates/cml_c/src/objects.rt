@@ -1,6 +1,6 @@
 //! Calls without a message, which make and close objects. A room of numbers and one of bytes answer them alike.
 ghost use Rattle.cml_board.specs.declared.call.Call.TheVariants.{NewMailbox, NewChannel, NewPort, CopyPort, ClosePort, NewIVar, NewMVar};
-ghost use Rattle.cml_c.specs.Prelude.{Names, NamesNothing};
+ghost use Rattle.cml_c.specs.{Names, NamesNothing};
 
 use crate::asking::tell_name;
 use crate::handle::Handle;

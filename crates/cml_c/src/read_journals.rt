@@ -1,9 +1,9 @@
 //! A journal's text is read back, and checked as it comes.
 ghost use Rattle.std.specs.Prelude.{◌≡◌, [], IfOk, ⊤};
-ghost use Rattle.cml_journal.specs.Prelude.{IsSoFar};
+ghost use Rattle.cml_journal.specs.{IsSoFar};
 ghost use Rattle.cml_c.specs.declared.kept.Kept.TheVariants as kept;
-ghost use Rattle.cml_c.specs.Prelude.{number, OnEither, OnReading, OpensNumbers, OpensBytes, TakesPart, Tells, TellsEnd, EndsSo};
-ghost use Rattle.cml_c.specs.Prelude.{entries_read, lines_read, told_halt};
+ghost use Rattle.cml_c.specs.{number, OnEither, OnReading, OpensNumbers, OpensBytes, TakesPart, Tells, TellsEnd, EndsSo, entries_read};
+ghost use Rattle.cml_c.specs.{lines_read, told_halt};
 ghost use Rattle.cml_c.specs.ReadJournals.{Takes};
 
 use crate::code::Code;

@@ -1,8 +1,8 @@
 //! Calls that read a room without changing it.
 ghost use Rattle.std.specs.Prelude.{◌≡◌, option_map, ⊤};
 ghost use Rattle.cml_c.specs.declared.readers.Reading.TheVariants as reading;
-ghost use Rattle.cml_c.specs.Prelude.{OnEither, OnNumbers, OnBytes, OnRoom, number_of_kind, bare, found_in, Reads, ReadsOn, Holds};
-ghost use Rattle.cml_c.specs.Prelude.{HoldsBytes, TellsOpen, TellsFull};
+ghost use Rattle.cml_c.specs.{OnEither, OnNumbers, OnBytes, OnRoom, number_of_kind, bare, found_in, Reads, ReadsOn, Holds, HoldsBytes};
+ghost use Rattle.cml_c.specs.{TellsOpen, TellsFull};
 
 use crate::handle::Handle;
 use crate::kept::{RoomOf, on_either, on_one};

@@ -1,6 +1,6 @@
 //! A room goes on from a journal that was read back.
 ghost use Rattle.std.specs.Prelude.{◌≡◌, ◌≤◌, ◌^◌, IfOk};
-ghost use Rattle.cml_c.specs.Prelude.{number, told_halt, IsRoomOn, OpensOn, Restores, RestoresBy, RestoresKept, left_halted};
+ghost use Rattle.cml_c.specs.{number, told_halt, IsRoomOn, OpensOn, Restores, RestoresBy, RestoresKept, left_halted};
 
 use crate::code::Code;
 use crate::handle::{Handle, Slot};

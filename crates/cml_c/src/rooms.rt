@@ -3,7 +3,7 @@ ghost use Rattle.std.specs.Prelude.{◌≡◌, ◌⊎◌, IfOk, IfErr, ⊤};
 ghost use Rattle.cml_c.specs.declared.code.Code.TheVariants.{NoMemory, OutOfBounds};
 ghost use Rattle.cml_c.specs.declared.kept.Kept.TheVariants as kept;
 ghost use Rattle.cml_c.specs.Codes.{told_outcome};
-ghost use Rattle.cml_c.specs.Prelude.{number, MakesSeat, Leaves, Withdraws, OnEither, OnRoom, IsLimit, IsNew, OpensARoom, Writes};
+ghost use Rattle.cml_c.specs.{number, MakesSeat, Leaves, Withdraws, OnEither, OnRoom, IsLimit, IsNew, OpensARoom, Writes};
 
 use crate::code::Code;
 use crate::handle::{Handle, Slot};

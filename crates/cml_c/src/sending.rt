@@ -1,5 +1,5 @@
 ghost use Rattle.std.specs.Prelude.{◌≡◌};
-ghost use Rattle.cml_c.specs.Prelude.{sending_call};
+ghost use Rattle.cml_c.specs.{sending_call};
 
 use cml_board::{Call, Name};
 

@@ -1,7 +1,7 @@
 //! The codes of what was found.
 ghost use Rattle.std.specs.Prelude.{◌≡◌, MatchBool, option_map, option_copied};
 ghost use Rattle.cml_c.specs.declared.code.Code.TheVariants.{Done, JournalFull};
-ghost use Rattle.cml_c.specs.Prelude.{number, told_found, written_found, told_held, written_held, told_open};
+ghost use Rattle.cml_c.specs.{number, told_found, written_found, told_held, written_held, told_open};
 
 use crate::code::Code;
 

@@ -1,7 +1,7 @@
 //! A journal as text.
 ghost use Rattle.std.specs.Prelude.{◌≡◌, ◌+◌, ◌<◌, ◌^◌, length, IfSome};
-ghost use Rattle.cml_journal.specs.Prelude.{text_of, piece_lines};
-ghost use Rattle.cml_c.specs.Prelude.{HandsText, HandsJournal};
+ghost use Rattle.cml_journal.specs.{text_of, piece_lines};
+ghost use Rattle.cml_c.specs.{HandsText, HandsJournal};
 
 use crate::code::Code;
 use crate::handle::Handle;

@@ -1,6 +1,6 @@
 //! The library's version.
 ghost use Rattle.std.specs.Prelude.{◌≡◌};
-ghost use Rattle.cml_c.specs.Prelude.{number_of_version};
+ghost use Rattle.cml_c.specs.{number_of_version};
 
 /// The version as one number. The header has it as `SERYUGO_VERSION` and `SERYUGO_VERSION_NUMBER`.
 const VERSION: u32 = 256;

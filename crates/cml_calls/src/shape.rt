@@ -1,6 +1,6 @@
 //! What a row of the table says of a call.
 ghost use Rattle.std.specs.Prelude.{◌≡◌};
-ghost use Rattle.cml_calls.specs.Prelude.{admits};
+ghost use Rattle.cml_calls.specs.{admits};
 
 use crate::kind::Kind;
 

@@ -1,7 +1,7 @@
 //! The table itself, by what a call needs: nothing, an object and a message, or an object alone.
 ghost use Rattle.std.specs.Prelude.{◌≡◌, ◌==◌, true, false};
 ghost use Rattle.std.specs.Str.{bytes_eq};
-ghost use Rattle.cml_calls.specs.Prelude.{shown, row, made, filled, given, asked, make_of, give_of, ask_of, make_at, give_at, ask_at};
+ghost use Rattle.cml_calls.specs.{shown, row, made, filled, given, asked, make_of, give_of, ask_of, make_at, give_at, ask_at};
 
 use crate::shape::{ReplyKind, Shape, Takers};
 

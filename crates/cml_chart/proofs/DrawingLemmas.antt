@@ -1,9 +1,9 @@
 -- What was read and drawn.
 use Rattle.std.proofs.Common.{◌≡◌, ℕ, ◌≤◌, inl, inr, List, length, Option, sym, ap, ◌∙◌, arith, if◌then◌else◌}
 use Rattle.std.proofs.lemmas.Bool.{lt-ltb}
-use Rattle.cml_grammar.specs.Prelude.{Lines, parts_of}
+use Rattle.cml_grammar.specs.{Lines, parts_of}
 use Rattle.cml_chart.specs.declared.report.faults.What.TheVariants as what
-use Rattle.cml_chart.specs.Prelude.{Report, told, wrong_at, told_from, nothing_yet, shown_report, Course, IsCourse, IsRead, IsDrawnOf}
+use Rattle.cml_chart.specs.{Report, told, wrong_at, told_from, nothing_yet, shown_report, Course, IsCourse, IsRead, IsDrawnOf}
 
 -- too long a text is no report
 too_long : (text : List ℕ) (r : Report) → told text ≡ shown_report r → 33554433 ≤ length text → ⊥

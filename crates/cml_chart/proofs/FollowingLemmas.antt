@@ -5,7 +5,7 @@ use Rattle.std.specs.List.{filter_map, cons_option}
 use Rattle.std.specs.Option.{option_to_list}
 use Rattle.std.proofs.lemmas.List.{append-nil, append_assoc}
 use Rattle.std.proofs.lemmas.Option.{same_Some, none-some, slice_get-get_or}
-use Rattle.cml_chart.specs.Prelude.{Thing, texts, strange_thing}
+use Rattle.cml_chart.specs.{Thing, texts, strange_thing}
 use denote.Ref.{Bor}
 use Rattle.cml_chart.specs.Plan.{Made}
 

@@ -9,9 +9,9 @@ use Rattle.std.specs.String.{string_eq}
 use Rattle.std.proofs.lemmas.List.{map-append}
 use Rattle.std.proofs.lemmas.List.Splits.{join_with_byte-slice_split}
 use Rattle.indexmap.specs.IndexSet.{insert_key}
-use Rattle.cml_grammar.specs.Prelude.{words_of}
+use Rattle.cml_grammar.specs.{words_of}
 use Rattle.cml_grammar.proofs.ListLemmas.{position-cons}
-use Rattle.cml_chart.specs.Prelude.{names_of, is_among, with_name, column_of}
+use Rattle.cml_chart.specs.{names_of, is_among, with_name, column_of}
 
 pub among_texts : (keys : List (String Global)) (word : List ℕ)
     → list_any (λ k. bytes_eq word (string_bytes k)) keys ≡ is_among (names_of keys) word

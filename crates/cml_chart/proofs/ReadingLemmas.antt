@@ -1,8 +1,8 @@
 -- One line more of a text, whether it fits or not.
 use Rattle.std.proofs.Common.{◌≡◌, ℕ, ◌+◌, ◌⊎◌, inl, inr, List, ◌∷◌, Ok, Err, sym, ap, ◌∙◌}
-use Rattle.cml_grammar.specs.Prelude.{parts_of}
+use Rattle.cml_grammar.specs.{parts_of}
 use Rattle.cml_grammar.proofs.LinesLemmas.{some_part}
-use Rattle.cml_chart.specs.Prelude.{What, SoFar, Told, told_by, told_from, with_text, wrong_at}
+use Rattle.cml_chart.specs.{What, SoFar, Told, told_by, told_from, with_text, wrong_at}
 use Rattle.cml_chart.specs.declared.report.faults.What.TheVariants.{Memory}
 
 -- what a text is, by its first line

@@ -5,7 +5,7 @@ use Rattle.std.proofs.lemmas.Str.Pattern.{strip_suffix_char}
 use Rattle.std.specs.Str.Pattern.{FindsCharSuffix, StripsSuffix}
 use Rattle.std.specs.Option.{option_map, MatchOption}
 use denote.Ref.{Bor}
-use Rattle.cml_chart.specs.Prelude.{before_colon}
+use Rattle.cml_chart.specs.{before_colon}
 
 with_colon : (front : List ℕ) → before_colon (front ++ 58 ∷ []) ≡ Some front
 with_colon [] = refl

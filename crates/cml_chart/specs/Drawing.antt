@@ -1,7 +1,7 @@
 -- What the drawing of a report reads and writes, by how it ends.
 use Rattle.std.specs.Prelude.{ℕ, ◌+◌, ◌-◌, ◌^◌, ◌⊎◌, min, List, ◌≡◌, Option, Some, unwrap_or, ⊤}
 use Rattle.std.specs.Io.KnownBytes.{Consumes, IsAtEnd, Appends, Keeps}
-use Rattle.cml_grammar.specs.Prelude.{IsReadUpTo, Fault as ScriptFault, fault_of, Lines, IsScript}
+use Rattle.cml_grammar.specs.{IsReadUpTo, Fault as ScriptFault, fault_of, Lines, IsScript}
 use Rattle.cml_chart.specs.declared.report.faults.Fault.{Fault}
 use Rattle.cml_chart.specs.Lines.{Deed, Thing, Ended}
 use Rattle.cml_chart.specs.Shown.{shown_report}

@@ -3,7 +3,7 @@ use Rattle.std.specs.Prelude.{ℕ, Bool, true, false}
 use Rattle.cml_chart.specs.declared.report.faults.What.{What}
 use Rattle.cml_chart.specs.declared.report.faults.What.TheVariants as what
 use Rattle.cml_chart.specs.declared.report.faults.Fault.{Fault}
-use Rattle.cml_grammar.specs.Prelude.{What as WrongScript, Fault as ScriptFault}
+use Rattle.cml_grammar.specs.{What as WrongScript, Fault as ScriptFault}
 use Rattle.cml_grammar.specs.declared.fault.What.TheVariants as wrong
 use Rattle.cml_chart.specs.declared.ending.Ending.{Ending}
 use Rattle.cml_chart.specs.declared.ending.Ending.TheVariants as ending

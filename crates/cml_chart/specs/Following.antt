@@ -4,7 +4,7 @@ use Rattle.std.specs.Prelude.{None, Result, Ok, Err, if◌then◌else◌}
 use Rattle.std.specs.Option.{option_map_or}
 use Rattle.std.specs.Str.{bytes_eq}
 use Rattle.std.specs.Str.Parse.{digits_value}
-use Rattle.cml_grammar.specs.Prelude.{is_number, Lines}
+use Rattle.cml_grammar.specs.{is_number, Lines}
 use Rattle.cml_chart.specs.declared.report.faults.What.TheVariants.{OtherScript}
 use Rattle.cml_chart.specs.declared.report.faults.Fault.{Fault}
 use Rattle.cml_chart.specs.declared.report.Report.{Report}

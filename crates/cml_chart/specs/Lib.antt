@@ -9,4 +9,22 @@ pub mod Following
 pub mod CommandLine
 pub mod Drawing
 pub mod Endings
-pub mod Prelude
+-- the names that others import from here
+pub use Lines.{Thing, before_colon, behind_step, deed_by, deed_of, doer_of, ended_of, fits, is_closing, is_for, is_message, line_by}
+pub use Lines.{makes_port, may_answer, may_do, may_leave, object_of, row_of, says, thing_of}
+pub use Reading.{IsFaultOf, SoFar, Told, nothing_yet, told, told_at_end, told_by, told_from, with_line, with_text, wrong, wrong_at}
+pub use Shown.{line_count, shown_act, shown_actor, shown_end, shown_line, shown_object, shown_report, so_far, texts}
+pub use Threads.{advanced, perform, shown_thread, shown_threads, stands_at, tells}
+pub use Columns.{column_of, doer_in, doer_text, each_once, is_among, name_in, names_of, taken_from, with_name}
+pub use Chart.{IsChart, arrow_of, chart_fault, joined, shown_row, titles_of, unknown_from}
+pub use Plan.{IsPlan, begins, declared_in, feed_in, feeds_in, is_apart, made_at, object_in, objects_in, own_in, own_steps, port_in}
+pub use Plan.{shown_made, target_in, targets_in, thread_in, threads_in}
+pub use Following.{IsCourse, deeds_of, follow, is_made, lines_fault, pass, strange_thing, things_of, threads_behind}
+pub use CommandLine.{IsAsked, IsFlag, IsRow, TellsNumber, drawing_usage, faults_of, numbered_rule, options_in, script_rule, text_rule}
+pub use CommandLine.{usage}
+pub use Drawing.{Draws, DrawsGiven, EndsUndrawn, EndsUnread, IsDrawnOf, IsGiven, IsRead, bounds_of}
+pub use Endings.{ending_of_fault, ending_of_script_fault, is_shown, status}
+pub use declared.chart.Course.{Course}
+pub use declared.report.Report.{Report}
+pub use declared.report.faults.Fault.{Fault}
+pub use declared.report.faults.What.{What}

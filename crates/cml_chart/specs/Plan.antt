@@ -4,7 +4,7 @@ use Rattle.std.specs.Prelude.{Option, Some, None, is_some, codes, if◌then◌el
 use Rattle.std.specs.List.{join_with_byte}
 use Rattle.std.specs.Option.{option_map, option_map_or, option_and_then}
 use Rattle.std.specs.Str.{bytes_eq}
-use Rattle.cml_grammar.specs.Prelude.{Action, verb_of, Named, SourceLine, Lines, names_of as given_by, action_of, seat_of_step, capacity_of}
+use Rattle.cml_grammar.specs.{Action, verb_of, Named, SourceLine, Lines, names_of as given_by, action_of, seat_of_step, capacity_of}
 use Rattle.cml_grammar.specs.declared.forms.Action.TheVariants.{Give, Ask}
 use Rattle.cml_grammar.specs.declared.names.Named.TheVariants as called
 use Rattle.cml_chart.specs.Lines.{Words, makes_port}

@@ -3,7 +3,7 @@ use Rattle.std.specs.Prelude.{ℕ, ◌+◌, ◌≡◌, ◌⊎◌, ◌||◌, not,
 use Rattle.std.specs.Prelude.{is_some, Result, Ok, Err, if◌then◌else◌}
 use Rattle.std.specs.Option.{option_map_or}
 use Rattle.std.specs.List.{list_any}
-use Rattle.cml_grammar.specs.Prelude.{parts_of, is_bad_byte}
+use Rattle.cml_grammar.specs.{parts_of, is_bad_byte}
 use Rattle.cml_chart.specs.declared.report.faults.What.{What}
 use Rattle.cml_chart.specs.declared.report.faults.What.TheVariants.{NoLineEnd, BadBytes, NoReportLine, OutOfPlace, NoEndLine}
 use Rattle.cml_chart.specs.declared.report.faults.What.TheVariants.{TooLong, Memory}

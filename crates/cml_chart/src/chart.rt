@@ -3,9 +3,9 @@ ghost use Rattle.std.specs.Prelude.{◌≡◌, ◌⊎◌, ◌+◌, ◌++◌, ◌
 ghost use Rattle.std.specs.Prelude.{OnOk, MatchOption, Some, None};
 ghost use Rattle.std.specs.Option.{option_map};
 ghost use Rattle.cml_chart.specs.declared.report.faults.What.TheVariants.{Memory, NameTaken, UnknownName};
-ghost use Rattle.cml_chart.specs.Prelude.{shown_actor, shown_act, shown_object, shown_threads, doer_text, names_of, with_name, each_once};
-ghost use Rattle.cml_chart.specs.Prelude.{name_in, doer_in, is_among, taken_from, column_of, deeds_of, things_of, IsCourse, lines_fault};
-ghost use Rattle.cml_chart.specs.Prelude.{titles_of, joined, arrow_of, unknown_from, chart_fault, shown_row, IsChart};
+ghost use Rattle.cml_chart.specs.{shown_actor, shown_act, shown_object, shown_threads, doer_text, names_of, with_name, each_once, name_in};
+ghost use Rattle.cml_chart.specs.{doer_in, is_among, taken_from, column_of, deeds_of, things_of, IsCourse, lines_fault, titles_of, joined};
+ghost use Rattle.cml_chart.specs.{arrow_of, unknown_from, chart_fault, shown_row, IsChart};
 
 use crate::following::{Thread, threads_behind};
 use crate::report::{Act, Actor, Fault, Object, Report, What};

@@ -1,7 +1,7 @@
 //! The words of the command line, by `clap`, which also writes the help.
 ghost use Rattle.std.specs.Prelude.{◌≡◌, map, codes, IfOk, false};
 ghost use Rattle.clap.specs.Words.{app_of, found_of, new_app, FailsBy, rows_of, rule_of};
-ghost use Rattle.cml_chart.specs.Prelude.{drawing_usage, usage, faults_of, options_in, text_rule, numbered_rule, script_rule, IsAsked};
+ghost use Rattle.cml_chart.specs.{drawing_usage, usage, faults_of, options_in, text_rule, numbered_rule, script_rule, IsAsked};
 
 use clap::{Arg, ArgAction, ArgMatches, Command, Error, value_parser};
 use std::alloc::{AllocError, Global};

@@ -2,7 +2,7 @@
 ghost use Rattle.std.specs.Prelude.{◌≡◌, ◌⊎◌, ◌≤◌, IfOk, IfErr, OnOk};
 ghost use Rattle.cml_chart.specs.declared.ending.Ending.TheVariants as ending;
 ghost use Rattle.std.specs.Option.{option_map};
-ghost use Rattle.cml_chart.specs.Prelude.{bounds_of, Draws, DrawsGiven, IsDrawnOf, IsGiven, EndsUndrawn, EndsUnread, IsRead};
+ghost use Rattle.cml_chart.specs.{bounds_of, Draws, DrawsGiven, IsDrawnOf, IsGiven, EndsUndrawn, EndsUnread, IsRead};
 
 use crate::chart::{Course, course_of};
 use crate::command_line::Order;

@@ -1,7 +1,7 @@
 //! How the drawing of a report ends.
 ghost use Rattle.std.specs.Prelude.{◌≡◌};
 ghost use Rattle.cml_chart.specs.declared.ending.Ending.TheVariants as ending;
-ghost use Rattle.cml_chart.specs.Prelude.{ending_of_fault, ending_of_script_fault, is_shown, status};
+ghost use Rattle.cml_chart.specs.{ending_of_fault, ending_of_script_fault, is_shown, status};
 
 use crate::report::{Fault, What};
 use std::alloc::AllocError;

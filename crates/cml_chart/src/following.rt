@@ -2,9 +2,8 @@
 ghost use Rattle.std.specs.Prelude.{◌≡◌, ◌⊎◌, ◌≤◌, ◌+◌, length, map, IfOk, IfErr, OnOk, Ok, Err, Some, None, true, false, MatchOption};
 ghost use Rattle.std.specs.Option.{option_map};
 ghost use Rattle.cml_chart.specs.declared.report.faults.What.TheVariants.{Memory, OtherScript};
-ghost use Rattle.cml_chart.specs.Prelude.{texts, shown_act, shown_object, shown_actor, names_of, shown_thread, shown_threads, stands_at};
-ghost use Rattle.cml_chart.specs.Prelude.{tells, advanced, perform, shown_made, is_made, pass, follow, strange_thing, deeds_of, things_of};
-ghost use Rattle.cml_chart.specs.Prelude.{threads_behind};
+ghost use Rattle.cml_chart.specs.{texts, shown_act, shown_object, shown_actor, names_of, shown_thread, shown_threads, stands_at, tells};
+ghost use Rattle.cml_chart.specs.{advanced, perform, shown_made, is_made, pass, follow, strange_thing, deeds_of, things_of, threads_behind};
 ghost use Rattle.cml_chart.specs.Following.{is_feed};
 
 use crate::chart::is_among;

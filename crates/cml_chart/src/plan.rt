@@ -1,9 +1,9 @@
 //! What a script says of its reports.
 ghost use Rattle.std.specs.Prelude.{◌≡◌, ◌++◌, [], map, filter_map, slice_get, IfOk, OnOk, false};
 ghost use Rattle.std.specs.Option.{option_map, option_map_or, option_and_then, option_to_list};
-ghost use Rattle.cml_grammar.specs.Prelude.{names_of as given_by, source_of, ReadsStep};
-ghost use Rattle.cml_chart.specs.Prelude.{texts, names_of, shown_threads, made_at, declared_in, port_in, feed_in, object_in, objects_in};
-ghost use Rattle.cml_chart.specs.Prelude.{targets_in, thread_in, threads_in, is_apart, begins, own_in, own_steps, shown_made, IsPlan};
+ghost use Rattle.cml_grammar.specs.{names_of as given_by, source_of, ReadsStep};
+ghost use Rattle.cml_chart.specs.{texts, names_of, shown_threads, made_at, declared_in, port_in, feed_in, object_in, objects_in};
+ghost use Rattle.cml_chart.specs.{targets_in, thread_in, threads_in, is_apart, begins, own_in, own_steps, shown_made, IsPlan};
 ghost use Rattle.cml_chart.specs.Plan.{is_feed};
 
 use crate::chart::{Added, add_name};

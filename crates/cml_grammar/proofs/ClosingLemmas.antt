@@ -5,10 +5,9 @@ use Rattle.std.proofs.Common.{false}
 use Rattle.std.specs.Global.{Global}
 use Rattle.std.specs.String.{string_eq}
 use Rattle.indexmap.specs.IndexMap.{insert_entry}
-use Rattle.cml_grammar.specs.Prelude.{Named, Declares, Verb, Declaration, Lane, Step, words_of, is_given, declaration, step}
-use Rattle.cml_grammar.specs.Prelude.{declared_places, step_places, fresh_word, owner_of, named_by, Ends, after_words, given_as, Lines}
-use Rattle.cml_grammar.specs.Prelude.{scope_of, names_of, makes_by, action_by, view_of, texts_of, UsesWell, IsMadeWell, IsReadSoFar}
-use Rattle.cml_grammar.specs.Prelude.{threads_by}
+use Rattle.cml_grammar.specs.{Named, Declares, Verb, Declaration, Lane, Step, words_of, is_given, declaration, step, declared_places}
+use Rattle.cml_grammar.specs.{step_places, fresh_word, owner_of, named_by, Ends, after_words, given_as, Lines, scope_of, names_of, makes_by}
+use Rattle.cml_grammar.specs.{action_by, view_of, texts_of, UsesWell, IsMadeWell, IsReadSoFar, threads_by}
 use Rattle.cml_grammar.specs.declared.names.Named.TheVariants as called
 use Rattle.cml_grammar.specs.declared.names.Users.TheVariants as users
 use Rattle.cml_grammar.proofs.NameLemmas.{Names, inserted_texts}

@@ -11,8 +11,8 @@ use Rattle.std.proofs.lemmas.List.{map-append}
 use Rattle.std.proofs.lemmas.List.Elements.{All-push}
 use Rattle.indexmap.specs.IndexMap.{IndexMap, insert_entry}
 use Rattle.indexmap.proofs.CallerLemmas.{insert_entry-new}
-use Rattle.cml_grammar.specs.Prelude.{Named, Declaration, Lane, Step, words_of, lane, Ends, after_words, are_same, Lines, scope_of}
-use Rattle.cml_grammar.specs.Prelude.{names_of, lane_by, lane_of, view_of, texts_of, ReadsLane, capacities_of, IsReadSoFar}
+use Rattle.cml_grammar.specs.{Named, Declaration, Lane, Step, words_of, lane, Ends, after_words, are_same, Lines, scope_of, names_of}
+use Rattle.cml_grammar.specs.{lane_by, lane_of, view_of, texts_of, ReadsLane, capacities_of, IsReadSoFar}
 use Rattle.cml_grammar.proofs.FormLemmas.{line_by}
 use Rattle.cml_grammar.proofs.GrowingLemmas.{ends_said, ends_kept}
 use Rattle.cml_grammar.proofs.SuitingLemmas.{said_well}

@@ -2,8 +2,8 @@
 use Rattle.std.proofs.Common.{◌≡◌, ℕ, Bool, true, false, List, [], ◌∷◌, Option, Some, None, if◌then◌else◌, refl, subst}
 use Rattle.std.specs.Prelude.{⊤}
 use Rattle.std.specs.Option.{option_map_or}
-use Rattle.cml_grammar.specs.Prelude.{Declares, Verb, Given, seat_of, unknown, no_step, declaration, lane, step, form_of, step_form}
-use Rattle.cml_grammar.specs.Prelude.{declares_of, is_lane_word, verb_of}
+use Rattle.cml_grammar.specs.{Declares, Verb, Given, seat_of, unknown, no_step, declaration, lane, step, form_of, step_form, declares_of}
+use Rattle.cml_grammar.specs.{is_lane_word, verb_of}
 use Rattle.cml_grammar.specs.Forms.{Form}
 
 -- what the words of a line of this form are

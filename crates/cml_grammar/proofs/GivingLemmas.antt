@@ -5,8 +5,8 @@ use Rattle.std.proofs.lemmas.List.{append-nil, length-append, take-append-le}
 use Rattle.std.proofs.lemmas.List.Sums.{sum_by_push}
 use Rattle.std.proofs.lemmas.Option.{none-some, slice_get_within}
 use Rattle.std.proofs.Math.Seq.{take-append_seam}
-use Rattle.cml_grammar.specs.Prelude.{Named, Given, given_as, SourceLine, seat_of_step, declared_word, asked_word, is_giving, names_before}
-use Rattle.cml_grammar.specs.Prelude.{GivesPort, GivesDeclared, IsGivenAt, NamesAreGiven}
+use Rattle.cml_grammar.specs.{Named, Given, given_as, SourceLine, seat_of_step, declared_word, asked_word, is_giving, names_before}
+use Rattle.cml_grammar.specs.{GivesPort, GivesDeclared, IsGivenAt, NamesAreGiven}
 use Rattle.cml_grammar.specs.declared.names.Named.TheVariants as called
 use Rattle.cml_grammar.specs.declared.names.Users.TheVariants as users
 use Rattle.cml_grammar.proofs.ListLemmas.{slice_get-append, slice_get-push, slice_get-push-cases, each-push}

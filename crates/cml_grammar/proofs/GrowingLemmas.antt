@@ -7,13 +7,13 @@ use Rattle.std.specs.Str.Parse.{digits_value}
 use Rattle.std.proofs.lemmas.List.Elements.{All-head, All-tail, All-weaker}
 use Rattle.std.proofs.lemmas.List.Sums.{sum_by-append}
 use Rattle.std.proofs.lemmas.Option.{none-some}
-use Rattle.cml_calls.specs.Prelude.{Takers, Ask, given, asked, names_one}
-use Rattle.cml_grammar.specs.Prelude.{Declares, Makes, Verb, Action, Place, Declaration, Lane, Step, words_of, Given, is_called}
-use Rattle.cml_grammar.specs.Prelude.{position_of, named, seat_in, seat_of, thread_count, declares_of, verb_of, is_poll, asked_place}
-use Rattle.cml_grammar.specs.Prelude.{step_places, fresh_word, IsSuitedAt, Ends, ends_by, are_same, SourceLine, ends_of, all_ends, feed_by}
-use Rattle.cml_grammar.specs.Prelude.{makes_by, makes_of, asked_by, action_by, action_of, seat_of_step, Laid, lane_by, lane_of, capacity_of}
-use Rattle.cml_grammar.specs.Prelude.{source_of, IsMailboxAt, IsChannelAt, IsTargetAt, IsSeat, GivesAt, GivesNames, IsMadeWell}
-use Rattle.cml_grammar.specs.Prelude.{ReadsDeclaration, ReadsLane, ReadsStep, UsesWell, capacities_of, used_by, gives_name}
+use Rattle.cml_calls.specs.{Takers, Ask, given, asked, names_one}
+use Rattle.cml_grammar.specs.{Declares, Makes, Verb, Action, Place, Declaration, Lane, Step, words_of, Given, is_called, position_of, named}
+use Rattle.cml_grammar.specs.{seat_in, seat_of, thread_count, declares_of, verb_of, is_poll, asked_place, step_places, fresh_word}
+use Rattle.cml_grammar.specs.{IsSuitedAt, Ends, ends_by, are_same, SourceLine, ends_of, all_ends, feed_by, makes_by, makes_of, asked_by}
+use Rattle.cml_grammar.specs.{action_by, action_of, seat_of_step, Laid, lane_by, lane_of, capacity_of, source_of, IsMailboxAt, IsChannelAt}
+use Rattle.cml_grammar.specs.{IsTargetAt, IsSeat, GivesAt, GivesNames, IsMadeWell, ReadsDeclaration, ReadsLane, ReadsStep, UsesWell}
+use Rattle.cml_grammar.specs.{capacities_of, used_by, gives_name}
 use Rattle.cml_grammar.specs.declared.forms.Declares.TheVariants as declares
 use Rattle.cml_grammar.specs.declared.forms.Makes.TheVariants as makes
 use Rattle.cml_grammar.specs.declared.forms.Verb.TheVariants as verb

@@ -13,15 +13,15 @@ use Rattle.std.proofs.lemmas.List.{append-nil, length-append, length-map, map-ap
 use Rattle.std.proofs.lemmas.List.Sums.{sum_by_push}
 use Rattle.std.proofs.lemmas.List.Elements.{All-nil, All-push, All-weaker}
 use Rattle.std.proofs.lemmas.Option.{none-some, same_Some, slice_get_within, option_and_then_some}
-use Rattle.cml_calls.specs.Prelude.{Takers, asked}
-use Rattle.cml_grammar.specs.Prelude.{Named, Users, Declares, Verb, Action, Makes, Declaration, FeedMaking, Lane, Step, words_of, Given}
-use Rattle.cml_grammar.specs.Prelude.{thread_count, seat_in, seat_of, named, position_of, declaration, step, declared_places, fresh_word}
-use Rattle.cml_grammar.specs.Prelude.{owner_of, named_by, is_poll, step_places, is_used, is_others, Scope, Ends, fault_in_words}
-use Rattle.cml_grammar.specs.Prelude.{after_words, gives, given_as, is_step, declares_thread, any_word, is_not_yours, SourceLine, scope_of}
-use Rattle.cml_grammar.specs.Prelude.{names_of, feed_by, makes_by, makes_of, action_by, action_of, seat_of_step, source_of, view_of}
-use Rattle.cml_grammar.specs.Prelude.{texts_of, IsSeatedWithin, IsSeat, GivesAt, Gives, GivesNames, IsMadeWell, ReadsDeclaration, ReadsLane}
-use Rattle.cml_grammar.specs.Prelude.{ReadsStep, UsesWell, UsesEarlier, MayUse, IsYours, used_by, IsReadSoFar, threads_by, with_words}
-use Rattle.cml_grammar.specs.Prelude.{declared_word, asked_word, is_giving, names_before, NamesAreGiven}
+use Rattle.cml_calls.specs.{Takers, asked}
+use Rattle.cml_grammar.specs.{Named, Users, Declares, Verb, Action, Makes, Declaration, FeedMaking, Lane, Step, words_of, Given}
+use Rattle.cml_grammar.specs.{thread_count, seat_in, seat_of, named, position_of, declaration, step, declared_places, fresh_word, owner_of}
+use Rattle.cml_grammar.specs.{named_by, is_poll, step_places, is_used, is_others, Scope, Ends, fault_in_words, after_words, gives, given_as}
+use Rattle.cml_grammar.specs.{is_step, declares_thread, any_word, is_not_yours, SourceLine, scope_of, names_of, feed_by, makes_by, makes_of}
+use Rattle.cml_grammar.specs.{action_by, action_of, seat_of_step, source_of, view_of, texts_of, IsSeatedWithin, IsSeat, GivesAt, Gives}
+use Rattle.cml_grammar.specs.{GivesNames, IsMadeWell, ReadsDeclaration, ReadsLane, ReadsStep, UsesWell, UsesEarlier, MayUse, IsYours}
+use Rattle.cml_grammar.specs.{used_by, IsReadSoFar, threads_by, with_words, declared_word, asked_word, is_giving, names_before}
+use Rattle.cml_grammar.specs.{NamesAreGiven}
 use Rattle.cml_grammar.specs.declared.names.Named.TheVariants as called
 use Rattle.cml_grammar.specs.declared.names.Users.TheVariants as users
 use Rattle.cml_grammar.specs.declared.forms.Declares.TheVariants as declares

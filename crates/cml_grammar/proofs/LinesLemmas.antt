@@ -4,9 +4,9 @@ use Rattle.std.proofs.Common.{if◌then◌else◌, refl, sym, ap, ◌∙◌, sub
 use Rattle.std.specs.Option.{option_map_or}
 use Rattle.std.specs.List.{onto_first}
 use Rattle.std.proofs.lemmas.List.{append-nil, append_assoc}
-use Rattle.cml_grammar.specs.Prelude.{What, parts_of, words_of, form_of, Scope, start, version_of, says, fault_in, after, at_line, fault_at}
-use Rattle.cml_grammar.specs.Prelude.{fault_from, is_declaration, is_lane, is_step, IsWhat, SourceLine, Lines, source, with_line, Says}
-use Rattle.cml_grammar.specs.Prelude.{scope_of, names_of, with_next, with_words}
+use Rattle.cml_grammar.specs.{What, parts_of, words_of, form_of, Scope, start, version_of, says, fault_in, after, at_line, fault_at}
+use Rattle.cml_grammar.specs.{fault_from, is_declaration, is_lane, is_step, IsWhat, SourceLine, Lines, source, with_line, Says, scope_of}
+use Rattle.cml_grammar.specs.{names_of, with_next, with_words}
 use Rattle.cml_grammar.specs.declared.fault.What.TheVariants.{Memory}
 use Rattle.cml_grammar.specs.Forms.{Form}
 

@@ -1,13 +1,13 @@
 -- What the words of a line mean where each suits its place.
 use Rattle.std.proofs.Common.{◌≡◌, ℕ, ◌==◌, true, false, if◌then◌else◌, List, [], ◌∷◌, map, length, slice_get, Option, Some}
 use Rattle.std.proofs.Common.{refl, sym, ap, ◌∙◌, subst, Bor, inl, inr, true≢false, arith}
-use Rattle.cml_messages.specs.Prelude.{is_text}
+use Rattle.cml_messages.specs.{is_text}
 use Rattle.std.specs.Option.{option_map}
 use Rattle.std.specs.List.{find, zip}
 use Rattle.std.proofs.lemmas.Bool.{ne_eqb}
 use Rattle.cml_calls.specs.declared.shape.Takers.TheVariants.{Channels}
-use Rattle.cml_grammar.specs.Prelude.{Named, Verb, Place, Given, declared_places, step_places, suits, is_fresh, fresh_word, makes_by}
-use Rattle.cml_grammar.specs.Prelude.{IsChannelAt, IsTargetAt, IsSuitedAt, AllSuit}
+use Rattle.cml_grammar.specs.{Named, Verb, Place, Given, declared_places, step_places, suits, is_fresh, fresh_word, makes_by, IsChannelAt}
+use Rattle.cml_grammar.specs.{IsTargetAt, IsSuitedAt, AllSuit}
 use Rattle.cml_grammar.specs.declared.names.Named.TheVariants as called
 use Rattle.cml_grammar.specs.declared.forms.Declares.TheVariants as declares
 use Rattle.cml_grammar.specs.declared.forms.Makes.TheVariants as makes

@@ -3,7 +3,7 @@ use Rattle.std.proofs.Common.{◌≡◌, ◌≢◌, ℕ, suc, ◌^◌, ◌<◌, 
 use Rattle.std.proofs.Common.{◌∷◌, ◌++◌, length, slice_get, position, Option, Some, None, is_some, Result, Ok, Err, refl, sym, ap}
 use Rattle.std.proofs.Common.{◌∙◌, arith, get_or, eq-eqb, if◌then◌else◌, String, string_bytes, true≢false}
 use Rattle.std.proofs.Common.{◌⊎◌, inl, inr, subst}
-use Rattle.cml_messages.specs.Prelude.{is_text}
+use Rattle.cml_messages.specs.{is_text}
 use Rattle.cml_messages.proofs.TextLemmas.{number_is_text}
 use Rattle.std.specs.Fmt.{decimal}
 use Rattle.std.proofs.lemmas.Fmt.{decimal-digits_value, digits_decimal, digits_value-decimal, decimal_nonempty}
@@ -26,8 +26,8 @@ use Rattle.std.proofs.lemmas.List.{map-append}
 use Rattle.indexmap.specs.IndexMap.{IndexMap, insert_entry}
 use Rattle.indexmap.proofs.CallerLemmas.{insert_entry-new}
 use Rattle.indexmap.proofs.MapLemmas.{some_index}
-use Rattle.cml_grammar.specs.Prelude.{Named, Given, is_letter, is_name_byte, is_reserved, is_name, is_number, is_called, position_of, named}
-use Rattle.cml_grammar.specs.Prelude.{is_given, texts_of}
+use Rattle.cml_grammar.specs.{Named, Given, is_letter, is_name_byte, is_reserved, is_name, is_number, is_called, position_of, named}
+use Rattle.cml_grammar.specs.{is_given, texts_of}
 use Rattle.cml_grammar.proofs.ListLemmas.{position-cons}
 
 -- the entries of a map of names, and the map

@@ -6,11 +6,10 @@ use Rattle.std.specs.Global.{Global}
 use Rattle.std.specs.List.{list_any, onto_first}
 use Rattle.std.proofs.lemmas.List.{append-nil, length-map, map-append}
 use Rattle.cml_grammar.specs.declared.fault.What.TheVariants.{BadBytes, BadHeader}
-use Rattle.cml_grammar.specs.Prelude.{Named, Line, Declaration, Lane, Step, parts_of, words_of, is_bad_byte, is_name, unknown, declaration}
-use Rattle.cml_grammar.specs.Prelude.{lane, no_step, step, form_of, step_places, fresh_word, owner_of, named_by, Scope, version_of, says}
-use Rattle.cml_grammar.specs.Prelude.{fault_in, fault_in_words, is_bad_header, after, after_words, given_as, Lines, source, IsScript}
-use Rattle.cml_grammar.specs.Prelude.{scope_of, names_of, source_of, view_of, texts_of, threads_by, capacities_of, IsReadSoFar, IsReading}
-use Rattle.cml_grammar.specs.Prelude.{with_words, with_next}
+use Rattle.cml_grammar.specs.{Named, Line, Declaration, Lane, Step, parts_of, words_of, is_bad_byte, is_name, unknown, declaration, lane}
+use Rattle.cml_grammar.specs.{no_step, step, form_of, step_places, fresh_word, owner_of, named_by, Scope, version_of, says, fault_in}
+use Rattle.cml_grammar.specs.{fault_in_words, is_bad_header, after, after_words, given_as, Lines, source, IsScript, scope_of, names_of}
+use Rattle.cml_grammar.specs.{source_of, view_of, texts_of, threads_by, capacities_of, IsReadSoFar, IsReading, with_words, with_next}
 use Rattle.cml_grammar.specs.declared.names.Named.TheVariants as called
 use Rattle.cml_grammar.specs.declared.names.Users.TheVariants as users
 use Rattle.cml_grammar.specs.Forms.{Form}

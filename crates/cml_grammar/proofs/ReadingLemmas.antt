@@ -6,11 +6,10 @@ use Rattle.std.specs.Result.{OnOk}
 use Rattle.std.proofs.Math.Bool.{or-false}
 use Rattle.std.proofs.lemmas.Bool.{not-false, eqb-true, true≢false}
 use Rattle.std.proofs.lemmas.List.{append-nil, append_assoc, map-append}
-use Rattle.cml_grammar.specs.Prelude.{Declares, Verb, Declaration, Lane, Line, Step, words_of, has_empty_word, Given, unknown, declaration}
-use Rattle.cml_grammar.specs.Prelude.{lane, no_step, step, form_of, places_of, rest_of, Scope, Ends, start, first_of, tests_of_form}
-use Rattle.cml_grammar.specs.Prelude.{fault_in_words, gives, lays, after_words, is_declaration, is_lane, is_step, SourceLine, Lines, source}
-use Rattle.cml_grammar.specs.Prelude.{with_line, scope_after, scope_of, names_of, ends_of, all_ends, source_of, view_of, with_words}
-use Rattle.cml_grammar.specs.Prelude.{AllSuit}
+use Rattle.cml_grammar.specs.{Declares, Verb, Declaration, Lane, Line, Step, words_of, has_empty_word, Given, unknown, declaration, lane}
+use Rattle.cml_grammar.specs.{no_step, step, form_of, places_of, rest_of, Scope, Ends, start, first_of, tests_of_form, fault_in_words}
+use Rattle.cml_grammar.specs.{gives, lays, after_words, is_declaration, is_lane, is_step, SourceLine, Lines, source, with_line, scope_after}
+use Rattle.cml_grammar.specs.{scope_of, names_of, ends_of, all_ends, source_of, view_of, with_words, AllSuit}
 use Rattle.cml_grammar.specs.declared.fault.What.TheVariants.{BadWords}
 use Rattle.cml_grammar.specs.Forms.{Form}
 use Rattle.cml_grammar.proofs.TableLemmas.{Passes, words_pass, all_suit-passes}

@@ -6,10 +6,9 @@ use Rattle.std.specs.List.{find}
 use Rattle.std.specs.Option.{option_map, option_map_or, IfSome}
 use Rattle.std.proofs.lemmas.List.Elements.{All-head, All-tail}
 use Rattle.std.proofs.lemmas.Option.{none-some, same_Some, option_and_then_some}
-use Rattle.cml_grammar.specs.Prelude.{Declares, Makes, Declaration, Lane, words_of, Given, is_capacity, position_of, seat_of, is_given}
-use Rattle.cml_grammar.specs.Prelude.{declares_of, declared_places, lane_places, Ends, are_same, SourceLine, feed_by, makes_by, makes_of}
-use Rattle.cml_grammar.specs.Prelude.{is_feed, declares_feed, makes_feed, source_of, IsCapacity, ReadsDeclaration, ReadsLane, capacities_of}
-use Rattle.cml_grammar.specs.Prelude.{AllSuit}
+use Rattle.cml_grammar.specs.{Declares, Makes, Declaration, Lane, words_of, Given, is_capacity, position_of, seat_of, is_given, declares_of}
+use Rattle.cml_grammar.specs.{declared_places, lane_places, Ends, are_same, SourceLine, feed_by, makes_by, makes_of, is_feed, declares_feed}
+use Rattle.cml_grammar.specs.{makes_feed, source_of, IsCapacity, ReadsDeclaration, ReadsLane, capacities_of, AllSuit}
 use Rattle.cml_grammar.specs.declared.forms.Declares.TheVariants as declares
 use Rattle.cml_grammar.specs.declared.forms.Makes.TheVariants as makes
 use Rattle.cml_grammar.proofs.ListLemmas.{mapped_some}

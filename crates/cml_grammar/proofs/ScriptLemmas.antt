@@ -5,10 +5,9 @@ use Rattle.std.specs.Option.{option_map_or}
 use Rattle.std.proofs.lemmas.Option.{none-some}
 use Rattle.std.proofs.lemmas.Bool.{ne_eqb, eqb-false, le-ltb, ltb-false}
 use Rattle.cml_grammar.specs.declared.fault.What.TheVariants.{Memory, NoLineEnd, BadHeader, TooLong}
-use Rattle.cml_grammar.specs.Prelude.{Fault, parts_of, words_of, form_of, Scope, start, version_of, says, fault_in, after, at_line}
-use Rattle.cml_grammar.specs.Prelude.{fault_at_end, fault_from, fault_of, is_declaration, is_lane, is_step, IsFaultOf, SourceLine, Lines}
-use Rattle.cml_grammar.specs.Prelude.{source, with_line, Says, IsScript, scope_of, ScriptsHaveNoFault, TextsAreOneScript}
-use Rattle.cml_grammar.specs.Prelude.{FaultlessTextsAreScripts}
+use Rattle.cml_grammar.specs.{Fault, parts_of, words_of, form_of, Scope, start, version_of, says, fault_in, after, at_line, fault_at_end}
+use Rattle.cml_grammar.specs.{fault_from, fault_of, is_declaration, is_lane, is_step, IsFaultOf, SourceLine, Lines, source, with_line, Says}
+use Rattle.cml_grammar.specs.{IsScript, scope_of, ScriptsHaveNoFault, TextsAreOneScript, FaultlessTextsAreScripts}
 use Rattle.std.proofs.lemmas.List.Splits.{length-slice_split}
 use Rattle.std.proofs.lemmas.List.Sums.{count_by-le-length}
 use Rattle.cml_grammar.proofs.LinesLemmas.{SaysThese, in_front, no_lines, behind-nothing, parts-some, ReadsOn}

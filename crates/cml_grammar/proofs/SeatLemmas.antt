@@ -3,7 +3,7 @@ use Rattle.std.proofs.Common.{◌≡◌, ℕ, ◌≤◌, true, List, slice_get, 
 use Rattle.std.specs.Option.{option_map, option_and_then}
 use Rattle.std.proofs.lemmas.List.Elements.{All-get_or}
 use Rattle.std.proofs.lemmas.Option.{none-some, same_Some, slice_get_within, get_or_from_slice_get, option_and_then_some}
-use Rattle.cml_grammar.specs.Prelude.{Named, Given, seat_in, seat_of, named, position_of, suits, IsSeatedWithin, IsUsed}
+use Rattle.cml_grammar.specs.{Named, Given, seat_in, seat_of, named, position_of, suits, IsSeatedWithin, IsUsed}
 use Rattle.cml_grammar.specs.declared.names.Named.TheVariants as called
 use Rattle.cml_grammar.specs.declared.forms.Place.TheVariants.{Thread}
 use Rattle.cml_grammar.proofs.ListLemmas.{mapped_some}

@@ -5,12 +5,11 @@ use Rattle.std.specs.Option.{option_map}
 use Rattle.std.specs.Str.Parse.{digits_value}
 use Rattle.std.proofs.lemmas.Bool.{ne_eqb, and_parts, leb-true}
 use Rattle.std.proofs.lemmas.Option.{same_Some, slice_get_within}
-use Rattle.cml_calls.specs.Prelude.{Takers, Ask, given, asked, names_one}
+use Rattle.cml_calls.specs.{Takers, Ask, given, asked, names_one}
 use Rattle.cml_calls.specs.declared.shape.Takers.TheVariants.{Channels}
-use Rattle.cml_grammar.specs.Prelude.{Declares, Makes, FeedMaking, Verb, Place, Action, Given, is_capacity, position_of, seat_of}
-use Rattle.cml_grammar.specs.Prelude.{thread_count, Ends, declared_places, lane_places, is_poll, step_places, fresh_word, makes_by}
-use Rattle.cml_grammar.specs.Prelude.{asked_by, action_by, Laid, lane_by, IsTargetAt, UsesWell, IsSeat, IsCapacity, IsMadeWell}
-use Rattle.cml_grammar.specs.Prelude.{IsSeatedWithin, IsUsed, Suits, AllSuit}
+use Rattle.cml_grammar.specs.{Declares, Makes, FeedMaking, Verb, Place, Action, Given, is_capacity, position_of, seat_of, thread_count}
+use Rattle.cml_grammar.specs.{Ends, declared_places, lane_places, is_poll, step_places, fresh_word, makes_by, asked_by, action_by, Laid}
+use Rattle.cml_grammar.specs.{lane_by, IsTargetAt, UsesWell, IsSeat, IsCapacity, IsMadeWell, IsSeatedWithin, IsUsed, Suits, AllSuit}
 use Rattle.cml_grammar.specs.declared.forms.Declares.TheVariants as declares
 use Rattle.cml_grammar.specs.declared.forms.Makes.TheVariants as makes
 use Rattle.cml_grammar.specs.declared.forms.Verb.TheVariants as verb

@@ -5,10 +5,10 @@ use Rattle.std.specs.List.{list_any, zip}
 use Rattle.std.specs.Option.{option_map, option_map_or}
 use Rattle.std.proofs.lemmas.Bool.{or_parts, not-false, true≢false, eqb-true}
 use Rattle.std.proofs.lemmas.Option.{none-some, same_Some, option_and_then_some}
-use Rattle.cml_grammar.specs.Prelude.{What, Named, Place, Given, thread_count, named, position_of, has_empty_word, form_of, places_of}
-use Rattle.cml_grammar.specs.Prelude.{rest_of, suits, fresh_word, seat_of_form, Scope, first_of, tests_of_form, fault_in_words, any_word}
-use Rattle.cml_grammar.specs.Prelude.{is_unknown, is_late, is_no_step, is_bad_name, is_taken, is_unknown_name, is_wrong_kind, is_not_yours}
-use Rattle.cml_grammar.specs.Prelude.{is_bad_number, is_bad_text, is_lane_taken, declares_thread, IsUsed, Suits, AllSuit}
+use Rattle.cml_grammar.specs.{What, Named, Place, Given, thread_count, named, position_of, has_empty_word, form_of, places_of, rest_of}
+use Rattle.cml_grammar.specs.{suits, fresh_word, seat_of_form, Scope, first_of, tests_of_form, fault_in_words, any_word, is_unknown}
+use Rattle.cml_grammar.specs.{is_late, is_no_step, is_bad_name, is_taken, is_unknown_name, is_wrong_kind, is_not_yours, is_bad_number}
+use Rattle.cml_grammar.specs.{is_bad_text, is_lane_taken, declares_thread, IsUsed, Suits, AllSuit}
 use Rattle.cml_grammar.specs.declared.forms.Place.TheVariants.{Fresh, Message, Capacity}
 use Rattle.cml_grammar.specs.Forms.{Form}
 use Rattle.cml_grammar.proofs.ListLemmas.{mapped_some}

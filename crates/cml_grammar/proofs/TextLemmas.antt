@@ -9,7 +9,7 @@ use Rattle.std.proofs.lemmas.List.Elements.{All-cons, All-weaker}
 use Rattle.std.proofs.lemmas.List.Sums.{AllPass-from_list_all}
 use Rattle.std.proofs.lemmas.Str.{IsUtf8-from_ascii}
 use Rattle.std.proofs.lemmas.Str.Ascii.{IsAscii-from_all}
-use Rattle.cml_grammar.specs.Prelude.{is_letter, is_name_byte, is_name}
+use Rattle.cml_grammar.specs.{is_letter, is_name_byte, is_name}
 
 -- a string of these bytes
 abbrev pub string_from : (bytes : List ℕ) → IsUtf8 bytes → length bytes < 2 ^ 63 → String Global

@@ -4,9 +4,8 @@ use Rattle.std.proofs.Common.{if◌then◌else◌, refl, sym, ap, ◌∙◌, sub
 use Rattle.std.specs.Prelude.{codes}
 use Rattle.std.specs.List.{list_any, zip}
 use Rattle.std.proofs.lemmas.Bool.{or_parts, eq-eqb, not-false}
-use Rattle.cml_grammar.specs.Prelude.{What, Place, parts_of, words_of, is_bad_byte, form_of, places_of, rest_of, Scope, start, says}
-use Rattle.cml_grammar.specs.Prelude.{is_bad_header, fault_in_words, fault_in, after, after_words, is_bad_number, is_bad_text, SourceLine}
-use Rattle.cml_grammar.specs.Prelude.{Says, NumbersAreTexts}
+use Rattle.cml_grammar.specs.{What, Place, parts_of, words_of, is_bad_byte, form_of, places_of, rest_of, Scope, start, says, is_bad_header}
+use Rattle.cml_grammar.specs.{fault_in_words, fault_in, after, after_words, is_bad_number, is_bad_text, SourceLine, Says, NumbersAreTexts}
 use Rattle.cml_grammar.specs.declared.forms.Place.TheVariants.{Message, Capacity}
 use Rattle.cml_grammar.specs.declared.fault.What.TheVariants.{BadBytes, BadHeader}
 use Rattle.cml_grammar.proofs.NameLemmas.{number_word_is_text}

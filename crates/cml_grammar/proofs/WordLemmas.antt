@@ -6,7 +6,7 @@ use Rattle.std.proofs.lemmas.Bool.{or_parts, ltb-false}
 use Rattle.std.proofs.lemmas.List.Elements.{All-nil, All-cons}
 use Rattle.std.proofs.lemmas.Str.{IsUtf8-from_ascii}
 use Rattle.std.proofs.lemmas.Str.Ascii.{IsAscii-from_all}
-use Rattle.cml_grammar.specs.Prelude.{is_bad_byte}
+use Rattle.cml_grammar.specs.{is_bad_byte}
 
 low_bytes : (line : List ℕ) → list_any is_bad_byte line ≡ false → All (λ b. b < 128) line
 low_bytes [] h = All-nil (λ b. b < 128)

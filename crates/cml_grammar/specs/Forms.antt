@@ -4,7 +4,7 @@ use Rattle.std.specs.Option.{option_map, option_map_or, option_or}
 use Rattle.std.specs.List.{find, zip}
 use Rattle.std.specs.Str.{bytes_eq}
 use Rattle.cml_calls.specs.declared.shape.Takers.TheVariants.{Channels}
-use Rattle.cml_calls.specs.Prelude.{Ask, is_source, is_receiver, admits, given, asked, names_one, give_of, ask_of}
+use Rattle.cml_calls.specs.{Ask, is_source, is_receiver, admits, given, asked, names_one, give_of, ask_of}
 use Rattle.cml_calls.specs.declared.table.Ask.TheVariants.{Poll}
 use Rattle.cml_grammar.specs.declared.names.Named.{Named}
 use Rattle.cml_grammar.specs.declared.names.Named.TheVariants as called

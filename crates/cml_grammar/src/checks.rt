@@ -2,8 +2,8 @@
 ghost use Rattle.std.specs.Prelude.{◌≡◌, ◌&&◌, nat_le, false};
 ghost use Rattle.std.specs.Map.{keys_of};
 ghost use Rattle.std.specs.Option.{option_map_or};
-ghost use Rattle.cml_grammar.specs.Prelude.{thread_count, named, suits, is_others, is_late, is_bad_number, is_bad_text, is_lane_taken};
-ghost use Rattle.cml_grammar.specs.Prelude.{declares_thread, first_of, any_word, tests_of_form, has_flaw, texts_of, shown};
+ghost use Rattle.cml_grammar.specs.{thread_count, named, suits, is_others, is_late, is_bad_number, is_bad_text, is_lane_taken};
+ghost use Rattle.cml_grammar.specs.{declares_thread, first_of, any_word, tests_of_form, has_flaw, texts_of, shown};
 
 use crate::fault::What;
 use crate::forms::{Form, Place};

@@ -1,7 +1,7 @@
 //! What is wrong with a script, and on which line.
 ghost use Rattle.std.specs.Prelude.{◌≡◌};
 ghost use Rattle.cml_grammar.specs.declared.fault.What.TheVariants.{Memory};
-ghost use Rattle.cml_grammar.specs.Prelude.{fault_at};
+ghost use Rattle.cml_grammar.specs.{fault_at};
 
 use std::alloc::{AllocError, AllocFailed};
 use std::error::Error;

@@ -1,9 +1,9 @@
 //! The tables of the lines: which words a declaration and a step have, and what is allowed where.
 ghost use Rattle.std.specs.Prelude.{◌≡◌, ◌==◌, not, map, length};
 ghost use Rattle.std.specs.Option.{option_map};
-ghost use Rattle.cml_grammar.specs.Prelude.{seat_of, declares_of, declared_places, lane_places, verb_of, step_places, step_form, form_of};
-ghost use Rattle.cml_grammar.specs.Prelude.{places_of, rest_of, seat_of_form, is_name_place, is_fresh, is_used, suits, fresh_word};
-ghost use Rattle.cml_grammar.specs.Prelude.{is_unknown, is_declaring, is_no_step, declares_thread, texts_of, shown};
+ghost use Rattle.cml_grammar.specs.{seat_of, declares_of, declared_places, lane_places, verb_of, step_places, step_form, form_of};
+ghost use Rattle.cml_grammar.specs.{places_of, rest_of, seat_of_form, is_name_place, is_fresh, is_used, suits, fresh_word, is_unknown};
+ghost use Rattle.cml_grammar.specs.{is_declaring, is_no_step, declares_thread, texts_of, shown};
 
 use crate::names::{Named, seat_of};
 use cml_calls::{Ask, Give, Kind, Takers};

@@ -2,7 +2,7 @@
 ghost use Rattle.std.specs.Prelude.{◌≡◌, ◌<◌, ◌≤◌, ◌++◌, ℕ, List, IfOk, IsTrue, length};
 ghost use Rattle.std.specs.Io.KnownBytes.{Consumes, IsAtEnd};
 ghost use Rattle.cml_grammar.specs.declared.input.Unread.TheVariants.{Memory};
-ghost use Rattle.cml_grammar.specs.Prelude.{IsReadUpTo};
+ghost use Rattle.cml_grammar.specs.{IsReadUpTo};
 
 use std::alloc::{AllocError, Global};
 use std::io::{ErrorKind, Read};

@@ -1,6 +1,6 @@
 //! Laws of the definitions, each the contract of a function that does nothing.
-ghost use Rattle.cml_grammar.specs.Prelude.{ScriptsHaveNoFault, TextsAreOneScript, FaultlessTextsAreScripts, NumbersArePrinted};
-ghost use Rattle.cml_grammar.specs.Prelude.{PrintedNumbersAreRead, WordsMakeLines, NumbersAreTexts};
+ghost use Rattle.cml_grammar.specs.{ScriptsHaveNoFault, TextsAreOneScript, FaultlessTextsAreScripts, NumbersArePrinted};
+ghost use Rattle.cml_grammar.specs.{PrintedNumbersAreRead, WordsMakeLines, NumbersAreTexts};
 
 /// A text that is a script has no fault.
 #[tactic(auto, using(crate::proofs::ScriptLaws::script_without_fault))]

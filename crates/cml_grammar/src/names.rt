@@ -1,8 +1,8 @@
 //! Names and numbers, and look-ups among the names given.
 ghost use Rattle.std.specs.Prelude.{◌≡◌, ◌^◌, ◌<◌, Some, None, if◌then◌else◌};
 ghost use Rattle.std.specs.Str.Parse.{digits_value};
-ghost use Rattle.cml_grammar.specs.Prelude.{kind_of_named, is_letter, is_name_byte, is_reserved, is_name, is_number, is_capacity, named};
-ghost use Rattle.cml_grammar.specs.Prelude.{seat_of, position_of, is_given, is_others, texts_of};
+ghost use Rattle.cml_grammar.specs.{kind_of_named, is_letter, is_name_byte, is_reserved, is_name, is_number, is_capacity, named, seat_of};
+ghost use Rattle.cml_grammar.specs.{position_of, is_given, is_others, texts_of};
 
 use cml_calls::Kind;
 use indexmap::IndexMap;

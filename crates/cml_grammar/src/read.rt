@@ -1,6 +1,6 @@
 //! A text is cut into lines, and read line by line.
 ghost use Rattle.std.specs.Prelude.{◌≡◌, ◌==◌, ◌≤◌, ◌<◌, ◌∷◌, [], position, length, MatchOption, IfOk, IfErr};
-ghost use Rattle.cml_grammar.specs.Prelude.{parts_of, start, version_in, version_of, fault_at_end, IsFaultOf, Says, IsScript};
+ghost use Rattle.cml_grammar.specs.{parts_of, start, version_in, version_of, fault_at_end, IsFaultOf, Says, IsScript};
 
 use crate::fault::{Fault, What};
 use crate::reading::{Reading, version_in};

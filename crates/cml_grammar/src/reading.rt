@@ -1,7 +1,7 @@
 //! The lines of a script so far, and how one more is read.
 ghost use Rattle.std.specs.Prelude.{◌≡◌, ◌+◌, ◌<◌, ◌≤◌, [], length, map, None, OnOk, IfErr};
-ghost use Rattle.cml_grammar.specs.Prelude.{words_of, is_bad_byte, version_in, fault_in, fault_in_words, is_bad_header, says, after};
-ghost use Rattle.cml_grammar.specs.Prelude.{after_words, IsWhat};
+ghost use Rattle.cml_grammar.specs.{words_of, is_bad_byte, version_in, fault_in, fault_in_words, is_bad_header, says, after, after_words};
+ghost use Rattle.cml_grammar.specs.{IsWhat};
 
 use crate::checks::fault_in_form;
 use crate::fault::What;

@@ -1,7 +1,7 @@
 //! A line's bytes, and the words between its spaces.
 ghost use Rattle.std.specs.Prelude.{◌≡◌, map, IfOk};
 ghost use Rattle.std.specs.List.{list_any};
-ghost use Rattle.cml_grammar.specs.Prelude.{words_of, is_bad_byte, is_skipped, has_empty_word};
+ghost use Rattle.cml_grammar.specs.{words_of, is_bad_byte, is_skipped, has_empty_word};
 
 use std::alloc::{AllocError, Global};
 

@@ -3,7 +3,7 @@ use Rattle.std.proofs.Common.{◌≡◌, ℕ, List, [], ◌++◌, reverse, Resul
 use Rattle.std.specs.Bool.{⊤}
 use Rattle.std.specs.Prelude.{is_ok}
 use Rattle.std.proofs.lemmas.List.{append-nil, reverse-reverse}
-use Rattle.cml_board.specs.Prelude.{Entry, Lawful, IsLawfulEverywhere, Checks}
+use Rattle.cml_board.specs.{Entry, Lawful, IsLawfulEverywhere, Checks}
 use Rattle.cml_board.proofs.EverywhereLemmas.{lawful_each}
 
 module _ {M : Type 0} where

@@ -1,7 +1,8 @@
 -- A poll of numbers takes no memory but an entry's.
 use Rattle.std.proofs.Common.{◌≡◌, ℕ, ◌<◌, Bool, true, false, List, [], ◌∷◌, Some, unwrap_or, Result, Err, refl, subst, if◌then◌else◌}
 use Rattle.std.specs.Result.{IsErrAnd}
-use Rattle.cml_board.specs.Prelude.{Name, is_open, owed, received, Shown, tells_name, Refuses}
+use Rattle.cml_board.specs.{Name, is_open, owed, received, tells_name, Refuses}
+use Rattle.cml_board.specs.Shown.{Shown}
 use Rattle.cml_board.specs.declared.call.Call.TheVariants.{Poll}
 use Rattle.cml_board.specs.declared.entry.Reply.TheVariants.{Nothing, Closed}
 use Rattle.cml_board.specs.declared.outcome.Refusal.TheVariants.{NoMemory}

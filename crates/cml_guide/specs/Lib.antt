@@ -1,2 +1,3 @@
 pub mod Blanks
-pub mod Prelude
+-- the names that others import from here
+pub use Blanks.{IsBlankOf}

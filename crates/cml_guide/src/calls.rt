@@ -1,6 +1,6 @@
 //! Calls that must be answered, and the other ways in which they can end.
 ghost use Rattle.std.specs.Prelude.{◌≡◌, IfOk, OnErr, None, Some, unwrap_or};
-ghost use Rattle.cml_board.specs.Prelude.{answer, given, AddsEntry, IsAsBefore, Refuses};
+ghost use Rattle.cml_board.specs.{answer, given, AddsEntry, IsAsBefore, Refuses};
 
 use cml_board::{Answer, Board, BoardLog, Call, Message, Name, Outcome, Refusal, Reply, Who};
 use std::alloc::AllocError;

@@ -1,6 +1,6 @@
 //! How threads end: a call fails in a stall, an answer that was kept is confirmed, and a seat that was dropped is missing.
 ghost use Rattle.std.specs.Prelude.{◌≡◌, ◌+◌, length, IfOk};
-ghost use Rattle.cml_guide.specs.Prelude.{IsBlankOf};
+ghost use Rattle.cml_guide.specs.{IsBlankOf};
 
 use crate::calls::Trouble;
 use crate::examples::wait_in_vain;

@@ -1,7 +1,7 @@
 //! The switchboards of the examples with threads. Each function makes one, lets the example's threads use it, and settles it
 //! once all seats have left. `passing.rt` has one beside its threads.
 ghost use Rattle.std.specs.Prelude.{◌≡◌, ◌+◌, ◌*◌, IfOk};
-ghost use Rattle.cml_guide.specs.Prelude.{IsBlankOf};
+ghost use Rattle.cml_guide.specs.{IsBlankOf};
 
 use crate::calls::Trouble;
 use crate::ending::{Stall, wait_for_nobody};

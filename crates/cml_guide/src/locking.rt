@@ -1,6 +1,6 @@
 //! A lock: a thread that takes the number out of an m-variable has it alone, until it puts one back.
 ghost use Rattle.std.specs.Prelude.{◌≡◌, ◌+◌, ◌*◌, IfOk, OnOk};
-ghost use Rattle.cml_threads.specs.Prelude.{answers_in};
+ghost use Rattle.cml_threads.specs.{answers_in};
 
 use crate::calls::Trouble;
 use crate::examples::count_up;

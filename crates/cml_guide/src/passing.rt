@@ -1,6 +1,6 @@
 //! Two threads: one sends a message, and the other waits for it.
 ghost use Rattle.std.specs.Prelude.{◌≡◌, ◌+◌, ◌^◌, IfOk, OnOk};
-ghost use Rattle.cml_threads.specs.Prelude.{answers_in};
+ghost use Rattle.cml_threads.specs.{answers_in};
 
 use crate::calls::Trouble;
 use crate::threads::{Came, done, got, made, settle, with_both};

@@ -1,6 +1,6 @@
 //! Calls that fail: they change nothing and are returned.
 ghost use Rattle.std.specs.Prelude.{◌≡◌, true, [], ◌∷◌, IfNone, IfOk, IfSome, OnSome};
-ghost use Rattle.cml_board.specs.Prelude.{AddsEntry, Applies, IsAsBefore, Refuses};
+ghost use Rattle.cml_board.specs.{AddsEntry, Applies, IsAsBefore, Refuses};
 
 use crate::calls::{Numbers, SEAT, Trouble, make};
 use cml_board::{Call, Name, Outcome, Refusal, Reply};

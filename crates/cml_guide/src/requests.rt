@@ -1,6 +1,6 @@
 //! Your own type of messages that own memory: sharing one allocates memory too, and may fail.
 ghost use Rattle.std.specs.Prelude.{◌≡◌, false, IfOk, IfErr, OnErr};
-ghost use Rattle.cml_board.specs.Prelude.{IsAsBefore};
+ghost use Rattle.cml_board.specs.{IsAsBefore};
 
 use crate::calls::{BoardOf, SEAT, Trouble, make};
 use crate::passing::pass_on;

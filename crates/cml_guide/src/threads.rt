@@ -1,6 +1,6 @@
 //! What threads that share a board have in common: their switchboard, what they take from a reply, and the end.
 ghost use Rattle.std.specs.Prelude.{◌≡◌, ◌+◌, IfOk, Ok};
-ghost use Rattle.cml_threads.specs.Prelude.{answers_in};
+ghost use Rattle.cml_threads.specs.{answers_in};
 
 use crate::calls::{Trouble, message_of, name_of, nothing_of};
 use cml_board::{Call, Message, Name, Refusal, Reply};

@@ -1,6 +1,6 @@
 //! I-variables, which are filled once, and m-variables, which are emptied and filled again.
 ghost use Rattle.std.specs.Prelude.{◌≡◌, ◌+◌, ◌%◌, ◌^◌, [], ◌∷◌, IfOk, IsTrue, None, Some, option_map};
-ghost use Rattle.cml_board.specs.Prelude.{held};
+ghost use Rattle.cml_board.specs.{held};
 
 use crate::calls::{Numbers, Trouble, ask, fetch, make, perform, poll};
 use cml_board::{Call, Name, Reply};

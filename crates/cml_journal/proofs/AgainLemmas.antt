@@ -11,12 +11,12 @@ use Rattle.std.proofs.lemmas.Bool.{eqb-true, lt-ltb, le-leb}
 use Rattle.std.proofs.lemmas.List.{append-nil}
 use Rattle.std.proofs.lemmas.Fmt.{length-decimal-le}
 use Rattle.std.proofs.lemmas.List.Concat.{flat_map-append}
-use Rattle.cml_board.specs.Prelude.{Entry, Who}
+use Rattle.cml_board.specs.{Entry, Who}
 use Rattle.cml_board.specs.declared.entry.Who.TheVariants.{Seat, Lane, Feed}
-use Rattle.cml_journal.specs.Prelude.{What, Stage, number_of, IsWritten, who_word, who_number, call_text, reply_text, line_of, HasLine}
-use Rattle.cml_journal.specs.Prelude.{◌>>=◌, numbered_line, with_line_end, text_of, from_lines, piece_lines, stream_lines, State, fresh}
-use Rattle.cml_journal.specs.Prelude.{end_of, numbered, Step, headed, begun, entered, ended_by, inside, from_by, behind_header, line_step}
-use Rattle.cml_journal.specs.Prelude.{line_read, most, held_all, turned, behind, reading, IsReadable}
+use Rattle.cml_journal.specs.{What, Stage, number_of, IsWritten, who_word, who_number, call_text, reply_text, line_of, HasLine, ◌>>=◌}
+use Rattle.cml_journal.specs.{numbered_line, with_line_end, text_of, from_lines, piece_lines, stream_lines, State, fresh, end_of, numbered}
+use Rattle.cml_journal.specs.{Step, headed, begun, entered, ended_by, inside, from_by, behind_header, line_step, line_read, most, held_all}
+use Rattle.cml_journal.specs.{turned, behind, reading, IsReadable}
 use Rattle.cml_journal.specs.declared.fault.What.TheVariants.{BadNumber, BadBytes, NoHeader, Gap, WrongEnd, TooMany, TooLong}
 use Rattle.cml_journal.specs.declared.reader.Stage.TheVariants.{Waiting, Headed, Inside}
 use Rattle.cml_journal.specs.NumberLaws.{number_again}

@@ -6,17 +6,18 @@ use Rattle.std.specs.Fmt.{decimal}
 use Rattle.std.specs.Str.{bytes_eq}
 use Rattle.std.specs.List.{list_any}
 use Rattle.std.proofs.lemmas.List.{append-nil}
-use Rattle.cml_calls.specs.Prelude.{Make, Give, Ask, made, filled, given, asked, makes, gives, asks, make_of, give_of, ask_of}
+use Rattle.cml_calls.specs.{Make, Give, Ask, made, filled, given, asked, makes, gives, asks, make_of, give_of, ask_of}
 use Rattle.cml_calls.specs.declared.table.Make.TheVariants as make
 use Rattle.cml_calls.specs.declared.table.Give.TheVariants as give
 use Rattle.cml_calls.specs.declared.table.Ask.TheVariants as ask
-use Rattle.cml_board.specs.Prelude.{Name, Call, Parts, object_among, message_among, row_among, object_in, message_of, row_of, made_call}
-use Rattle.cml_board.specs.Prelude.{given_call, asked_call}
+use Rattle.cml_board.specs.{Name, Call, object_among, message_among, row_among, object_in, message_of, row_of, made_call, given_call}
+use Rattle.cml_board.specs.{asked_call}
+use Rattle.cml_board.specs.declared.parts.Parts.{Parts}
 use Rattle.cml_board.specs.declared.call.Call.TheVariants.{MVarInit}
 use Rattle.cml_board.proofs.PartsLemmas.{made_parts, given_parts, asked_parts, by_row}
-use Rattle.cml_grammar.specs.Prelude.{is_bad_byte}
-use Rattle.cml_journal.specs.Prelude.{What, IsWritten, field, call_text, ◌>>=◌, ok_or, without_colon, word_at, last_at, name_in, made_in}
-use Rattle.cml_journal.specs.Prelude.{given_at, asked_at, filled_at, called_by, called_at, call_by, call_at}
+use Rattle.cml_grammar.specs.{is_bad_byte}
+use Rattle.cml_journal.specs.{What, IsWritten, field, call_text, ◌>>=◌, ok_or, without_colon, word_at, last_at, name_in, made_in, given_at}
+use Rattle.cml_journal.specs.{asked_at, filled_at, called_by, called_at, call_by, call_at}
 use Rattle.cml_journal.specs.declared.fault.What.TheVariants.{UnknownWord, BadMessage}
 use Rattle.cml_journal.proofs.CutWordsLemmas.{has_space, printed_no_space, colon_no_space, colon_again, colon_takes}
 use Rattle.cml_journal.proofs.WordLemmas.{bind_ok, ok_is, some_from_ok, found_passes, same_bytes, word_takes, word_again, last_takes}

@@ -6,11 +6,11 @@ use Rattle.std.specs.Option.{option_to_list}
 use Rattle.std.proofs.lemmas.Bool.{and_parts}
 use Rattle.std.proofs.lemmas.List.{append-nil, reverse-append, length-reverse}
 use Rattle.std.proofs.lemmas.Option.{none-some, same_Some}
-use Rattle.cml_board.specs.Prelude.{Entry, Expected, Lawful, no_entries, RestoredShown, before, Expects, Found, RestoresWith, IsExpected}
-use Rattle.cml_board.specs.Prelude.{IsFirstUnlawful, IsLawfulNext, Pauses, StopsAt, Feeds, count_of, followed_by}
-use Rattle.cml_journal.specs.Prelude.{What, Unread, Halt, Stop, line_of, HasFault, Meets, State, waiting_at, end_of, behind, reading}
-use Rattle.cml_journal.specs.Prelude.{Progress, IsSoFar, Goes, HaltsIn, StopsIn, MayHaltAt, HaltTells, IsTold, IsLawfulJournal, IsRestored}
-use Rattle.cml_journal.specs.Prelude.{IsUnlawfulJournal, ShowsUnlawful, ShowsFault, ShowsFront, halt_of, line_of_last}
+use Rattle.cml_board.specs.{Entry, Expected, Lawful, no_entries, RestoredShown, before, Expects, Found, RestoresWith, IsExpected}
+use Rattle.cml_board.specs.{IsFirstUnlawful, IsLawfulNext, Pauses, StopsAt, Feeds, count_of, followed_by}
+use Rattle.cml_journal.specs.{What, Unread, Halt, Stop, line_of, HasFault, Meets, State, waiting_at, end_of, behind, reading, Progress}
+use Rattle.cml_journal.specs.{IsSoFar, Goes, HaltsIn, StopsIn, MayHaltAt, HaltTells, IsTold, IsLawfulJournal, IsRestored, IsUnlawfulJournal}
+use Rattle.cml_journal.specs.{ShowsUnlawful, ShowsFault, ShowsFront, halt_of, line_of_last}
 use Rattle.cml_journal.specs.declared.fault.Unread.TheVariants as unread
 use Rattle.cml_journal.specs.declared.stop.Halt.TheVariants as halt
 use Rattle.cml_journal.specs.declared.stop.Stop.TheVariants as stop

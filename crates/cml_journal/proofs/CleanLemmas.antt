@@ -6,14 +6,14 @@ use Rattle.std.specs.Fmt.{decimal}
 use Rattle.std.specs.List.{list_any, list_all}
 use Rattle.std.proofs.lemmas.Bool.{and_parts, or_parts, leb-true, lt-ltb, ltb-true, ltb-false, ne_eqb, false_from_ne_true}
 use Rattle.std.proofs.lemmas.List.Folds.{list_any-append}
-use Rattle.cml_board.specs.Prelude.{Name, Call, Entry, Who, Reply, object_in, message_of, row_of}
+use Rattle.cml_board.specs.{Name, Call, Entry, Who, Reply, object_in, message_of, row_of}
 use Rattle.cml_board.specs.declared.entry.Who.TheVariants.{Seat, Lane, Feed}
 use Rattle.cml_board.specs.declared.entry.Reply.TheVariants.{Done, Made, Got, Nothing, Put, Closed}
-use Rattle.cml_messages.specs.Prelude.{is_text_byte}
-use Rattle.cml_grammar.specs.Prelude.{is_bad_byte}
+use Rattle.cml_messages.specs.{is_text_byte}
+use Rattle.cml_grammar.specs.{is_bad_byte}
 use Rattle.cml_journal.specs.NumberLaws.{number_printed}
-use Rattle.cml_journal.specs.Prelude.{IsWritten, who_word, who_number, who_text, field, call_text, reply_text, line_of, ReplyFits, HasLine}
-use Rattle.cml_journal.specs.Prelude.{numbered_line, has_line_end}
+use Rattle.cml_journal.specs.{IsWritten, who_word, who_number, who_text, field, call_text, reply_text, line_of, ReplyFits, HasLine}
+use Rattle.cml_journal.specs.{numbered_line, has_line_end}
 use Rattle.cml_board.proofs.PartsLemmas.{by_row}
 use Rattle.cml_journal.proofs.CallLemmas.{made_word, given_word, asked_word, made_row, given_row, asked_row}
 

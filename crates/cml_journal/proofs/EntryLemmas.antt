@@ -5,10 +5,10 @@ use Rattle.std.specs.Prelude.{codes, IfOk}
 use Rattle.std.specs.Fmt.{decimal}
 use Rattle.std.specs.Str.{bytes_eq}
 use Rattle.std.proofs.lemmas.Option.{none-some}
-use Rattle.cml_board.specs.Prelude.{Name, Call, Entry, Who, Reply, row_of, may_have}
+use Rattle.cml_board.specs.{Name, Call, Entry, Who, Reply, row_of, may_have}
 use Rattle.cml_board.specs.declared.entry.Reply.TheVariants.{Done, Made, Got, Nothing, Put, Closed}
-use Rattle.cml_journal.specs.Prelude.{What, Unread, IsWritten, who_text, call_text, reply_text, line_of, ReplyFits, HasLine, ◌>>=◌, ok_or}
-use Rattle.cml_journal.specs.Prelude.{Gives, cut, name_in, who_at, call_at, made_known, told_by, told_in, reply_in, entry_in}
+use Rattle.cml_journal.specs.{What, Unread, IsWritten, who_text, call_text, reply_text, line_of, ReplyFits, HasLine, ◌>>=◌, ok_or, Gives}
+use Rattle.cml_journal.specs.{cut, name_in, who_at, call_at, made_known, told_by, told_in, reply_in, entry_in}
 use Rattle.cml_journal.specs.declared.fault.What.TheVariants.{UnknownWord, BadMessage, WrongReply}
 use Rattle.cml_journal.proofs.CutWordsLemmas.{cut_again, cut_none, cut_takes, printed_no_space}
 use Rattle.cml_journal.proofs.WordLemmas.{bind_ok, ok_is, some_from_ok, chosen, same_bytes, name_takes, name_again, who_takes, who_again}

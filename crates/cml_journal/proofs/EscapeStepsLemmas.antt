@@ -6,7 +6,7 @@ use Rattle.std.proofs.lemmas.Option.{none-some, cond_some}
 use Rattle.std.proofs.lemmas.Bool.{eqb-true, false_from_ne_true}
 use Rattle.std.proofs.lemmas.List.{append-nil}
 use Rattle.cml_grammar.proofs.ListLemmas.{mapped_some}
-use Rattle.cml_journal.specs.Prelude.{is_plain, escaped, escape_at, byte_at, before, plain, bytes_in}
+use Rattle.cml_journal.specs.{is_plain, escaped, escape_at, byte_at, before, plain, bytes_in}
 use Rattle.cml_journal.specs.EscapeLaws.{plain_first}
 
 abbrev onto : ℕ → List ℕ → List ℕ

@@ -4,9 +4,9 @@ use Rattle.std.proofs.Common.{length, Option, Result, Ok, Err, refl, sym, ap, su
 use Rattle.std.specs.Option.{option_to_list}
 use Rattle.std.proofs.lemmas.Bool.{or_parts, leb-true, le-leb, ltb-true, lt-ltb, false_from_ne_true, cases_lt}
 use Rattle.std.proofs.lemmas.List.{append-nil}
-use Rattle.cml_board.specs.Prelude.{Entry}
-use Rattle.cml_journal.specs.Prelude.{What, Unread, ◌>>=◌, Fails, HasFault, Meets, State, held, held_all, most, turned, no_entry, byte_read}
-use Rattle.cml_journal.specs.Prelude.{Read, behind, reading, has_line_end}
+use Rattle.cml_board.specs.{Entry}
+use Rattle.cml_journal.specs.{What, Unread, ◌>>=◌, Fails, HasFault, Meets, State, held, held_all, most, turned, no_entry, byte_read, Read}
+use Rattle.cml_journal.specs.{behind, reading, has_line_end}
 use Rattle.cml_journal.specs.declared.fault.What.TheVariants.{TooLong}
 use Rattle.cml_journal.specs.declared.fault.Unread.TheVariants as unread
 

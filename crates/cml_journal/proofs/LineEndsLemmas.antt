@@ -6,7 +6,7 @@ use Rattle.std.proofs.lemmas.Bool.{eqb-true}
 use Rattle.std.proofs.lemmas.List.{append-nil}
 use Rattle.std.proofs.lemmas.Option.{none-some, same_Some}
 use Rattle.cml_grammar.proofs.ListLemmas.{position-cons}
-use Rattle.cml_journal.specs.Prelude.{has_line_end}
+use Rattle.cml_journal.specs.{has_line_end}
 
 abbrev pub first_end : List ℕ → Option ℕ
 first_end bytes = position (λ b. b == 10) bytes

@@ -4,8 +4,8 @@ use Rattle.std.specs.Prelude.{codes}
 use Rattle.std.specs.List.{flat_map}
 use Rattle.std.proofs.lemmas.List.{append-nil}
 use Rattle.std.proofs.lemmas.List.Concat.{flat_map-append}
-use Rattle.cml_board.specs.Prelude.{Entry}
-use Rattle.cml_journal.specs.Prelude.{line_of, numbered_line, with_line_end, text_of, head_lines, piece_lines}
+use Rattle.cml_board.specs.{Entry}
+use Rattle.cml_journal.specs.{line_of, numbered_line, with_line_end, text_of, head_lines, piece_lines}
 
 pub flat_map-map : {X Y Z : Type 0} (f : Y → List Z) (g : X → Y) (xs : List X) → flat_map f (map g xs) ≡ flat_map (λ x. f (g x)) xs
 flat_map-map f g [] = refl

@@ -6,11 +6,11 @@ use Rattle.std.specs.Option.{option_to_list}
 use Rattle.std.specs.List.{list_any}
 use Rattle.std.proofs.lemmas.Bool.{eqb-true, ltb-true}
 use Rattle.std.proofs.lemmas.Option.{none-some, same_Some}
-use Rattle.cml_board.specs.Prelude.{Entry}
-use Rattle.cml_grammar.specs.Prelude.{is_bad_byte}
-use Rattle.cml_journal.specs.Prelude.{What, Stage, ◌>>=◌, entry_in, State, Step, waiting_at, end_of, end_by, numbered, headed, begun}
-use Rattle.cml_journal.specs.Prelude.{entered, ended_by, inside, from_by, behind_header, line_step, line_read, held, turned, no_entry}
-use Rattle.cml_journal.specs.Prelude.{byte_read, Read, behind, reading}
+use Rattle.cml_board.specs.{Entry}
+use Rattle.cml_grammar.specs.{is_bad_byte}
+use Rattle.cml_journal.specs.{What, Stage, ◌>>=◌, entry_in, State, Step, waiting_at, end_of, end_by, numbered, headed, begun, entered}
+use Rattle.cml_journal.specs.{ended_by, inside, from_by, behind_header, line_step, line_read, held, turned, no_entry, byte_read, Read}
+use Rattle.cml_journal.specs.{behind, reading}
 use Rattle.cml_journal.specs.declared.fault.What.TheVariants.{BadNumber, BadBytes, NoHeader, Gap, WrongEnd, TooMany, TooLong}
 use Rattle.cml_journal.specs.declared.reader.Stage.TheVariants.{Waiting, Headed, Inside}
 

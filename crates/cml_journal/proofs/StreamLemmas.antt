@@ -9,12 +9,12 @@ use Rattle.std.proofs.lemmas.Bool.{eqb-true}
 use Rattle.std.proofs.lemmas.List.{append-nil, nil_from_length}
 use Rattle.std.proofs.lemmas.List.Concat.{flat_map-append}
 use Rattle.std.proofs.lemmas.Option.{none-some}
-use Rattle.cml_board.specs.Prelude.{Entry}
-use Rattle.cml_grammar.specs.Prelude.{is_bad_byte}
-use Rattle.cml_journal.specs.Prelude.{What, Stage, number_of, IsWritten, line_of, ◌>>=◌, cut, entry_in, numbered_line, with_line_end}
-use Rattle.cml_journal.specs.Prelude.{text_of, from_lines, piece_lines, stream_lines, State, fresh, end_by, end_of, numbered, headed, begun}
-use Rattle.cml_journal.specs.Prelude.{entered, ended_by, inside, from_by, behind_header, line_step, line_read, most, held, turned, no_entry}
-use Rattle.cml_journal.specs.Prelude.{byte_read, behind, reading}
+use Rattle.cml_board.specs.{Entry}
+use Rattle.cml_grammar.specs.{is_bad_byte}
+use Rattle.cml_journal.specs.{What, Stage, number_of, IsWritten, line_of, ◌>>=◌, cut, entry_in, numbered_line, with_line_end, text_of}
+use Rattle.cml_journal.specs.{from_lines, piece_lines, stream_lines, State, fresh, end_by, end_of, numbered, headed, begun, entered}
+use Rattle.cml_journal.specs.{ended_by, inside, from_by, behind_header, line_step, line_read, most, held, turned, no_entry, byte_read}
+use Rattle.cml_journal.specs.{behind, reading}
 use Rattle.cml_journal.specs.declared.fault.What.TheVariants.{BadNumber, BadBytes, NoHeader, Gap, WrongEnd, TooMany, TooLong}
 use Rattle.cml_journal.specs.declared.reader.Stage.TheVariants.{Waiting, Headed, Inside}
 use Rattle.cml_journal.specs.NumberLaws.{number_only}

@@ -8,10 +8,10 @@ use Rattle.std.specs.List.{find}
 use Rattle.std.proofs.lemmas.Bool.{lt-ltb, ltb-true}
 use Rattle.std.proofs.lemmas.Option.{none-some, same_Some}
 use Rattle.std.proofs.lemmas.Slice.Eq.{bytes_eq-Decides}
-use Rattle.cml_board.specs.Prelude.{Name, Who}
+use Rattle.cml_board.specs.{Name, Who}
 use Rattle.cml_board.specs.declared.entry.Who.TheVariants.{Seat, Lane, Feed}
-use Rattle.cml_journal.specs.Prelude.{What, number_of, who_word, who_number, who_text, ◌>>=◌, ok_or, cut, without_colon, word_at, last_at}
-use Rattle.cml_journal.specs.Prelude.{number_in, name_in, who_by, who_at}
+use Rattle.cml_journal.specs.{What, number_of, who_word, who_number, who_text, ◌>>=◌, ok_or, cut, without_colon, word_at, last_at}
+use Rattle.cml_journal.specs.{number_in, name_in, who_by, who_at}
 use Rattle.cml_journal.specs.declared.fault.What.TheVariants.{Short, UnknownWord, NoColon, BadNumber}
 use Rattle.cml_journal.specs.NumberLaws.{number_again as number_written, number_only, number_printed}
 use Rattle.cml_journal.proofs.CutWordsLemmas.{has_space, cut_again, cut_takes, printed_no_space, colon_no_space, colon_again, colon_takes}

@@ -4,8 +4,8 @@ use Rattle.std.specs.Prelude.{Option, Some, None, Result, Ok, Err, codes}
 use Rattle.std.specs.Option.{option_and_then, option_to_list}
 use Rattle.std.specs.List.{list_any}
 use Rattle.std.specs.Str.{bytes_eq}
-use Rattle.cml_board.specs.Prelude.{Entry}
-use Rattle.cml_grammar.specs.Prelude.{is_bad_byte}
+use Rattle.cml_board.specs.{Entry}
+use Rattle.cml_grammar.specs.{is_bad_byte}
 use Rattle.cml_journal.specs.declared.fault.What.{What}
 use Rattle.cml_journal.specs.declared.fault.What.TheVariants.{BadNumber, BadBytes, NoHeader, Gap, WrongEnd, TooMany, TooLong}
 use Rattle.cml_journal.specs.declared.reader.Stage.{Stage}

@@ -1,7 +1,7 @@
 -- The line of an entry, for messages that are written by `text`.
 use Rattle.std.specs.Prelude.{◌≡◌, ℕ, ◌<◌, ◌^◌, Bool, true, List, [], ◌∷◌, ◌++◌, Option, Some, None, IfSome, codes}
 use Rattle.std.specs.Fmt.{decimal}
-use Rattle.cml_board.specs.Prelude.{Name, Call, Entry, Who, Reply, object_in, message_of, row_of, may_have}
+use Rattle.cml_board.specs.{Name, Call, Entry, Who, Reply, object_in, message_of, row_of, may_have}
 use Rattle.cml_board.specs.declared.entry.Who.TheVariants.{Seat, Lane, Feed}
 use Rattle.cml_board.specs.declared.entry.Reply.TheVariants.{Done, Made, Got, Nothing, Put, Closed}
 

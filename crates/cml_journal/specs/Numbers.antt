@@ -1,7 +1,7 @@
 -- Numbers as words of a line, and the laws of that.
 use Rattle.std.specs.Prelude.{ℕ, ◌^◌, Bool, nat_lt, if◌then◌else◌, List, Option, Some, None}
 use Rattle.std.specs.Str.Parse.{digits_value}
-use Rattle.cml_grammar.specs.Prelude.{is_number}
+use Rattle.cml_grammar.specs.{is_number}
 
 -- a number below 2 ^ 64
 abbrev pub is_small : ℕ → Bool

@@ -2,8 +2,8 @@
 use Rattle.std.specs.Prelude.{◌≡◌, ℕ, ◌==◌, Bool, true, false, List, [], ◌∷◌, Option, Some, None, Result, Ok, Err, if◌then◌else◌, codes}
 use Rattle.std.specs.Option.{option_map}
 use Rattle.std.specs.Str.{bytes_eq}
-use Rattle.cml_calls.specs.Prelude.{Give, Ask, filled, make_of, give_of, ask_of}
-use Rattle.cml_board.specs.Prelude.{Name, Call, Entry, Who, Reply, row_of, made_call, given_call, asked_call, may_have}
+use Rattle.cml_calls.specs.{Give, Ask, filled, make_of, give_of, ask_of}
+use Rattle.cml_board.specs.{Name, Call, Entry, Who, Reply, row_of, made_call, given_call, asked_call, may_have}
 use Rattle.cml_board.specs.declared.call.Call.TheVariants.{MVarInit}
 use Rattle.cml_board.specs.declared.entry.Who.TheVariants.{Seat, Lane, Feed}
 use Rattle.cml_board.specs.declared.entry.Reply.TheVariants.{Done, Made, Got, Nothing, Put, Closed}

@@ -3,7 +3,7 @@ use Rattle.std.specs.Prelude.{◌≡◌, ℕ, ◌+◌, ◌==◌, if◌then◌els
 use Rattle.std.specs.Fmt.{decimal}
 use Rattle.std.specs.List.{flat_map}
 use Rattle.std.specs.Io.KnownBytes.{Appends}
-use Rattle.cml_board.specs.Prelude.{Entry}
+use Rattle.cml_board.specs.{Entry}
 use Rattle.cml_journal.specs.Lines.{line_of}
 
 -- a word and a number

@@ -3,7 +3,7 @@ ghost use Rattle.std.specs.Prelude.{◌≡◌, ◌<◌, ◌/◌, ◌%◌, ◌++�
 ghost use Rattle.std.specs.Fmt.{digit_glyph};
 ghost use Rattle.std.specs.List.{flat_map};
 ghost use Rattle.std.specs.Option.{option_map, option_and_then};
-ghost use Rattle.cml_journal.specs.Prelude.{is_plain, byte_text, bytes_text, bytes_in, if_short, escaped, escape_at, byte_at, digit_in};
+ghost use Rattle.cml_journal.specs.{is_plain, byte_text, bytes_text, bytes_in, if_short, escaped, escape_at, byte_at, digit_in};
 
 use crate::written::Written;
 use cml_board::Bytes;

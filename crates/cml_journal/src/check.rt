@@ -1,9 +1,9 @@
 //! A journal is read and checked as it comes, in memory for the objects, what waits in them, and one line.
 ghost use Rattle.std.specs.Prelude.{◌≡◌, ◌≤◌, ◌-◌, ◌^◌, ◌∷◌, ◌++◌, ℕ, List, [], Ok, None, Some, length, IfOk, IfErr, IfSome, IsNone};
 ghost use Rattle.std.specs.Prelude.{OnOk, OnErr, OnSome, IsErr, IsTrue, is_none, not, ◌&&◌, ◌==◌, option_map, string_bytes};
-ghost use Rattle.cml_board.specs.Prelude.{Feeds, count_of, expected_of};
-ghost use Rattle.cml_journal.specs.Prelude.{Halt, State, end_of, IsSoFar, Goes, HaltsIn, StopsIn, MayHaltAt, IsTold, IsSpent, is_whole};
-ghost use Rattle.cml_journal.specs.Prelude.{line_of_last, IsLawfulJournal, IsRestored};
+ghost use Rattle.cml_board.specs.{Feeds, count_of, expected_of};
+ghost use Rattle.cml_journal.specs.{Halt, State, end_of, IsSoFar, Goes, HaltsIn, StopsIn, MayHaltAt, IsTold, IsSpent, is_whole};
+ghost use Rattle.cml_journal.specs.{line_of_last, IsLawfulJournal, IsRestored};
 
 use crate::fault::What;
 use crate::reader::Reader;

@@ -1,9 +1,9 @@
 //! Laws of the definitions, each the contract of a function that does nothing.
 ghost use Rattle.std.specs.Prelude.{◌≡◌, ℕ, ◌+◌, ◌^◌, ◌<◌, ◌∷◌, ◌++◌, List, Ok, Err, Some, length};
 ghost use Rattle.std.specs.List.{flat_map, AllByRecursion};
-ghost use Rattle.cml_board.specs.Prelude.{Entry};
-ghost use Rattle.cml_journal.specs.Prelude.{line_of, HasLine, entry_in, text_of, stream_lines, What, State, fresh, end_of, behind, reading};
-ghost use Rattle.cml_journal.specs.Prelude.{IsReadable};
+ghost use Rattle.cml_board.specs.{Entry};
+ghost use Rattle.cml_journal.specs.{line_of, HasLine, entry_in, text_of, stream_lines, What, State, fresh, end_of, behind, reading};
+ghost use Rattle.cml_journal.specs.{IsReadable};
 
 use crate::written::Written;
 

@@ -2,7 +2,7 @@
 ghost use Rattle.std.specs.Prelude.{◌≡◌, ◌<◌, ◌+◌, ◌^◌, ◌++◌, OnOk, string_bytes, length, codes};
 ghost use Rattle.std.specs.Io.KnownBytes.{Appends};
 ghost use Rattle.std.specs.List.{flat_map};
-ghost use Rattle.cml_journal.specs.Prelude.{line_of, numbered_line, with_line_end, text_of, head_lines, piece_lines, Writes};
+ghost use Rattle.cml_journal.specs.{line_of, numbered_line, with_line_end, text_of, head_lines, piece_lines, Writes};
 
 use crate::spelling::{OwnWords, Spelling};
 use crate::writing::{write_entry, write_entry_in};

@@ -2,9 +2,8 @@
 ghost use Rattle.std.specs.Prelude.{◌≡◌, ◌≤◌, ◌-◌, ◌==◌, ◌++◌, ◌∷◌, [], ℕ, List, Ok, false, length, position, IfOk, IfErr};
 ghost use Rattle.std.specs.Prelude.{OnOk, OnErr, OnSome, MatchOption};
 ghost use Rattle.std.specs.Option.{option_to_list};
-ghost use Rattle.cml_journal.specs.Prelude.{Gives, Meets, State, fresh, waiting_at, numbered, headed, begun, entered, ended_by, inside};
-ghost use Rattle.cml_journal.specs.Prelude.{from_by, behind_header, line_step, line_read, has_line_end, held_all, most, turned, reading};
-ghost use Rattle.cml_journal.specs.Prelude.{end_of};
+ghost use Rattle.cml_journal.specs.{Gives, Meets, State, fresh, waiting_at, numbered, headed, begun, entered, ended_by, inside, from_by};
+ghost use Rattle.cml_journal.specs.{behind_header, line_step, line_read, has_line_end, held_all, most, turned, reading, end_of};
 
 use crate::fault::{Unread, What};
 use crate::reading::read_entry;

@@ -1,9 +1,9 @@
 //! How a line is read as an entry.
 ghost use Rattle.std.specs.Prelude.{◌≡◌, IfOk, Ok};
-ghost use Rattle.cml_board.specs.Prelude.{row_of, Entry, may_have, is_of};
+ghost use Rattle.cml_board.specs.{row_of, Entry, may_have, is_of};
 ghost use Rattle.cml_journal.specs.declared.fault.What.TheVariants.{BadMessage};
-ghost use Rattle.cml_journal.specs.Prelude.{line_of, HasLine, Gives, ok_or, who_by, who_at, made_in, given_at, asked_at, filled_at};
-ghost use Rattle.cml_journal.specs.Prelude.{called_at, call_at, made_known, told_in, reply_in, entry_in};
+ghost use Rattle.cml_journal.specs.{line_of, HasLine, Gives, ok_or, who_by, who_at, made_in, given_at, asked_at, filled_at, called_at};
+ghost use Rattle.cml_journal.specs.{call_at, made_known, told_in, reply_in, entry_in};
 
 use crate::fault::{Unread, What};
 use crate::words::{cut, last_at, name_in, number_in, without_colon, word_at};

@@ -1,7 +1,7 @@
 //! Why a check of a journal's text stops.
 ghost use Rattle.std.specs.Prelude.{◌≡◌};
 ghost use Rattle.cml_journal.specs.declared.stop.Halt.TheVariants.{NoMemory as memory};
-ghost use Rattle.cml_journal.specs.Prelude.{halt_of};
+ghost use Rattle.cml_journal.specs.{halt_of};
 
 use crate::fault::{Unread, What};
 use std::alloc::AllocError;

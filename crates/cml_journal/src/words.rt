@@ -1,7 +1,7 @@
 //! The next word of a line.
 ghost use Rattle.std.specs.Prelude.{◌≡◌, Ok};
 ghost use Rattle.std.specs.Option.{option_map};
-ghost use Rattle.cml_journal.specs.Prelude.{Gives, cut, without_colon, word_at, last_at, number_in, name_in};
+ghost use Rattle.cml_journal.specs.{Gives, cut, without_colon, word_at, last_at, number_in, name_in};
 
 use crate::fault::{Unread, What};
 use cml_board::Name;

@@ -1,6 +1,6 @@
 //! How an entry's line is written.
 ghost use Rattle.std.specs.Prelude.{◌≡◌, ◌++◌, OnOk, string_bytes};
-ghost use Rattle.cml_journal.specs.Prelude.{who_text, call_text, reply_text, line_of};
+ghost use Rattle.cml_journal.specs.{who_text, call_text, reply_text, line_of};
 
 use crate::spelling::{OwnWords, Spelling};
 use crate::written::Written;

@@ -4,15 +4,17 @@ use Rattle.std.proofs.Common.{Option, Some, None, refl, sym, ap, ◌∙◌, arit
 use Rattle.std.proofs.lemmas.Bool.{true≢false}
 use Rattle.std.proofs.lemmas.List.{length_push}
 use Rattle.std.specs.Prelude.{⊤}
-use Rattle.cml_board.specs.Prelude.{Refusal, Call, Entry, Outcome, Shown, Applies}
+use Rattle.cml_board.specs.{Refusal, Call, Entry, Applies}
+use Rattle.cml_board.specs.declared.outcome.Outcome.{Outcome}
+use Rattle.cml_board.specs.Shown.{Shown}
 use Rattle.cml_board.specs.declared.call.Call.TheVariants.{NewPort}
 use Rattle.cml_board.specs.declared.entry.Who.TheVariants.{Seat, Feed}
 use Rattle.cml_board.specs.declared.entry.Reply.TheVariants.{Made}
 use Rattle.cml_board.specs.declared.outcome.Outcome.TheVariants.{Answered, WouldWait, Refused}
-use Rattle.cml_lanes.specs.Prelude.{laned, fed, FloorShown, is_taken, is_open_lane, is_open_feed, OnPlace, is_barred, CutsAFloor, FloorCall}
-use Rattle.cml_lanes.specs.Prelude.{Apply, Reserve, OpenLane, Drain, CloseLane, CloseCounted, DropLane, AbandonLane, OpenFeed, Pump}
-use Rattle.cml_lanes.specs.Prelude.{EndFeed, Cut, TakeJournal, AppliesSeat, IsCalled, AreCalled, Deed, as_it_was, lane_drained, lane_gone}
-use Rattle.cml_lanes.specs.Prelude.{lane_opened, feed_pumped, feed_gone, feed_opened}
+use Rattle.cml_lanes.specs.{laned, fed, FloorShown, is_taken, is_open_lane, is_open_feed, OnPlace, is_barred, CutsAFloor, FloorCall, Apply}
+use Rattle.cml_lanes.specs.{Reserve, OpenLane, Drain, CloseLane, CloseCounted, DropLane, AbandonLane, OpenFeed, Pump, EndFeed, Cut}
+use Rattle.cml_lanes.specs.{TakeJournal, AppliesSeat, IsCalled, AreCalled, Deed, as_it_was, lane_drained, lane_gone, lane_opened}
+use Rattle.cml_lanes.specs.{feed_pumped, feed_gone, feed_opened}
 use Rattle.cml_lanes.proofs.SlotsLemmas.{same_length}
 use Rattle.cml_lanes.proofs.LaningLemmas.{laned_other, laned_apart}
 use Rattle.cml_lanes.proofs.FeedEntriesLemmas.{fed_other, fed_apart, laned_fed, fed_laned}

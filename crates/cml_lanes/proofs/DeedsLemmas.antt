@@ -1,12 +1,13 @@
 -- Each call on lanes or feeds has done one of the deeds to a floor.
 use Rattle.std.proofs.Common.{◌≡◌, ◌⊎◌, ℕ, inl, inr, Bool, true, false, Option, Some, None, Result, Ok, Err, subst, sym, ap}
 use Rattle.std.specs.Prelude.{⊤}
-use Rattle.cml_board.specs.Prelude.{Name, Refusal, IsAsBefore}
+use Rattle.cml_board.specs.{Name, Refusal, IsAsBefore}
 use Rattle.cml_board.specs.declared.outcome.Refusal.TheVariants.{Unseen}
-use Rattle.cml_lanes.specs.Prelude.{LaneShown, FeedShown, Ended, LaneSide, DrainsRing, FloorShown, FindsNoLane, FindsNoFeed, GivesAll}
-use Rattle.cml_lanes.specs.Prelude.{stays, goes, OpensALane, EmptiesLane, HoldsUp, HoldsUpSome, DropsLane, Drains, Drops, Abandons, Closes}
-use Rattle.cml_lanes.specs.Prelude.{CountRefused, ClosesCounted, OpensAFeed, FillsFeed, Starves, Pumps, Ends, Reserves, PumpsRing, Deed}
-use Rattle.cml_lanes.specs.Prelude.{as_it_was, lane_drained, lane_gone, lane_opened, feed_pumped, feed_gone, feed_opened}
+use Rattle.cml_lanes.specs.{LaneShown, FeedShown, Ended, LaneSide, DrainsRing, FloorShown, FindsNoLane, FindsNoFeed, GivesAll, stays, goes}
+use Rattle.cml_lanes.specs.{OpensALane, EmptiesLane, HoldsUp, HoldsUpSome, DropsLane, Drains, Drops, Abandons, Closes, CountRefused}
+use Rattle.cml_lanes.specs.{ClosesCounted, OpensAFeed, FillsFeed, Starves, Pumps, Reserves, PumpsRing, Deed, as_it_was, lane_drained}
+use Rattle.cml_lanes.specs.{lane_gone, lane_opened, feed_pumped, feed_gone, feed_opened}
+use Rattle.cml_lanes.specs.Feeds.{Ends}
 use Rattle.cml_lanes.proofs.MovesLemmas.{until_drains, unchanged}
 use Rattle.cml_lanes.proofs.PumpsLemmas.{until_pumps}
 use Rattle.cml_lanes.proofs.OneSlotLemmas.{does_so}

@@ -1,6 +1,6 @@
 -- Each ring stays, whatever a call does to one lane or one feed.
 use Rattle.std.proofs.Common.{◌≡◌, ℕ, Option, Some}
-use Rattle.cml_lanes.specs.Prelude.{LaneSide, FeedSide, FloorShown, KeepsRings, OnLane, OnFeed}
+use Rattle.cml_lanes.specs.{LaneSide, FeedSide, FloorShown, KeepsRings, OnLane, OnFeed}
 use Rattle.cml_lanes.proofs.SlotsLemmas.{same_places}
 use Rattle.cml_lanes.proofs.OneSlotLemmas.{told_before}
 

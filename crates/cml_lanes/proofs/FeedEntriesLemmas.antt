@@ -3,14 +3,14 @@ use Rattle.std.proofs.Common.{◌≡◌, ◌≢◌, ◌↔◌, ℕ, Bool, false,
 use Rattle.std.proofs.Common.{subst, refl, sym, ap, ◌∙◌, append_assoc}
 use Rattle.std.proofs.lemmas.Bool.{eq-eqb, ne_eqb, false≢true}
 use Rattle.std.proofs.lemmas.List.{append-nil}
-use Rattle.cml_board.specs.Prelude.{Name, Entry, takes, message_in, kind_of, is_open, got, answer, Fits}
-use Rattle.cml_calls.specs.Prelude.{Kind}
+use Rattle.cml_board.specs.{Name, Entry, takes, message_in, kind_of, is_open, got, answer, Fits}
+use Rattle.cml_calls.specs.{Kind}
 use Rattle.cml_calls.specs.declared.kind.Kind.TheVariants.{Port}
 use Rattle.cml_board.specs.declared.call.Call.TheVariants.{Recv}
 use Rattle.cml_board.proofs.ClosingLemmas.{kind_kept}
 use Rattle.cml_board.proofs.TellingLemmas.{stays_open, none_got}
-use Rattle.cml_lanes.specs.Prelude.{Way, LaneSide, FeedSide, way_kind, laned, lane_entry, with_lane, is_feed, fed, feed_entry, with_feed}
-use Rattle.cml_lanes.specs.Prelude.{KeepsLane, KeepsFeed}
+use Rattle.cml_lanes.specs.{Way, LaneSide, FeedSide, way_kind, laned, lane_entry, with_lane, is_feed, fed, feed_entry, with_feed, KeepsLane}
+use Rattle.cml_lanes.specs.{KeepsFeed}
 use Rattle.cml_lanes.specs.declared.way.Way.TheVariants.{Send, Cast}
 use Rattle.cml_lanes.proofs.LaningLemmas.{laned_other, kind_more}
 

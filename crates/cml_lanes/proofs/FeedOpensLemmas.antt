@@ -4,7 +4,8 @@ use Rattle.std.proofs.Common.{Option, Some, None, subst, refl, sym, ap, ◌∙�
 use Rattle.std.specs.Option.{option_map}
 use Rattle.std.proofs.lemmas.Option.{same_Some, none-some, slice_get_past}
 use Rattle.std.proofs.lemmas.List.{append-nil, length_push}
-use Rattle.cml_board.specs.Prelude.{Name, Entry, port, kind_by, Lawful, made, new_name, sent, kind_of, got, is_open, Shown}
+use Rattle.cml_board.specs.{Name, Entry, port, kind_by, Lawful, made, new_name, sent, kind_of, got, is_open}
+use Rattle.cml_board.specs.Shown.{Shown}
 use Rattle.cml_calls.specs.declared.kind.Kind.TheVariants.{Port}
 use Rattle.cml_board.specs.declared.call.Call.TheVariants.{NewPort}
 use Rattle.cml_board.specs.declared.entry.Who.TheVariants.{Feed}
@@ -13,8 +14,8 @@ use Rattle.cml_board.proofs.ListLemmas.{pushed_cases}
 use Rattle.cml_board.proofs.ClosingLemmas.{kind_kept}
 use Rattle.cml_board.proofs.TellingLemmas.{stays_open, none_got, makes_here}
 use Rattle.cml_board.proofs.BeginningLemmas.{port_makes}
-use Rattle.cml_lanes.specs.Prelude.{LaneSide, FeedSide, way_kind, is_feed, fed, KeepsFeed, FloorShown, KeepsLanes, KeepsFeeds, SameFeedRing}
-use Rattle.cml_lanes.specs.Prelude.{is_feeds_port, MakesPort}
+use Rattle.cml_lanes.specs.{LaneSide, FeedSide, way_kind, is_feed, fed, KeepsFeed, FloorShown, KeepsLanes, KeepsFeeds, SameFeedRing}
+use Rattle.cml_lanes.specs.{is_feeds_port, MakesPort}
 use Rattle.cml_lanes.proofs.LaningLemmas.{laned_other}
 use Rattle.cml_lanes.proofs.KeptFeedsLemmas.{no_port}
 

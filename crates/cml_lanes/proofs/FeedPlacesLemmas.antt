@@ -5,8 +5,9 @@ use Rattle.std.specs.Prelude.{nat_eq}
 use Rattle.std.specs.List.{list_any}
 use Rattle.std.proofs.lemmas.Option.{same_Some}
 use Rattle.std.proofs.lemmas.Bool.{true≢false}
-use Rattle.cml_board.specs.Prelude.{Refusal, Shown}
-use Rattle.cml_lanes.specs.Prelude.{Ended, FeedSide, is_taken, stays, OnPlace, is_feeds_port, PumpsUntil, EndsSlot, HasPorts}
+use Rattle.cml_board.specs.{Refusal}
+use Rattle.cml_board.specs.Shown.{Shown}
+use Rattle.cml_lanes.specs.{Ended, FeedSide, is_taken, stays, OnPlace, is_feeds_port, PumpsUntil, EndsSlot, HasPorts}
 use Rattle.cml_lanes.proofs.PumpsLemmas.{until_pumps}
 use Rattle.cml_lanes.proofs.OneSlotLemmas.{slot_here, side_here}
 use Rattle.cml_lanes.proofs.PortsLemmas.{ports_more, ports_less, same_ports}

@@ -3,8 +3,9 @@ use Rattle.std.proofs.Common.{◌≡◌, ◌≢◌, ℕ, zero, suc, ◌≤◌, i
 use Rattle.std.proofs.Common.{slice_get, slice_set, Option, Some, None, subst, refl, sym, ap, ◌∙◌, arith}
 use Rattle.std.proofs.lemmas.Option.{same_Some, none-some}
 use Rattle.std.proofs.lemmas.Bool.{eq-eqb, ne_eqb, false≢true}
-use Rattle.cml_board.specs.Prelude.{Name, Call, Reply, Entry, Outcome, message_in, got_by, is_done, closes, kind_of, is_open, got, Shown}
-use Rattle.cml_board.specs.Prelude.{Applies}
+use Rattle.cml_board.specs.{Name, Call, Reply, Entry, message_in, got_by, is_done, closes, kind_of, is_open, got, Applies}
+use Rattle.cml_board.specs.declared.outcome.Outcome.{Outcome}
+use Rattle.cml_board.specs.Shown.{Shown}
 use Rattle.cml_calls.specs.declared.kind.Kind.TheVariants.{Port}
 use Rattle.cml_board.specs.declared.call.Call.TheVariants.{ClosePort, Recv, Poll}
 use Rattle.cml_board.specs.declared.entry.Who.TheVariants.{Seat}
@@ -12,8 +13,8 @@ use Rattle.cml_board.specs.declared.outcome.Outcome.TheVariants.{Answered, Would
 use Rattle.cml_board.proofs.ClosingLemmas.{kind_kept}
 use Rattle.cml_board.proofs.TellingLemmas.{stays_open, none_got}
 use Rattle.cml_board.proofs.ListLemmas.{slice_get-set_same, slice_get-set_other}
-use Rattle.cml_lanes.specs.Prelude.{Way, LaneSide, FeedSide, with_lane, fed, DrainsRing, KeepsFeed, LearnsFree, PumpsIn, is_taken}
-use Rattle.cml_lanes.specs.Prelude.{KeepsLanes, KeepsFeeds, has_port, is_feeds_port, is_barred}
+use Rattle.cml_lanes.specs.{Way, LaneSide, FeedSide, with_lane, fed, DrainsRing, KeepsFeed, LearnsFree, PumpsIn, is_taken, KeepsLanes}
+use Rattle.cml_lanes.specs.{KeepsFeeds, has_port, is_feeds_port, is_barred}
 use Rattle.cml_lanes.proofs.FeedEntriesLemmas.{fed_other, fed_laned, fed_apart, keeps_laned, keeps_fed}
 use Rattle.cml_lanes.proofs.PumpsLemmas.{keeps_pumped}
 use Rattle.cml_lanes.proofs.SlotsLemmas.{this_or_other, taken_within, same_length, emptied, set_places}

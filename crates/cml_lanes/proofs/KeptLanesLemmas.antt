@@ -2,12 +2,14 @@
 use Rattle.std.proofs.Common.{◌≡◌, ◌≢◌, ℕ, ◌≤◌, inl, inr, Bool, List, [], ◌∷◌, length, slice_get, slice_set, Option, Some}
 use Rattle.std.proofs.Common.{None, subst, refl, sym, ap, ◌∙◌, arith}
 use Rattle.std.proofs.lemmas.Option.{same_Some}
-use Rattle.cml_board.specs.Prelude.{Call, Entry, Outcome, kind_of, Shown, Applies}
+use Rattle.cml_board.specs.{Call, Entry, kind_of, Applies}
+use Rattle.cml_board.specs.declared.outcome.Outcome.{Outcome}
+use Rattle.cml_board.specs.Shown.{Shown}
 use Rattle.cml_board.specs.declared.entry.Who.TheVariants.{Seat}
 use Rattle.cml_board.specs.declared.outcome.Outcome.TheVariants.{Answered, WouldWait, Refused}
 use Rattle.cml_board.proofs.ClosingLemmas.{kind_kept}
 use Rattle.cml_board.proofs.ListLemmas.{slice_get-set_same, slice_get-set_other}
-use Rattle.cml_lanes.specs.Prelude.{LaneSide, way_kind, laned, is_lane, KeepsLane, DrainsRing, is_taken, KeepsLanes}
+use Rattle.cml_lanes.specs.{LaneSide, way_kind, laned, is_lane, KeepsLane, DrainsRing, is_taken, KeepsLanes}
 use Rattle.cml_lanes.proofs.LaningLemmas.{laned_other, laned_apart, kind_more}
 use Rattle.cml_lanes.proofs.MovesLemmas.{keeps_moved}
 use Rattle.cml_lanes.proofs.SlotsLemmas.{this_or_other, taken_within, same_length, emptied}

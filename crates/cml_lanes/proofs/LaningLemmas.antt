@@ -3,12 +3,12 @@ use Rattle.std.proofs.Common.{◌≡◌, ◌≢◌, ℕ, ◌≤◌, Bool, true, 
 use Rattle.std.proofs.Common.{IsTrue, subst, refl, sym, ap, ◌∙◌, arith, length-append, append_assoc}
 use Rattle.std.proofs.lemmas.Bool.{eq-eqb, ne_eqb}
 use Rattle.std.proofs.lemmas.List.{append-nil}
-use Rattle.cml_board.specs.Prelude.{Name, Call, Entry, takes, kind_of, answer, Fits, has_message}
-use Rattle.cml_calls.specs.Prelude.{Kind}
+use Rattle.cml_board.specs.{Name, Call, Entry, takes, kind_of, answer, Fits, has_message}
+use Rattle.cml_calls.specs.{Kind}
 use Rattle.cml_board.specs.declared.call.Call.TheVariants as call
 use Rattle.cml_board.specs.declared.entry.Reply.TheVariants.{Done}
 use Rattle.cml_board.proofs.ClosingLemmas.{kind_kept}
-use Rattle.cml_lanes.specs.Prelude.{Way, way_call, way_kind, is_lane, moved_by, laned, lane_entry, with_lane}
+use Rattle.cml_lanes.specs.{Way, way_call, way_kind, is_lane, moved_by, laned, lane_entry, with_lane}
 use Rattle.cml_lanes.specs.declared.way.Way.TheVariants.{Send, Cast}
 
 module _ {M : Type 0} where

@@ -4,14 +4,14 @@ use Rattle.std.proofs.Common.{is_some, subst, refl, sym, ap, ◌∙◌, arith, l
 use Rattle.std.proofs.lemmas.Option.{same_Some, none-some}
 use Rattle.std.proofs.lemmas.List.{append-nil}
 use Rattle.std.proofs.lemmas.Bool.{true≢false}
-use Rattle.cml_board.specs.Prelude.{Call, Reply, Refusal, entries_in, kind_of, answer, Fits, Shown, full_at, IsAsBefore, AddsEntry, Refuses}
-use Rattle.cml_board.specs.Prelude.{HasRoom}
+use Rattle.cml_board.specs.{Call, Reply, Refusal, entries_in, kind_of, answer, Fits, full_at, IsAsBefore, AddsEntry, Refuses, HasRoom}
+use Rattle.cml_board.specs.Shown.{Shown}
 use Rattle.cml_board.specs.declared.entry.Who.TheVariants.{Lane}
 use Rattle.cml_board.specs.declared.entry.Reply.TheVariants.{Done}
 use Rattle.cml_board.specs.declared.outcome.Refusal.TheVariants.{Gone, Busy, NoSuch, WrongKind, JournalFull, Stalled, NoMemory, Unseen}
 use Rattle.cml_board.proofs.SparingLemmas.{call_takes}
-use Rattle.cml_lanes.specs.Prelude.{LaneSide, way_call, way_kind, laned, lane_entry, with_lane, IsLimit, KeepsLane, MovesOut, Stops}
-use Rattle.cml_lanes.specs.Prelude.{DrainsRing, DrainsUntil}
+use Rattle.cml_lanes.specs.{LaneSide, way_call, way_kind, laned, lane_entry, with_lane, IsLimit, KeepsLane, MovesOut, Stops, DrainsRing}
+use Rattle.cml_lanes.specs.{DrainsUntil}
 use Rattle.cml_lanes.proofs.LaningLemmas.{laned_more, kind_more, with_lane_more, fits_way, answer_way, way_has_message}
 
 -- what holds where there is no value holds where none is

@@ -1,9 +1,10 @@
 -- What is done to the slots of feeds, as what is done to the floor.
 use Rattle.std.proofs.Common.{◌≡◌, ℕ, Bool, true, false, List, slice_get, slice_set, Option, Some, None, IfSome, subst, refl, sym, ap, ◌∙◌}
 use Rattle.std.proofs.lemmas.Option.{same_Some, none-some}
-use Rattle.cml_board.specs.Prelude.{Refusal, Entry, Shown}
-use Rattle.cml_lanes.specs.Prelude.{Ended, LaneSide, FeedSide, fed, with_feed, PumpsIn, FloorShown, is_taken, is_open_feed, KeepsLanes}
-use Rattle.cml_lanes.specs.Prelude.{KeepsFeeds, KeepsRings, stays, goes, OnPlace, OnFeed, is_feeds_port, PumpsUntil, EndsFeed}
+use Rattle.cml_board.specs.{Refusal, Entry}
+use Rattle.cml_board.specs.Shown.{Shown}
+use Rattle.cml_lanes.specs.{Ended, LaneSide, FeedSide, fed, with_feed, PumpsIn, FloorShown, is_taken, is_open_feed, KeepsLanes, KeepsFeeds}
+use Rattle.cml_lanes.specs.{KeepsRings, stays, goes, OnPlace, OnFeed, is_feeds_port, PumpsUntil, EndsFeed}
 use Rattle.cml_lanes.proofs.FeedEntriesLemmas.{laned_fed, keeps_lane_fed}
 use Rattle.cml_lanes.proofs.SlotsLemmas.{taken_slot}
 use Rattle.cml_lanes.proofs.PumpsLemmas.{until_pumps}

@@ -4,10 +4,11 @@ use Rattle.std.proofs.Common.{subst, refl, sym, ap, ◌∙◌}
 use Rattle.std.proofs.lemmas.Option.{same_Some, none-some}
 use Rattle.std.proofs.lemmas.Bool.{true≢false}
 use Rattle.std.proofs.lemmas.List.{append-nil}
-use Rattle.cml_board.specs.Prelude.{Refusal, Shown}
+use Rattle.cml_board.specs.{Refusal}
+use Rattle.cml_board.specs.Shown.{Shown}
 use Rattle.cml_board.proofs.ListLemmas.{slice_get-set_same}
-use Rattle.cml_lanes.specs.Prelude.{Ended, LaneSide, FeedSide, laned, DrainsRing, Empties, FloorShown, is_taken, KeepsLanes, KeepsFeeds}
-use Rattle.cml_lanes.specs.Prelude.{KeepsRings, GivesAll, stays, goes, OnPlace, OnLane, DrainsUntil, LeavesAll, EmptiesLane}
+use Rattle.cml_lanes.specs.{Ended, LaneSide, FeedSide, laned, DrainsRing, Empties, FloorShown, is_taken, KeepsLanes, KeepsFeeds, KeepsRings}
+use Rattle.cml_lanes.specs.{GivesAll, stays, goes, OnPlace, OnLane, DrainsUntil, LeavesAll, EmptiesLane}
 use Rattle.cml_lanes.proofs.MovesLemmas.{until_drains}
 use Rattle.cml_lanes.proofs.SlotsLemmas.{taken_slot, set_again}
 use Rattle.cml_lanes.proofs.EachRingLemmas.{lane_rings}

@@ -3,7 +3,7 @@ use Rattle.std.proofs.Common.{◌≡◌, ℕ, true, List, get_or, slice_get, sli
 use Rattle.std.proofs.Common.{IfSome, subst, sym, ap, ◌∙◌}
 use Rattle.std.proofs.lemmas.Option.{same_Some}
 use Rattle.cml_board.proofs.ListLemmas.{slice_get-set_same}
-use Rattle.cml_lanes.specs.Prelude.{is_taken, stays, OnPlace, OnSlot}
+use Rattle.cml_lanes.specs.{is_taken, stays, OnPlace, OnSlot}
 use Rattle.cml_lanes.proofs.SlotsLemmas.{slot_at, taken_slot, set_places, as_many_taken}
 
 module _ {Side : Type 0} where

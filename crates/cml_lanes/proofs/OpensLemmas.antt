@@ -3,9 +3,10 @@ use Rattle.std.proofs.Common.{◌≡◌, ℕ, ◌<◌, ◌≤◌, inl, inr, List
 use Rattle.std.proofs.Common.{refl, sym, ap, ◌∙◌, arith}
 use Rattle.std.proofs.lemmas.Option.{same_Some}
 use Rattle.std.proofs.lemmas.List.{length_push}
-use Rattle.cml_board.specs.Prelude.{Entry, kind_of, Shown}
+use Rattle.cml_board.specs.{Entry, kind_of}
+use Rattle.cml_board.specs.Shown.{Shown}
 use Rattle.cml_board.proofs.ListLemmas.{pushed_cases}
-use Rattle.cml_lanes.specs.Prelude.{LaneSide, FeedSide, way_kind, laned, KeepsLane, FloorShown, KeepsLanes, KeepsFeeds, SameRing}
+use Rattle.cml_lanes.specs.{LaneSide, FeedSide, way_kind, laned, KeepsLane, FloorShown, KeepsLanes, KeepsFeeds, SameRing}
 
 module _ {M : Type 0} where
   keeps_pushed : (history : List (Entry M)) (lanes : List (Option (LaneSide M))) (side : LaneSide M) → KeepsLanes history lanes

@@ -6,9 +6,9 @@ use Rattle.std.specs.List.{list_any}
 use Rattle.std.proofs.lemmas.Option.{same_Some}
 use Rattle.std.proofs.lemmas.Bool.{eqb-true}
 use Rattle.std.proofs.lemmas.List.Folds.{list_any-append}
-use Rattle.cml_board.specs.Prelude.{Call}
+use Rattle.cml_board.specs.{Call}
 use Rattle.cml_board.specs.declared.call.Call.TheVariants.{ClosePort, Recv, Poll}
-use Rattle.cml_lanes.specs.Prelude.{FeedSide, has_port, is_feeds_port, is_barred, HasPorts}
+use Rattle.cml_lanes.specs.{FeedSide, has_port, is_feeds_port, is_barred, HasPorts}
 use Rattle.cml_lanes.proofs.SlotsLemmas.{as_many_taken, one_taken_less, one_taken_more}
 
 added_test : (b x : Bool) → cond b true x ≡ (x || (b || false))

@@ -2,8 +2,9 @@
 use Rattle.std.proofs.Common.{◌≡◌, ℕ, ◌+◌, [], ◌++◌, Bool, Option, Some, None, refl, sym, ap, ◌∙◌, arith, length-append, append_assoc}
 use Rattle.std.proofs.lemmas.List.{append-nil}
 use Rattle.cml_calls.specs.declared.kind.Kind.TheVariants.{Port}
-use Rattle.cml_board.specs.Prelude.{Refusal, kind_of, is_open, got, Shown}
-use Rattle.cml_lanes.specs.Prelude.{FeedSide, fed, with_feed, KeepsFeed, PumpsIn, Balks, PumpsRing, PumpsUntil}
+use Rattle.cml_board.specs.{Refusal, kind_of, is_open, got}
+use Rattle.cml_board.specs.Shown.{Shown}
+use Rattle.cml_lanes.specs.{FeedSide, fed, with_feed, KeepsFeed, PumpsIn, Balks, PumpsRing, PumpsUntil}
 use Rattle.cml_lanes.proofs.FeedEntriesLemmas.{fed_more, got_more, kind_fed, open_fed, with_feed_more}
 
 module _ {M : Type 0} where

@@ -3,17 +3,18 @@ use Rattle.std.proofs.Common.{◌≡◌, ℕ, ◌+◌, ◌<◌, ◌≤◌, Bool,
 use Rattle.std.proofs.Common.{subst, ap, ◌∙◌, arith, not, Result, Ok, Err}
 use Rattle.std.specs.Prelude.{⊤}
 use Rattle.std.proofs.lemmas.Bool.{and_parts, false≢true}
-use Rattle.cml_board.specs.Prelude.{Call, Name, Entry, Who, Outcome, Refusal, entries_in, Shown, IsSpared, IsAsBefore, Applies}
+use Rattle.cml_board.specs.{Call, Name, Entry, Who, Refusal, entries_in, IsSpared, IsAsBefore, Applies}
+use Rattle.cml_board.specs.declared.outcome.Outcome.{Outcome}
+use Rattle.cml_board.specs.Shown.{Shown}
 use Rattle.cml_board.specs.declared.call.Call.TheVariants.{Recv}
 use Rattle.cml_board.specs.declared.outcome.Outcome.TheVariants.{Answered, WouldWait, Refused}
 use Rattle.cml_board.specs.declared.outcome.Refusal.TheVariants.{NoMemory}
 use Rattle.cml_board.proofs.ListLemmas.{slice_get-set_same}
-use Rattle.cml_lanes.specs.Prelude.{Way, LaneSide, FeedSide, way_call, lane_entry, with_lane, feed_entry, with_feed, MovesOut, PumpsIn}
-use Rattle.cml_lanes.specs.Prelude.{FloorShown, is_barred, HoldsUp, Starves, added_since, TakesEntryAlone, LaneTakesEntryAlone}
-use Rattle.cml_lanes.specs.Prelude.{FeedTakesEntryAlone, CutsAFloor, FloorCall, Apply, Reserve, OpenLane, Drain, CloseLane, CloseCounted}
-use Rattle.cml_lanes.specs.Prelude.{DropLane, AbandonLane, OpenFeed, Pump, EndFeed, Cut, TakeJournal, AppliesSeat, IsCalled, AreCalled}
-use Rattle.cml_lanes.specs.Prelude.{takes_journal, keeps_journal, Deed, as_it_was, lane_drained, lane_gone, lane_opened, feed_pumped}
-use Rattle.cml_lanes.specs.Prelude.{feed_gone, feed_opened}
+use Rattle.cml_lanes.specs.{Way, LaneSide, FeedSide, way_call, lane_entry, with_lane, feed_entry, with_feed, MovesOut, PumpsIn, FloorShown}
+use Rattle.cml_lanes.specs.{is_barred, HoldsUp, Starves, added_since, TakesEntryAlone, LaneTakesEntryAlone, FeedTakesEntryAlone, CutsAFloor}
+use Rattle.cml_lanes.specs.{FloorCall, Apply, Reserve, OpenLane, Drain, CloseLane, CloseCounted, DropLane, AbandonLane, OpenFeed, Pump}
+use Rattle.cml_lanes.specs.{EndFeed, Cut, TakeJournal, AppliesSeat, IsCalled, AreCalled, takes_journal, keeps_journal, Deed, as_it_was}
+use Rattle.cml_lanes.specs.{lane_drained, lane_gone, lane_opened, feed_pumped, feed_gone, feed_opened}
 use Rattle.cml_lanes.proofs.DeedsLemmas.{still, reserves, opens_lane, drains, drops, abandons, closes, closes_counted}
 use Rattle.cml_lanes.proofs.DeedsLemmas.{opens_feed, pumps, ends}
 

@@ -5,9 +5,11 @@ use Rattle.std.proofs.lemmas.Option.{same_Some, none-some}
 use Rattle.std.proofs.lemmas.Bool.{ne_eqb}
 use Rattle.std.proofs.lemmas.List.{length-replicate}
 use Rattle.std.proofs.lemmas.List.Folds.{sum_by-replicate}
-use Rattle.cml_board.specs.Prelude.{Who, Entry, Makers, behind_lane, behind_feed, lanes_of, feeds_of, capped, AreMakers, Shown}
+use Rattle.cml_board.specs.{Who, Entry, behind_lane, behind_feed, lanes_of, feeds_of, capped, AreMakers}
+use Rattle.cml_board.specs.declared.restored.Makers.{Makers}
+use Rattle.cml_board.specs.Shown.{Shown}
 use Rattle.cml_board.specs.declared.entry.Who.TheVariants.{Seat, Lane, Feed}
-use Rattle.cml_lanes.specs.Prelude.{LaneSide, FeedSide, is_lane, laned, is_feed, fed, KeepsLanes, KeepsFeeds, is_feeds_port, HasPorts}
+use Rattle.cml_lanes.specs.{LaneSide, FeedSide, is_lane, laned, is_feed, fed, KeepsLanes, KeepsFeeds, is_feeds_port, HasPorts}
 use Rattle.cml_lanes.proofs.LaningLemmas.{laned_other}
 use Rattle.cml_lanes.proofs.FeedEntriesLemmas.{fed_other}
 

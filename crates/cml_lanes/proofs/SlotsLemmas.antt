@@ -5,7 +5,7 @@ use Rattle.std.proofs.lemmas.Option.{same_Some, none-some}
 use Rattle.std.proofs.lemmas.List.Recursion.{is_count_by}
 use Rattle.std.proofs.lemmas.Bool.{eqb-true, eq-eqb, false≢true}
 use Rattle.cml_board.proofs.ListLemmas.{slice_get-set_same, slice_get-set_other}
-use Rattle.cml_lanes.specs.Prelude.{is_taken}
+use Rattle.cml_lanes.specs.{is_taken}
 
 -- a number is this one or another
 pub this_or_other : (k n : ℕ) → (k ≡ n) ⊎ (k ≢ n)

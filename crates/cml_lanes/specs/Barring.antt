@@ -1,7 +1,7 @@
 -- Which calls the ports of open feeds bar.
 use Rattle.std.specs.Prelude.{ℕ, ◌==◌, Bool, false, List, Option, Some, None}
 use Rattle.std.specs.List.{list_any}
-use Rattle.cml_board.specs.Prelude.{Call}
+use Rattle.cml_board.specs.{Call}
 use Rattle.cml_board.specs.declared.call.Call.TheVariants.{ClosePort, Recv, Poll}
 use Rattle.cml_lanes.specs.Sides.{FeedSide}
 

@@ -1,6 +1,6 @@
 -- What a cut does to a floor.
 use Rattle.std.specs.Prelude.{◌≡◌, ◌<◌, ◌⊎◌, Result, Ok, Err, ⊤, count_by, is_some}
-use Rattle.cml_board.specs.Prelude.{Refusal, Cuts}
+use Rattle.cml_board.specs.{Refusal, Cuts}
 use Rattle.cml_board.specs.declared.outcome.Refusal.TheVariants.{Busy}
 use Rattle.cml_lanes.specs.Floor.{FloorShown}
 

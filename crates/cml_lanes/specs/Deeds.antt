@@ -1,6 +1,6 @@
 -- What a call on lanes or feeds has done to a floor, whatever it tells.
 use Rattle.std.specs.Prelude.{ℕ, ◌≡◌, [], ◌∷◌, ◌++◌, slice_set, Option, Some, None}
-use Rattle.cml_board.specs.Prelude.{Name, IsAsBefore}
+use Rattle.cml_board.specs.{Name, IsAsBefore}
 use Rattle.cml_lanes.specs.Sides.{LaneSide, FeedSide}
 use Rattle.cml_lanes.specs.Moving.{DrainsRing}
 use Rattle.cml_lanes.specs.Pumping.{PumpsRing}

@@ -1,6 +1,6 @@
 -- What the ends that threads have of lanes and feeds show of themselves, and what is left of an end that has finished.
 use Rattle.std.specs.Prelude.{ℕ, List}
-use Rattle.cml_board.specs.Prelude.{Name}
+use Rattle.cml_board.specs.{Name}
 use Rattle.cml_lanes.specs.Ring.{Ring}
 
 -- a lane: its ring, its number on the floor, how many messages the ring has room for, and all that it accepted, in order

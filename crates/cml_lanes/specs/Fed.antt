@@ -1,6 +1,6 @@
 -- What feeds have taken out of a board, as its journal tells. A history is a list of entries, the newest first.
 use Rattle.std.specs.Prelude.{ℕ, ◌==◌, Bool, false, List, [], ◌∷◌, ◌++◌, if◌then◌else◌}
-use Rattle.cml_board.specs.Prelude.{Name, Who, Entry, message_in}
+use Rattle.cml_board.specs.{Name, Who, Entry, message_in}
 use Rattle.cml_board.specs.declared.call.Call.TheVariants.{Recv}
 use Rattle.cml_board.specs.declared.entry.Who.TheVariants.{Feed}
 use Rattle.cml_board.specs.declared.entry.Reply.TheVariants.{Got}

@@ -1,7 +1,8 @@
 -- What the calls on feeds do to a floor.
 use Rattle.std.specs.Prelude.{ℕ, ◌≡◌, ◌<◌, ◌⊎◌, Bool, [], ◌∷◌, ◌++◌, length, slice_get, slice_set, Option, Some, None}
 use Rattle.std.specs.Prelude.{Result, Ok, Err, IfSome}
-use Rattle.cml_board.specs.Prelude.{Name, Refusal, Fits, answer, Shown, HasRoom, AddsEntry, IsAsBefore, Refuses}
+use Rattle.cml_board.specs.{Name, Refusal, Fits, answer, HasRoom, AddsEntry, IsAsBefore, Refuses}
+use Rattle.cml_board.specs.Shown.{Shown}
 use Rattle.cml_board.specs.declared.call.Call.TheVariants.{NewPort}
 use Rattle.cml_board.specs.declared.entry.Who.TheVariants.{Feed}
 use Rattle.cml_board.specs.declared.entry.Reply.TheVariants.{Made}

@@ -1,6 +1,7 @@
 -- What a floor shows of itself, and what always holds of it.
 use Rattle.std.specs.Prelude.{ℕ, ◌≡◌, ◌≤◌, Bool, true, false, List, [], ◌++◌, length, slice_get, slice_set, Option, Some, None}
-use Rattle.cml_board.specs.Prelude.{Entry, Refusal, Shown}
+use Rattle.cml_board.specs.{Entry, Refusal}
+use Rattle.cml_board.specs.Shown.{Shown}
 use Rattle.cml_board.specs.declared.outcome.Refusal.TheVariants.{NoSuch}
 use Rattle.cml_lanes.specs.Ends.{Ended}
 use Rattle.cml_lanes.specs.Sides.{LaneSide, FeedSide}

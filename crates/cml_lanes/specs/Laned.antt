@@ -1,6 +1,6 @@
 -- What lanes have put into a journal. A history is a list of entries, the newest first.
 use Rattle.std.specs.Prelude.{ℕ, ◌==◌, Bool, false, List, [], ◌∷◌, ◌++◌, if◌then◌else◌}
-use Rattle.cml_board.specs.Prelude.{Name, Call, Who, Entry}
+use Rattle.cml_board.specs.{Name, Call, Who, Entry}
 use Rattle.cml_board.specs.declared.call.Call.TheVariants as call
 use Rattle.cml_board.specs.declared.entry.Who.TheVariants.{Lane}
 use Rattle.cml_board.specs.declared.entry.Reply.TheVariants.{Done}

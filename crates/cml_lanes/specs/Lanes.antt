@@ -1,8 +1,8 @@
 -- What the calls on lanes do to a floor.
 use Rattle.std.specs.Prelude.{ℕ, ◌≡◌, ◌≢◌, ◌<◌, ◌⊎◌, Bool, true, false, [], ◌∷◌, ◌++◌, length, slice_set, Option}
 use Rattle.std.specs.Prelude.{Some, None, Result, Ok, Err, ⊤}
-use Rattle.cml_board.specs.Prelude.{Name, Refusal, kind_of}
-use Rattle.cml_calls.specs.Prelude.{Kind}
+use Rattle.cml_board.specs.{Name, Refusal, kind_of}
+use Rattle.cml_calls.specs.{Kind}
 use Rattle.cml_board.specs.declared.outcome.Refusal.TheVariants.{NoSuch, WrongKind, NoMemory, Unseen}
 use Rattle.cml_lanes.specs.declared.way.Way.{Way}
 use Rattle.cml_lanes.specs.Ends.{LaneShown, Ended}

@@ -1,7 +1,8 @@
 -- How messages go out of a lane's ring into the journal.
 use Rattle.std.specs.Prelude.{ℕ, ◌≡◌, ◌+◌, ◌<◌, ◌≤◌, Bool, List, [], ◌++◌, length, slice_get, Some, ⊤}
 use mathlib.Core.List.{IsPrefix}
-use Rattle.cml_board.specs.Prelude.{Refusal, Entry, kind_of, Shown, IsAsBefore, Refuses}
+use Rattle.cml_board.specs.{Refusal, Entry, kind_of, IsAsBefore, Refuses}
+use Rattle.cml_board.specs.Shown.{Shown}
 use Rattle.cml_board.specs.declared.outcome.Refusal.TheVariants.{JournalFull, NoMemory}
 use Rattle.cml_lanes.specs.Sides.{LaneSide, way_call, way_kind}
 use Rattle.cml_lanes.specs.Laned.{laned, with_lane}

@@ -3,7 +3,8 @@ use Rattle.std.specs.Prelude.{ℕ, ◌≡◌, ◌+◌, ◌<◌, ◌≤◌, ◌�
 use Rattle.cml_calls.specs.declared.kind.Kind.TheVariants.{Port}
 use Rattle.cml_board.specs.declared.call.Call.TheVariants.{Recv}
 use Rattle.cml_board.specs.declared.entry.Reply.TheVariants.{Got}
-use Rattle.cml_board.specs.Prelude.{Entry, Refusal, kind_of, is_open, got, answer, Shown, IsAsBefore, Refuses}
+use Rattle.cml_board.specs.{Entry, Refusal, kind_of, is_open, got, answer, IsAsBefore, Refuses}
+use Rattle.cml_board.specs.Shown.{Shown}
 use Rattle.cml_lanes.specs.Sides.{FeedSide}
 use Rattle.cml_lanes.specs.Fed.{fed, with_feed}
 use Rattle.cml_lanes.specs.Moving.{IsLimit}

@@ -1,6 +1,7 @@
 -- Memory that a floor reserves, and the calls that need no other.
 use Rattle.std.specs.Prelude.{ℕ, ◌≡◌, ◌-◌, ◌<◌, ◌≤◌, Bool, true, false, not, ◌||◌, List, slice_get, Some, Result, Ok, Err, ⊤}
-use Rattle.cml_board.specs.Prelude.{Call, Entry, Refusal, entries_in, Shown, makes_object, fills_chunk, shares, IsAsBefore}
+use Rattle.cml_board.specs.{Call, Entry, Refusal, entries_in, makes_object, fills_chunk, shares, IsAsBefore}
+use Rattle.cml_board.specs.Shown.{Shown}
 use Rattle.cml_board.specs.declared.call.Call.TheVariants.{Recv}
 use Rattle.cml_board.specs.declared.outcome.Refusal.TheVariants.{NoMemory}
 use Rattle.cml_lanes.specs.Sides.{LaneSide, FeedSide, way_call}

@@ -1,7 +1,7 @@
 -- What the floor's end of a lane, and of a feed, shows of itself.
 use Rattle.std.specs.Prelude.{ℕ, ◌≢◌, List}
-use Rattle.cml_board.specs.Prelude.{Name, Call}
-use Rattle.cml_calls.specs.Prelude.{Kind}
+use Rattle.cml_board.specs.{Name, Call}
+use Rattle.cml_calls.specs.{Kind}
 use Rattle.cml_calls.specs.declared.kind.Kind.TheVariants as kind
 use Rattle.cml_board.specs.declared.call.Call.TheVariants as call
 use Rattle.cml_lanes.specs.declared.way.Way.{Way}

@@ -1,7 +1,8 @@
 -- The inside of `LaneSlots`, of `FeedSlots`, and of what drains and pumps one slot of them: no contract of a floor cites it.
 use Rattle.std.specs.Prelude.{ℕ, ◌≡◌, Bool, List, ◌++◌, length, Option, Some, None, is_some, count_by, nat_eq}
 use Rattle.std.specs.List.{list_any}
-use Rattle.cml_board.specs.Prelude.{Entry, Refusal, Shown}
+use Rattle.cml_board.specs.{Entry, Refusal}
+use Rattle.cml_board.specs.Shown.{Shown}
 use Rattle.cml_lanes.specs.Ends.{Ended}
 use Rattle.cml_lanes.specs.Sides.{LaneSide, FeedSide}
 use Rattle.cml_lanes.specs.Moving.{KeepsLane, Empties, IsHeld}

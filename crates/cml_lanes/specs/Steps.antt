@@ -1,6 +1,7 @@
 -- A run of a floor's calls.
 use Rattle.std.specs.Prelude.{ℕ, ◌≡◌, ◌≤◌, Bool, true, false, not, ◌&&◌, List, [], ◌∷◌, Option, Result, ⊤}
-use Rattle.cml_board.specs.Prelude.{Name, Call, Outcome, Refusal, Applies}
+use Rattle.cml_board.specs.{Name, Call, Refusal, Applies}
+use Rattle.cml_board.specs.declared.outcome.Outcome.{Outcome}
 use Rattle.cml_board.specs.declared.entry.Who.TheVariants.{Seat}
 use Rattle.cml_board.specs.declared.outcome.Outcome.TheVariants.{Refused}
 use Rattle.cml_board.specs.declared.outcome.Refusal.TheVariants.{WrongKind}

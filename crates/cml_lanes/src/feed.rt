@@ -1,6 +1,6 @@
 ghost use Rattle.std.specs.Prelude.{◌≡◌, [], ◌∷◌, ◌++◌, length, IfNone, IfSome, MatchOption};
 ghost use Rattle.rtrb.specs.Ring.{received, all_sent};
-ghost use Rattle.cml_lanes.specs.Prelude.{ring_of};
+ghost use Rattle.cml_lanes.specs.{ring_of};
 
 use cml_board::Name;
 use rtrb::{Consumer, Finished};

@@ -1,6 +1,6 @@
 ghost use Rattle.std.specs.Prelude.{◌≡◌, ◌<◌, ◌-◌, ◌^◌, ◌∷◌, ◌++◌, [], true, false, length, slice_get, slice_set, replicate};
 ghost use Rattle.std.specs.Prelude.{Some, None, is_some, count_by, IsSome, IfSome, IfOk, OnOk};
-ghost use Rattle.cml_lanes.specs.Prelude.{FeedSide, is_taken, stays, OnPlace, KeepsFeed, PumpsUntil, is_feeds_port, is_barred};
+ghost use Rattle.cml_lanes.specs.{FeedSide, is_taken, stays, OnPlace, KeepsFeed, PumpsUntil, is_feeds_port, is_barred};
 
 use crate::feed::FeedEnd;
 use crate::inner_feed::InnerFeed;

@@ -3,9 +3,9 @@ ghost use Rattle.std.specs.Prelude.{is_some, MatchBool, MatchResult, IfOk};
 ghost use Rattle.cml_board.specs.declared.entry.Who.TheVariants.{Seat};
 ghost use Rattle.cml_board.specs.declared.outcome.Outcome.TheVariants.{Refused};
 ghost use Rattle.cml_board.specs.declared.outcome.Refusal.TheVariants.{WrongKind};
-ghost use Rattle.cml_board.specs.Prelude.{no_entries, lanes_of, feeds_of, Applies};
-ghost use Rattle.cml_lanes.specs.Prelude.{laned, is_open_lane, is_open_feed, stays, OnLane, KeepsLanes, KeepsFeeds, KeepsRings, IsOfRing};
-ghost use Rattle.cml_lanes.specs.Prelude.{GivesAll, DrainsUntil, is_barred, Reserves, CutsAFloor, CutsFloor, NotCut, IsBusy};
+ghost use Rattle.cml_board.specs.{no_entries, lanes_of, feeds_of, Applies};
+ghost use Rattle.cml_lanes.specs.{laned, is_open_lane, is_open_feed, stays, OnLane, KeepsLanes, KeepsFeeds, KeepsRings, IsOfRing, GivesAll};
+ghost use Rattle.cml_lanes.specs.{DrainsUntil, is_barred, Reserves, CutsAFloor, CutsFloor, NotCut, IsBusy};
 
 mod feeds;
 mod lanes;

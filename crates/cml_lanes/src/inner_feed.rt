@@ -1,6 +1,6 @@
 ghost use Rattle.std.specs.Prelude.{◌≡◌, ◌+◌, ◌<◌, [], ◌∷◌, ◌++◌, IfSome};
 ghost use Rattle.rtrb.specs.Ring.{sent, known_free, producer_capacity};
-ghost use Rattle.cml_lanes.specs.Prelude.{ring_of, LearnsFree};
+ghost use Rattle.cml_lanes.specs.{ring_of, LearnsFree};
 
 use crate::feed::FeedEnd;
 use cml_board::Name;

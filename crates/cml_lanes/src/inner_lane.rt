@@ -1,6 +1,6 @@
 ghost use Rattle.std.specs.Prelude.{◌≡◌, ◌-◌, ◌^◌, ◌<◌, [], ◌∷◌, ◌++◌, length, slice_get, Some};
 ghost use Rattle.rtrb.specs.Ring.{received, known_items, consumer_capacity};
-ghost use Rattle.cml_lanes.specs.Prelude.{ring_of, Looks};
+ghost use Rattle.cml_lanes.specs.{ring_of, Looks};
 
 use crate::lane::LaneEnd;
 use crate::way::Way;

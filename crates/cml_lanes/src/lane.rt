@@ -1,6 +1,6 @@
 ghost use Rattle.std.specs.Prelude.{◌≡◌, ◌^◌, ◌-◌, ◌<◌, ◌≤◌, [], ◌∷◌, ◌++◌, length, OnOk, IsOk, IsErr, IfErr, IfSome};
 ghost use Rattle.rtrb.specs.Ring.{sent, known_free, producer_capacity};
-ghost use Rattle.cml_lanes.specs.Prelude.{ring_of};
+ghost use Rattle.cml_lanes.specs.{ring_of};
 
 use rtrb::{Finished, Producer};
 use std::marker::Model;

@@ -1,6 +1,6 @@
 ghost use Rattle.std.specs.Prelude.{◌≡◌, ◌<◌, ◌-◌, ◌^◌, ◌∷◌, ◌++◌, [], true, length, slice_get, slice_set, replicate, Some};
 ghost use Rattle.std.specs.Prelude.{None, is_some, count_by, IfSome, IfOk, OnOk, OnErr};
-ghost use Rattle.cml_lanes.specs.Prelude.{LaneSide, is_taken, stays, OnPlace, KeepsLane, DrainsUntil, LeavesAll};
+ghost use Rattle.cml_lanes.specs.{LaneSide, is_taken, stays, OnPlace, KeepsLane, DrainsUntil, LeavesAll};
 
 use crate::inner_lane::InnerLane;
 use crate::lane::LaneEnd;

@@ -1,11 +1,10 @@
 //! Laws of runs of calls on a floor.
 ghost use Rattle.std.specs.Prelude.{◌≡◌, ℕ, ◌+◌, ◌<◌, ◌≤◌, Bool, true, false, List, length};
-ghost use Rattle.cml_board.specs.Prelude.{Call};
+ghost use Rattle.cml_board.specs.{Call};
 ghost use Rattle.cml_board.specs.declared.outcome.Outcome.TheVariants.{Refused};
 ghost use Rattle.cml_board.specs.declared.outcome.Refusal.TheVariants.{NoMemory};
-ghost use Rattle.cml_lanes.specs.Prelude.{laned, fed, FloorShown, is_open_lane, is_open_feed, HoldsUp, Starves, added_since};
-ghost use Rattle.cml_lanes.specs.Prelude.{TakesEntryAlone, LaneTakesEntryAlone, FeedTakesEntryAlone, FloorCall, AppliesSeat, AreCalled};
-ghost use Rattle.cml_lanes.specs.Prelude.{keeps_journal};
+ghost use Rattle.cml_lanes.specs.{laned, fed, FloorShown, is_open_lane, is_open_feed, HoldsUp, Starves, added_since, TakesEntryAlone};
+ghost use Rattle.cml_lanes.specs.{LaneTakesEntryAlone, FeedTakesEntryAlone, FloorCall, AppliesSeat, AreCalled, keeps_journal};
 
 /// Shows that a closed lane stays closed, whatever is called on its floor, and its number gets no more entries.
 pub fn closed_lanes_get_no_entry<M>()

@@ -1,6 +1,6 @@
 //! How messages go from a lane's ring into the journal: each is taken out once it has its entry.
 ghost use Rattle.std.specs.Prelude.{◌≡◌, ◌<◌, [], length, IfNone, IfSome};
-ghost use Rattle.cml_lanes.specs.Prelude.{KeepsLane, MovesOut, Stops, OnSlot, HasLane, DrainsUntil, LeavesAll};
+ghost use Rattle.cml_lanes.specs.{KeepsLane, MovesOut, Stops, OnSlot, HasLane, DrainsUntil, LeavesAll};
 
 use crate::inner_lane::InnerLane;
 use crate::lane::LaneEnd;

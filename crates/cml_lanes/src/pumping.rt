@@ -1,8 +1,8 @@
 //! How messages go from a port into a feed's ring: each is received once a slot is free for it.
 ghost use Rattle.std.specs.Prelude.{◌≡◌, ◌≢◌, ◌<◌, None, IfNone, IfSome};
 ghost use Rattle.cml_board.specs.declared.call.Call.TheVariants.{Recv};
-ghost use Rattle.cml_board.specs.Prelude.{answer};
-ghost use Rattle.cml_lanes.specs.Prelude.{KeepsFeed, PumpsIn, Balks, IsSated, OnSlot, HasFeed, PumpsUntil, EndsSlot};
+ghost use Rattle.cml_board.specs.{answer};
+ghost use Rattle.cml_lanes.specs.{KeepsFeed, PumpsIn, Balks, IsSated, OnSlot, HasFeed, PumpsUntil, EndsSlot};
 
 use crate::feed::FeedEnd;
 use crate::inner_feed::InnerFeed;

@@ -1,6 +1,6 @@
 ghost use Rattle.std.specs.Prelude.{◌≡◌, MatchOption};
-ghost use Rattle.cml_calls.specs.Prelude.{Kind};
-ghost use Rattle.cml_lanes.specs.Prelude.{way_call, way_kind, NoLane};
+ghost use Rattle.cml_calls.specs.{Kind};
+ghost use Rattle.cml_lanes.specs.{way_call, way_kind, NoLane};
 
 use cml_board::{Call, Kind, Name};
 

@@ -6,7 +6,7 @@ use Rattle.std.proofs.Math.Seq.{drop-append_seam}
 use Rattle.std.proofs.lemmas.Bool.{cases_eq, cases_lt}
 use Rattle.std.proofs.lemmas.List.{get_or-set_same, get_or-set_other, get_or_past, append-nil, append_assoc}
 use denote.RawPtr.{Ptr}
-use Rattle.cml_log.specs.Prelude.{Chunk, block_at, IsKept, IsBare, row_of, cell_of, items_of, cell_at, LiesAt}
+use Rattle.cml_log.specs.{Chunk, block_at, IsKept, IsBare, row_of, cell_of, items_of, cell_at, LiesAt}
 
 -- the pointer of a cell
 abbrev lie_or : Ptr → Option (Ptr × ℕ) → Ptr

@@ -12,7 +12,7 @@ use denote.RattleType.{RattleType}
 use denote.Param.{layout}
 use denote.RawPtr.{Ptr}
 use denote.Steps.{nothing}
-use Rattle.cml_log.specs.Prelude.{fits, block_owns, blocks_own, block_lent, blocks_lent}
+use Rattle.cml_log.specs.{fits, block_owns, blocks_own, block_lent, blocks_lent}
 
 module _ (R : RattleType) where
   abbrev Slot : Type 0

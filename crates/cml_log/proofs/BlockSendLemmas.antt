@@ -10,7 +10,7 @@ use denote.Struct.Owning.{shape, fields, to}
 use denote.Param.Send.{IsSend, AllSend, owning_send, struct_send, sendable}
 use Rattle.std.proofs.Crossing.{frees}
 use Rattle.std_alloc.proofs.SendSync.{quiet, lies}
-use Rattle.cml_log.specs.Prelude.{heap, right_owns, block_owns, blocks_own}
+use Rattle.cml_log.specs.{heap, right_owns, block_owns, blocks_own}
 use Rattle.cml_log.specs.contracts.chunk.raw.Blocks as Blocks
 use Rattle.cml_log.specs.contracts.chunk.raw.Right as Right
 

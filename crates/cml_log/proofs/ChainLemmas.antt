@@ -9,9 +9,8 @@ use Rattle.std.proofs.lemmas.Nat.{div-mul-add, div-add-mod'}
 use Rattle.std.proofs.lemmas.List.{get_or_past, get_or_append_left, length-set, length-append, length-drop, take_all}
 use Rattle.std.proofs.lemmas.List.{set-append_left, map-set, map-append}
 use denote.RawPtr.{Ptr}
-use Rattle.cml_log.specs.Prelude.{Address, Chunk, block_at, IsKept, row_of, cell_of, row_at, link_at, items_of, Rewrites, with_row}
-use Rattle.cml_log.specs.Prelude.{with_link, with_cursors, Chunks, cell_at, count_of, count_at, LiesAt, end_of, passed, with_count, Pushed}
-use Rattle.cml_log.specs.Prelude.{IsLinked, IsChain}
+use Rattle.cml_log.specs.{Address, Chunk, block_at, IsKept, row_of, cell_of, row_at, link_at, items_of, Rewrites, with_row, with_link}
+use Rattle.cml_log.specs.{with_cursors, Chunks, cell_at, count_of, count_at, LiesAt, end_of, passed, with_count, Pushed, IsLinked, IsChain}
 use Rattle.cml_log.proofs.BlockLemmas.{lies_where_kept, block_at-here, block_at-other, items_of-same}
 use Rattle.cml_log.proofs.LinkedLemmas.{product-next, IsLinked-recounted, items_of-written, IsLinked-written, items_of-joined}
 use Rattle.cml_log.proofs.LinkedLemmas.{IsLinked-joined, items_of-without, IsLinked-without}

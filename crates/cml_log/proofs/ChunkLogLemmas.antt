@@ -3,8 +3,8 @@ use Rattle.std.proofs.Common.{◌≡◌, ◌≢◌, ℕ, ◌+◌, ◌-◌, ◌*�
 use Rattle.std.proofs.Common.{Option, Some, None, sym, ap, subst, ◌∙◌, arith}
 use Rattle.std.proofs.Math.Nat.{div-mul-le_self}
 use Rattle.std.proofs.lemmas.Nat.{le-div}
-use Rattle.cml_log.specs.Prelude.{Address, Cursor, trimmed, with_item, with_place, Opens, Chunks, count_at, LiesAt, end_of, is_idle, passed}
-use Rattle.cml_log.specs.Prelude.{with_count, Pushed, Passed, cursor_at, HoldsChunk, IsHeld, IsTrim, log_of}
+use Rattle.cml_log.specs.{Address, Cursor, trimmed, with_item, with_place, Opens, Chunks, count_at, LiesAt, end_of, is_idle, passed}
+use Rattle.cml_log.specs.{with_count, Pushed, Passed, cursor_at, HoldsChunk, IsHeld, IsTrim, log_of}
 use Rattle.cml_log.proofs.LogLemmas.{trimmed-tidy}
 use Rattle.cml_log.proofs.PassedLemmas.{idle_before}
 use Rattle.cml_log.proofs.StandingLemmas.{standing-lt, weight-elsewhere}

@@ -8,9 +8,9 @@ use Rattle.std.proofs.lemmas.Bool.{cases_eq, cases_lt, lt-ltb, eq-eqb}
 use Rattle.std.proofs.lemmas.Nat.{div-add-mod', le-div}
 use Rattle.std.proofs.lemmas.List.{get_or-set_same, get_or-set_other, get_or_past, map-set, length-append, drop-drop}
 use denote.RawPtr.{Ptr}
-use Rattle.cml_log.specs.Prelude.{Cursor, least, place_at, place_of, chunk_start, trimmed, with_item, with_place, IsTidy, Chunks, cell_at}
-use Rattle.cml_log.specs.Prelude.{count_of, count_at, LiesAt, end_of, is_idle, with_count, Pushed, Passed, cursor_at, place_in, standing}
-use Rattle.cml_log.specs.Prelude.{HoldsChunk, IsHeld, log_of, chunk_of}
+use Rattle.cml_log.specs.{Cursor, least, place_at, place_of, chunk_start, trimmed, with_item, with_place, IsTidy, Chunks, cell_at, count_of}
+use Rattle.cml_log.specs.{count_at, LiesAt, end_of, is_idle, with_count, Pushed, Passed, cursor_at, place_in, standing, HoldsChunk, IsHeld}
+use Rattle.cml_log.specs.{log_of, chunk_of}
 use Rattle.cml_log.proofs.LeastLemmas.{least-le_end, least-le_place, least-ge, chunk_start-le}
 use Rattle.cml_log.proofs.LinkedLemmas.{product-next}
 use Rattle.cml_log.proofs.StandingLemmas.{stands_in, standing_found, standing-set, weight-here, weight-elsewhere}

@@ -3,8 +3,9 @@ use Rattle.std.proofs.Common.{◌≡◌, ℕ, ◌+◌, ◌-◌, ◌*◌, ◌/◌
 use Rattle.std.proofs.Common.{refl, sym, ap, subst, ◌∙◌, arith}
 use Rattle.std.proofs.Math.Nat.{mul-div-le, zero-div}
 use Rattle.std.proofs.lemmas.List.{length-append, length-drop, drop-drop, drop-append-le}
-use Rattle.cml_log.specs.Prelude.{Log, empty_log, least, next_of, IsOpen, place_of, owed_items, trimmed, with_item, with_place, Opens}
-use Rattle.cml_log.specs.Prelude.{IsTidy, Holds}
+use Rattle.cml_log.specs.Log.{Log}
+use Rattle.cml_log.specs.{empty_log, least, next_of, IsOpen, place_of, owed_items, trimmed, with_item, with_place, Opens, IsTidy}
+use Rattle.cml_log.specs.Holds.{Holds}
 use Rattle.cml_log.proofs.LeastLemmas.{least-le_end}
 use Rattle.cml_log.proofs.LogLemmas.{IsTrimmable, place_at-open, next_of-trimmed, kept-trimmed, first-le_place, IsTidy-trimmed}
 use Rattle.cml_log.proofs.LogLemmas.{IsTidy-open_cursor, IsTidy-copy_cursor, IsTrimmable-with_item, IsTrimmable-advance}

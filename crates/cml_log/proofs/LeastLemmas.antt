@@ -5,7 +5,7 @@ use Rattle.std.proofs.Math.Nat.{div-mul-le_self, mul-le-mul_left, div-zero}
 use Rattle.std.proofs.lemmas.Nat.{le-div}
 use Rattle.std.proofs.lemmas.Bool.{cases_eq, cases_lt}
 use Rattle.std.proofs.lemmas.List.{get_or-set_same, get_or-set_other, get_or_past}
-use Rattle.cml_log.specs.Prelude.{least}
+use Rattle.cml_log.specs.{least}
 
 -- the end is no lower
 pub least-le_end : (end : ℕ) (places : List (Option ℕ)) → least end places ≤ end

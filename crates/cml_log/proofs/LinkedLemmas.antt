@@ -7,7 +7,7 @@ use Rattle.std.proofs.lemmas.List.{drop-drop, drop-append-le, take-append-le, ge
 use Rattle.std.proofs.Math.Nat.{mul-add, mul-one, mul-zero, mul-le-mul_left}
 use Rattle.std.proofs.Math.Seq.{get_or-append_seam}
 use denote.RawPtr.{Ptr}
-use Rattle.cml_log.specs.Prelude.{Address, Chunk, block_at, IsKept, row_of, link_of, row_at, link_at, items_of, IsLinked}
+use Rattle.cml_log.specs.{Address, Chunk, block_at, IsKept, row_of, link_of, row_at, link_at, items_of, IsLinked}
 use Rattle.cml_log.proofs.BlockLemmas.{within_found, block_at-here, block_at-other, same_everywhere, items_of-same}
 use Rattle.cml_log.proofs.BlockLemmas.{items_of-last, items_of-more, items_of-passed}
 

@@ -4,8 +4,9 @@ use Rattle.std.proofs.Common.{None, refl, sym, ap, ◌∙◌, inl, inr, unwrap_o
 use Rattle.std.proofs.Math.Nat.{mul-div-le}
 use Rattle.std.proofs.lemmas.Bool.{cases_eq, cases_lt}
 use Rattle.std.proofs.lemmas.List.{get_or-set_same, get_or-set_other, get_or_past, length-drop, length-append, drop-drop}
-use Rattle.cml_log.specs.Prelude.{Log, least, next_of, place_at, IsOpen, place_of, owed_items, chunk_start, trimmed, with_item, with_place}
-use Rattle.cml_log.specs.Prelude.{Opens, IsTidy}
+use Rattle.cml_log.specs.Log.{Log}
+use Rattle.cml_log.specs.{least, next_of, place_at, IsOpen, place_of, owed_items, chunk_start, trimmed, with_item, with_place, Opens}
+use Rattle.cml_log.specs.{IsTidy}
 use Rattle.cml_log.proofs.LeastLemmas.{least-le_end, least-le_place, least-later_end, least-opened, least-set, chunk_start-le}
 
 module _ {T : Type 0} where

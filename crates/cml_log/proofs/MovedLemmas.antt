@@ -6,8 +6,8 @@ use Rattle.std.proofs.lemmas.Bool.{cases_eq, lt-ltb, eq-eqb, false_from_ne_true}
 use Rattle.std.proofs.lemmas.Nat.{div-mul-add, mod-mul-add, div-add-mod'}
 use Rattle.std.proofs.lemmas.List.{get_or-set_same, get_or-set_other}
 use denote.RawPtr.{Ptr}
-use Rattle.cml_log.specs.Prelude.{Address, Cursor, Opens, Chunks, count_at, LiesAt, end_of, is_idle, passed, with_count, Passed, cursor_at}
-use Rattle.cml_log.specs.Prelude.{place_in, weight, standing, HoldsChunk, IsHeld, IsTrim, log_of}
+use Rattle.cml_log.specs.{Address, Cursor, Opens, Chunks, count_at, LiesAt, end_of, is_idle, passed, with_count, Passed, cursor_at}
+use Rattle.cml_log.specs.{place_in, weight, standing, HoldsChunk, IsHeld, IsTrim, log_of}
 use Rattle.cml_log.proofs.PassedLemmas.{idle_before, idle_bare, Passed-none, Passed-more}
 use Rattle.cml_log.proofs.StandingLemmas.{standing-set, standing-opened, weight-here, weight-elsewhere}
 use Rattle.cml_log.proofs.CursorsLemmas.{key_within, place_shows, count-here, count-other, lies-recounted, entered, IsHeld-passed}

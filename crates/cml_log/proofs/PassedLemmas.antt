@@ -3,7 +3,7 @@ use Rattle.std.proofs.Common.{◌≡◌, ◌⊎◌, ℕ, ◌+◌, ◌-◌, ◌*�
 use Rattle.std.proofs.Math.Nat.{mul-add, mul-one, mul-zero, mul-div-le}
 use Rattle.std.proofs.lemmas.Bool.{cases_eq, cases_lt, and_parts, ltb-true, eqb-true}
 use Rattle.std.proofs.lemmas.List.{get_or-set_same, get_or-set_other, get_or_past, length-set, length-drop, drop-drop}
-use Rattle.cml_log.specs.Prelude.{Chunks, count_of, count_at, end_of, is_idle, passed, Passed}
+use Rattle.cml_log.specs.{Chunks, count_of, count_at, end_of, is_idle, passed, Passed}
 use Rattle.cml_log.proofs.LinkedLemmas.{product-next}
 
 module _ {T : Type 0} (n : ℕ) where

@@ -8,8 +8,8 @@ use Rattle.std.proofs.lemmas.List.{length-append}
 use Rattle.std.proofs.lemmas.List.Sums.{sum_by-cons}
 use Rattle.std.proofs.lemmas.Bool.Decides.{nat_tests}
 use Rattle.slab.specs.Slab.{Slab, get, Updates, entries_from}
-use Rattle.cml_log.specs.Prelude.{Log, least, next_of, chunk_start, trimmed, with_item, IsOpen, place_of, owed_items, Opens, IsTidy}
-use Rattle.cml_log.specs.Prelude.{IsSound}
+use Rattle.cml_log.specs.Log.{Log}
+use Rattle.cml_log.specs.{least, next_of, chunk_start, trimmed, with_item, IsOpen, place_of, owed_items, Opens, IsTidy, IsSound}
 use Rattle.cml_log.proofs.LeastLemmas.{least-le_end, least-le_place, least-past_cursor, least-vacant, chunk_start-le}
 use Rattle.cml_log.proofs.LogLemmas.{place_at-open, IsTrimmable, trimmed-tidy, IsTidy-trimmed, IsTidy-opened, next_of-opened}
 use Rattle.cml_log.proofs.LogLemmas.{next_of-trimmed, IsTrimmable-with_item, IsTrimmable-advance, IsTrimmable-close}

@@ -3,7 +3,7 @@ use Rattle.std.proofs.Common.{◌≡◌, ℕ, zero, suc, ◌<◌, List, [], ◌�
 use Rattle.std.proofs.Common.{refl, sym, ap, ◌∙◌, subst, arith}
 use Rattle.std.specs.List.{slice_get}
 use Rattle.std.proofs.lemmas.List.{length-set}
-use Rattle.cml_log.specs.Prelude.{written, IsBlank, IsFilled, IsRow}
+use Rattle.cml_log.specs.{written, IsBlank, IsFilled, IsRow}
 
 module _ {T : Type 0} where
   -- places of which each is none

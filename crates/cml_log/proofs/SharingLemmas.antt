@@ -13,7 +13,7 @@ use denote.Sharing.{ShrLaws}
 use denote.SharingLaws.{beside_shr_laws, nothing_shr_laws, said_shr_laws}
 use denote.Shares.{Shares-less}
 use denote.Struct.Lending.{lent_at, lent_at_shr_laws, Lends, Lends-both, Lends-first, Lends-lies, Lends-nothing, Lends-said}
-use Rattle.cml_log.specs.Prelude.{token, fits, block_owns, blocks_own, block_lent, blocks_lent}
+use Rattle.cml_log.specs.{token, fits, block_owns, blocks_own, block_lent, blocks_lent}
 
 module _ (R : RattleType) (L : RowLaws R) where
   one_laws : (block : Option (Ptr × R.Denot)) → ShrLaws (block_lent R block)

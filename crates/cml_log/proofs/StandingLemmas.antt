@@ -3,7 +3,7 @@ use Rattle.std.proofs.Common.{◌≡◌, ◌≢◌, ℕ, zero, suc, ◌+◌, ◌
 use Rattle.std.proofs.Common.{count_by, is_some, Option, Some, None, refl, ap, arith}
 use Rattle.std.proofs.lemmas.Bool.{eqb-true, eq-eqb, ne_eqb}
 use Rattle.std.proofs.lemmas.List.Recursion.{is_count_by}
-use Rattle.cml_log.specs.Prelude.{Cursor, cursor_at, weight, standing}
+use Rattle.cml_log.specs.{Cursor, cursor_at, weight, standing}
 
 -- how many of these slots have a cursor
 abbrev open_count : List (Option Cursor) → ℕ

@@ -1,7 +1,7 @@
 //! The chunks of a log in their blocks. This file has every call that reads or changes a chunk.
 ghost use Rattle.std.specs.Prelude.{◌≡◌, ◌+◌, ◌<◌, [], ◌∷◌, ◌++◌, Some, None, length, option_copied, slice_get, slice_set, IfOk, OnErr};
-ghost use Rattle.cml_log.specs.Prelude.{block_at, IsKept, IsBare, row_at, link_at, cell_of, KeepsCounts, Rewrites, with_row, with_link};
-ghost use Rattle.cml_log.specs.Prelude.{with_cursors};
+ghost use Rattle.cml_log.specs.{block_at, IsKept, IsBare, row_at, link_at, cell_of, KeepsCounts, Rewrites, with_row, with_link};
+ghost use Rattle.cml_log.specs.{with_cursors};
 
 mod raw;
 

@@ -2,7 +2,7 @@ ghost use Rattle.std.specs.Prelude.{◌≡◌, ℕ, ◌+◌, ◌-◌, ◌%◌, �
 ghost use Rattle.std.specs.Prelude.{length, slice_get, slice_set, option_copied};
 ghost use Rattle.std.proofs.Common.{rules};
 ghost use Rattle.slab.specs.Slab.{ContainsKey};
-ghost use Rattle.cml_log.specs.Prelude.{chunk_of};
+ghost use Rattle.cml_log.specs.{chunk_of};
 
 use crate::chain::Chain;
 use crate::chunk::Address;

@@ -3,7 +3,7 @@ ghost use Rattle.std.specs.Prelude.{◌≡◌, ℕ, ◌+◌, ◌-◌, ◌*◌, �
 ghost use Rattle.std.specs.Prelude.{unwrap_or, OnOk, OnErr, IsOk};
 ghost use Rattle.std.specs.VecDeque.{deque_len, deque_capacity};
 ghost use Rattle.slab.specs.Slab.{get, ContainsKey};
-ghost use Rattle.cml_log.specs.Prelude.{least};
+ghost use Rattle.cml_log.specs.{least};
 
 use slab::Slab;
 use std::alloc::AllocError;

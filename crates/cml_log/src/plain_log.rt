@@ -1,6 +1,6 @@
 ghost use Rattle.std.specs.Prelude.{◌≡◌, ℕ, ◌+◌, ◌-◌, ◌*◌, ◌/◌, ◌<◌, ◌≤◌};
 ghost use Rattle.std.proofs.Common.{rules};
-ghost use Rattle.cml_log.specs.Prelude.{chunk_of};
+ghost use Rattle.cml_log.specs.{chunk_of};
 
 use crate::places::{least_place, make_room, step, trim};
 use crate::{Back, Key, MessageLog};

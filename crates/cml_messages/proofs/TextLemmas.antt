@@ -8,7 +8,7 @@ use Rattle.std.proofs.lemmas.Bool.{le-leb, leb-true, and_parts, and_from}
 use Rattle.std.proofs.lemmas.Fmt.{digits_decimal, decimal_nonempty, length-decimal-le}
 use Rattle.std.proofs.lemmas.Str.{IsUtf8-from_ascii}
 use Rattle.std.proofs.lemmas.Str.Parse.{numerals_by_value, tells_all_ascii_digits}
-use Rattle.cml_messages.specs.Prelude.{is_text_byte, is_text}
+use Rattle.cml_messages.specs.{is_text_byte, is_text}
 
 -- bytes of a right number are tested one by one
 pub text_by_bytes : (bs : List ℕ) → 1 ≤ length bs → length bs ≤ 64 → is_text bs ≡ list_all is_text_byte bs

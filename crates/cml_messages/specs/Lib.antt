@@ -1,4 +1,6 @@
 pub mod Sizes
 pub mod Place
 pub mod Text
-pub mod Prelude
+-- the names that others import from here
+pub use Sizes.{IsLong, IsShort, IsTooLong}
+pub use Text.{is_text, is_text_byte}

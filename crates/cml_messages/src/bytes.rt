@@ -1,5 +1,5 @@
 ghost use Rattle.std.specs.Prelude.{◌≡◌, ◌↔◌, ◌<◌, ◌^◌, [], length, IsTrue, IsOk, IsErr, IfOk, OnErr, IsOkAnd};
-ghost use Rattle.cml_messages.specs.Prelude.{IsShort, IsTooLong};
+ghost use Rattle.cml_messages.specs.{IsShort, IsTooLong};
 
 use crate::place::Place;
 use std::alloc::{AllocError, Global};

@@ -1,7 +1,7 @@
 //! Where bytes lie.
 ghost use Rattle.std.specs.Prelude.{◌≡◌, ◌<◌, ◌≤◌, ◌^◌, length, IfOk, OnErr};
 ghost use Rattle.std.specs.Arc.{arc_value};
-ghost use Rattle.cml_messages.specs.Prelude.{IsShort, IsLong};
+ghost use Rattle.cml_messages.specs.{IsShort, IsLong};
 
 use crate::few::Few;
 use std::alloc::{AllocError, Global};

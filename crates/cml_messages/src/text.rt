@@ -1,7 +1,7 @@
 //! A text: one word, short enough for a line.
 ghost use Rattle.std.specs.Prelude.{◌≡◌, ◌<◌, ◌^◌, true, false, IfOk};
 ghost use Rattle.std.specs.Fmt.{decimal};
-ghost use Rattle.cml_messages.specs.Prelude.{IsShort, is_text_byte, is_text};
+ghost use Rattle.cml_messages.specs.{IsShort, is_text_byte, is_text};
 
 use crate::bytes::Bytes;
 use itoa::Buffer;

@@ -9,18 +9,20 @@ use Rattle.std.proofs.Math.Arith.{le_of_le-suc-ne}
 use Rattle.std.proofs.Math.Nat.{min-le_right}
 use Rattle.std.proofs.lemmas.List.{append-nil, take-append-le, length-reverse}
 use Rattle.std.proofs.Math.Seq.{take-append_seam, take-length}
-use Rattle.cml_log.specs.Prelude.{owed_items}
-use Rattle.cml_calls.specs.Prelude.{is_source, is_receiver, Kind}
+use Rattle.cml_log.specs.{owed_items}
+use Rattle.cml_calls.specs.{is_source, is_receiver, Kind}
 use Rattle.cml_calls.specs.declared.kind.Kind.TheVariants.{Mailbox}
-use Rattle.cml_board.specs.Prelude.{Name, Call, Who, Entry, Reply, Outcome, Origin, kind_by, made, kind_of, sent, sent_by, got, got_by}
-use Rattle.cml_board.specs.Prelude.{if_made, begun_by, no_entries, entries_in, sent_count, got_count, only_if, Answered as Shown_answer}
-use Rattle.cml_board.specs.Prelude.{Shown, KeepsMailboxes, full_at, Applies}
+use Rattle.cml_board.specs.{Name, Call, Who, Entry, Reply, Origin, kind_by, made, kind_of, sent, sent_by, got, got_by, if_made, begun_by}
+use Rattle.cml_board.specs.{no_entries, entries_in, sent_count, got_count, only_if, KeepsMailboxes, full_at, Applies}
+use Rattle.cml_board.specs.declared.outcome.Outcome.{Outcome}
+use Rattle.cml_board.specs.Answered.{Answered as Shown_answer}
+use Rattle.cml_board.specs.Shown.{Shown}
 use Rattle.cml_board.specs.declared.call.Call.TheVariants.{NewMailbox}
 use Rattle.cml_board.specs.declared.entry.Who.TheVariants.{Seat}
 use Rattle.cml_board.specs.declared.entry.Reply.TheVariants.{Made}
 use Rattle.cml_board.specs.declared.outcome.Outcome.TheVariants.{Answered, WouldWait, Refused}
 use Rattle.cml_board.proofs.ListLemmas.{slice_get-append_some}
-use Rattle.cml_queueing.specs.Prelude.{numbers, IsServer, IsStation, ServesInOrder}
+use Rattle.cml_queueing.specs.{numbers, IsServer, IsStation, ServesInOrder}
 
 -- the numbers
 

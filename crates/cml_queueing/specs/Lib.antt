@@ -2,4 +2,7 @@ pub mod Endings
 pub mod Station
 pub mod Course
 pub mod Demands
-pub mod Prelude
+-- the names that others import from here
+pub use Station.{IsAnsweredBy, IsServer, IsStation, Place, Receives, ServesInOrder, numbers}
+pub use Course.{KeepsDemand, ServesAll}
+pub use Demands.{IsAsked}

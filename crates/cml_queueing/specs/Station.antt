@@ -1,7 +1,8 @@
 -- What a station's history tells: which customers came into the line, and which were served, by whom.
 use Rattle.std.specs.Prelude.{ℕ, zero, suc, ◌≡◌, ◌≢◌, ◌≤◌, List, [], ◌∷◌, ◌++◌, length, Some, ⊤}
 use Rattle.cml_calls.specs.declared.kind.Kind.TheVariants.{Mailbox}
-use Rattle.cml_board.specs.Prelude.{Call, Who, Reply, Entry, Outcome, kind_of, sent, got, got_by}
+use Rattle.cml_board.specs.{Call, Who, Reply, Entry, kind_of, sent, got, got_by}
+use Rattle.cml_board.specs.declared.outcome.Outcome.{Outcome}
 use Rattle.cml_board.specs.declared.call.Call.TheVariants.{Recv}
 use Rattle.cml_board.specs.declared.entry.Who.TheVariants.{Seat}
 use Rattle.cml_board.specs.declared.entry.Reply.TheVariants.{Got}

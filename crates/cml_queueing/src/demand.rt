@@ -1,6 +1,6 @@
 //! What is simulated: how many servers and customers, how fast they are, and the seed.
 ghost use Rattle.std.specs.Prelude.{IfOk};
-ghost use Rattle.cml_queueing.specs.Prelude.{IsAsked};
+ghost use Rattle.cml_queueing.specs.{IsAsked};
 
 use crate::asked::Asked;
 use crate::decimal::{MILLION, millionths_in};

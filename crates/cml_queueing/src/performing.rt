@@ -1,6 +1,6 @@
 //! What the program's words ask for is done.
 ghost use Rattle.std.specs.Prelude.{◌≢◌, OnOk};
-ghost use Rattle.cml_queueing.specs.Prelude.{ServesAll};
+ghost use Rattle.cml_queueing.specs.{ServesAll};
 
 use crate::asked::{Asked, Form};
 use crate::demand::Demand;

@@ -1,6 +1,6 @@
 //! A whole run.
 ghost use Rattle.std.specs.Prelude.{OnOk};
-ghost use Rattle.cml_queueing.specs.Prelude.{KeepsDemand, ServesAll};
+ghost use Rattle.cml_queueing.specs.{KeepsDemand, ServesAll};
 
 use crate::ending::Ending;
 use crate::figures::Figures;

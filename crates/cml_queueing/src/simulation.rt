@@ -1,6 +1,6 @@
 //! The events of a run, in the order of simulated time.
 ghost use Rattle.std.specs.Prelude.{◌≡◌, ◌+◌, ◌<◌, ◌^◌, IfOk};
-ghost use Rattle.cml_queueing.specs.Prelude.{ServesInOrder, KeepsDemand};
+ghost use Rattle.cml_queueing.specs.{ServesInOrder, KeepsDemand};
 
 use crate::demand::Demand;
 use crate::ending::Ending;

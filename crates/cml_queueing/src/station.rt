@@ -1,8 +1,8 @@
 //! The line of customers and the servers that are free: two mailboxes on one board.
 ghost use Rattle.std.specs.Prelude.{◌≡◌, IfOk, IfSome, OnOk};
 ghost use Rattle.cml_board.specs.declared.entry.Reply.TheVariants.{Got};
-ghost use Rattle.cml_board.specs.Prelude.{no_entries};
-ghost use Rattle.cml_queueing.specs.Prelude.{IsStation, ServesInOrder, Receives, IsAnsweredBy};
+ghost use Rattle.cml_board.specs.{no_entries};
+ghost use Rattle.cml_queueing.specs.{IsStation, ServesInOrder, Receives, IsAnsweredBy};
 
 use crate::ending::Ending;
 use crate::keeper::Keeper;

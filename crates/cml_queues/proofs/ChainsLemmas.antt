@@ -6,8 +6,8 @@ use Rattle.std.proofs.lemmas.Bool.{true≢false, or_parts, or_from, or_left, or_
 use Rattle.std.proofs.lemmas.List.Folds.{list_any-append}
 use Rattle.std.proofs.lemmas.Map.Steps.{length-le_from_distinct_below}
 use Rattle.std.specs.List.{IsDistinct, AllByRecursion}
-use Rattle.cml_queues.specs.Prelude.{Link, Ends, has, next_in, previous_in, walk, head_or, last_or, link_of, IsChain, IsApart, IsQueue}
-use Rattle.cml_queues.specs.Prelude.{next_set, previous_set, end_set, queue_from}
+use Rattle.cml_queues.specs.{Link, Ends, has, next_in, previous_in, walk, head_or, last_or, link_of, IsChain, IsApart, IsQueue, next_set}
+use Rattle.cml_queues.specs.{previous_set, end_set, queue_from}
 
 module _ {X : Type 0} where
   pub set_same : (xs : List X) (i : ℕ) (y : X) → i < length xs → slice_get (slice_set xs i y) i ≡ Some y

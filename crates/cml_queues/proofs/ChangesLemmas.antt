@@ -4,8 +4,8 @@ use Rattle.std.proofs.Common.{slice_set, Option, Some, None, IfSome, refl, sym, 
 use Rattle.std.proofs.lemmas.Option.{same_Some}
 use Rattle.std.proofs.lemmas.Bool.{true≢false, or_parts, or_from, cases_eq, cases_Bool}
 use Rattle.std.proofs.lemmas.List.{length-set}
-use Rattle.cml_queues.specs.Prelude.{Link, Ends, has, next_in, previous_in, head_or, last_or, link_of, IsChain, IsApart, IsQueue, next_set}
-use Rattle.cml_queues.specs.Prelude.{previous_set, end_set, appended, ends_appended, joined, ends_joined}
+use Rattle.cml_queues.specs.{Link, Ends, has, next_in, previous_in, head_or, last_or, link_of, IsChain, IsApart, IsQueue, next_set}
+use Rattle.cml_queues.specs.{previous_set, end_set, appended, ends_appended, joined, ends_joined}
 use Rattle.cml_queues.proofs.ChainsLemmas.{set_same, set_other, differs, has_head, last_has, head_has, last_append, end_kept}
 use Rattle.cml_queues.proofs.ChainsLemmas.{chain_kept, next_set_other, previous_set_other, chain_next, chain_previous, chain_split}
 use Rattle.cml_queues.proofs.ChainsLemmas.{chain_joined, has_append, apart_split, apart_joined}

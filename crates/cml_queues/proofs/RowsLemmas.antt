@@ -4,8 +4,8 @@ use Rattle.std.proofs.Common.{slice_set, Option, Some, None, IfSome, refl, sym, 
 use Rattle.std.proofs.lemmas.Option.{same_Some, slice_get_within}
 use Rattle.std.proofs.lemmas.Bool.{true≢false, or_from, or_left, or_right, cases_eq}
 use Rattle.std.proofs.lemmas.List.{length-set}
-use Rattle.cml_queues.specs.Prelude.{Link, Ends, has, next_in, previous_in, head_or, last_or, link_of, IsQueue, row_of, AreQueues}
-use Rattle.cml_queues.specs.Prelude.{AreLinked, queue_from, appended, ends_appended, joined, ends_joined}
+use Rattle.cml_queues.specs.{Link, Ends, has, next_in, previous_in, head_or, last_or, link_of, IsQueue, row_of, AreQueues, AreLinked}
+use Rattle.cml_queues.specs.{queue_from, appended, ends_appended, joined, ends_joined}
 use Rattle.cml_queues.proofs.ChainsLemmas.{set_same, set_other, differs, has_head, has_tail, last_has, head_has, has_append}
 use Rattle.cml_queues.proofs.ChainsLemmas.{queue_is, queue_kept, chain_within}
 use Rattle.cml_queues.proofs.ChangesLemmas.{LeadWithin, not_true, if_some, only, length-appended, length-joined, appended_other}

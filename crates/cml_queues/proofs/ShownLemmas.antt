@@ -7,9 +7,8 @@ use Rattle.std.proofs.lemmas.Option.{get_or_from_slice_get, IfSome_then}
 use Rattle.std.proofs.lemmas.Bool.{true≢false, cases_lt, cases_eq}
 use Rattle.std.proofs.lemmas.List.{length-map, length-replicate, get_or-replicate}
 use Rattle.std.proofs.Math.Seq.{take-append_seam}
-use Rattle.cml_queues.specs.Prelude.{Link, Ends, QueuesShown, has, queue_of, is_in, previous_in, head_or, last_or, link_of, ends_of}
-use Rattle.cml_queues.specs.Prelude.{IsApart, IsQueue, row_of, AreQueues, AreLinked, queue_from, shown_by, appended, ends_appended, joined}
-use Rattle.cml_queues.specs.Prelude.{ends_joined}
+use Rattle.cml_queues.specs.{Link, Ends, QueuesShown, has, queue_of, is_in, previous_in, head_or, last_or, link_of, ends_of, IsApart}
+use Rattle.cml_queues.specs.{IsQueue, row_of, AreQueues, AreLinked, queue_from, shown_by, appended, ends_appended, joined, ends_joined}
 use Rattle.cml_queues.proofs.ChainsLemmas.{has_head, has_append, queue_kept, queue_short, chain_within}
 use Rattle.cml_queues.proofs.ChangesLemmas.{length-appended, length-joined, gone, not_true}
 use Rattle.cml_queues.proofs.RowsLemmas.{shown_is, row_same, row_other, last_within, queues_appended, member_link}

@@ -1,7 +1,6 @@
 //! The links between the members of a queue, and a queue's two ends.
 ghost use Rattle.std.specs.Prelude.{◌≡◌, ◌<◌, length, slice_get, IfSome};
-ghost use Rattle.cml_queues.specs.Prelude.{next_in, previous_in, next_set, previous_set, end_set, appended, ends_appended, joined};
-ghost use Rattle.cml_queues.specs.Prelude.{ends_joined};
+ghost use Rattle.cml_queues.specs.{next_in, previous_in, next_set, previous_set, end_set, appended, ends_appended, joined, ends_joined};
 
 /// The numbers before and behind a member of a queue. It says nothing of a number that is in no queue.
 #[derive(Clone, Copy)]

@@ -1,6 +1,6 @@
 ghost use Rattle.std.specs.Prelude.{◌≡◌, ◌≢◌, ℕ, ◌+◌, ◌<◌, ◌≤◌, ◌++◌, List, [], ◌∷◌, length, true, false, slice_get};
 ghost use Rattle.std.specs.Prelude.{IfSome, IfOk, OnOk, OnErr};
-ghost use Rattle.cml_queues.specs.Prelude.{queue_of, is_in};
+ghost use Rattle.cml_queues.specs.{queue_of, is_in};
 
 use crate::links::{Ends, Link, append, unlink};
 use std::alloc::{AllocError, Global};

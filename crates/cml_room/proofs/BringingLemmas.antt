@@ -3,18 +3,19 @@ use Rattle.std.proofs.Common.{◌≡◌, ℕ, ◌<◌, ◌≤◌, List, [], ◌�
 use Rattle.std.proofs.Common.{Ok, Err, refl, sym, ap, subst, ◌∙◌, Bool, arith}
 use Rattle.std.specs.Option.{option_map}
 use Rattle.std.specs.Prelude.{⊤}
-use Rattle.cml_board.specs.Prelude.{Name, Call, Entry, Refusal, Want, kind_by, source_by, takes, Fits, entries_in, kind_of, origin_of}
-use Rattle.cml_board.specs.Prelude.{wanting, Shown}
+use Rattle.cml_board.specs.{Name, Call, Entry, Refusal, Want, kind_by, source_by, takes, Fits, entries_in, kind_of, origin_of, wanting}
+use Rattle.cml_board.specs.Shown.{Shown}
 use Rattle.cml_board.specs.declared.call.Call.TheVariants as call
 use Rattle.cml_board.specs.declared.entry.Reply.TheVariants.{Made}
 use Rattle.cml_board.specs.declared.entry.Who.TheVariants.{Feed}
 use Rattle.cml_board.specs.declared.want.Want.TheVariants as want
-use Rattle.cml_lanes.specs.Prelude.{Way, LaneSide, way_call, way_kind, lane_entry, with_lane, feed_entry, with_feed, Looks, FloorShown}
-use Rattle.cml_lanes.specs.Prelude.{KeepsLanes, FindsNoLane, Abandons, Deed, as_it_was, lane_drained, lane_gone, lane_opened, feed_pumped}
-use Rattle.cml_lanes.specs.Prelude.{feed_gone, feed_opened}
+use Rattle.cml_lanes.specs.{Way, LaneSide, way_call, way_kind, lane_entry, with_lane, feed_entry, with_feed, Looks, FloorShown, KeepsLanes}
+use Rattle.cml_lanes.specs.{FindsNoLane, Abandons, Deed, as_it_was, lane_drained, lane_gone, lane_opened, feed_pumped, feed_gone}
+use Rattle.cml_lanes.specs.{feed_opened}
 use Rattle.cml_lanes.specs.declared.way.Way.TheVariants.{Send, Cast}
 use Rattle.cml_lanes.proofs.LaningLemmas.{kind_more}
-use Rattle.cml_room.specs.Prelude.{News, Place, object_of, news_in, IsOf, AreAt, Follows, HasEntries, IsWatched, WasWatched, WasWatchedAt}
+use Rattle.cml_room.specs.declared.news.News.{News}
+use Rattle.cml_room.specs.{Place, object_of, news_in, IsOf, AreAt, Follows, HasEntries, IsWatched, WasWatched, WasWatchedAt}
 use Rattle.cml_room.proofs.RingNewsLemmas.{Leads, way_news, lanes_lead, feeds_lead, one_leads, follows, same_follows}
 use Rattle.cml_room.proofs.UnmovedLemmas.{by_reason}
 

@@ -3,18 +3,19 @@ use Rattle.std.proofs.Common.{◌≡◌, ℕ, ◌⊎◌, inl, inr, Bool, true, f
 use Rattle.std.proofs.Common.{IsTrue, IsSome, IfSome, refl, sym, ap, subst, ◌∙◌}
 use Rattle.std.proofs.lemmas.Bool.{false≢true}
 use Rattle.std.proofs.lemmas.Option.{none-some, same_Some}
-use Rattle.cml_calls.specs.Prelude.{Kind, is_mailbox, is_channel, is_port}
+use Rattle.cml_calls.specs.{Kind, is_mailbox, is_channel, is_port}
 use Rattle.cml_calls.specs.declared.kind.Kind.TheVariants.{Mailbox, Channel, Port}
-use Rattle.cml_board.specs.Prelude.{Call, Answer, Who, Reply, Entry, Refusal, Want, Fits, answer, is_open, want_in, Waits, Shown, Applies}
-use Rattle.cml_board.specs.Prelude.{IsAsBefore}
+use Rattle.cml_board.specs.{Call, Answer, Who, Reply, Entry, Refusal, Want, Fits, answer, is_open, want_in, Waits, Applies, IsAsBefore}
+use Rattle.cml_board.specs.Shown.{Shown}
 use Rattle.cml_board.specs.declared.call.Call.TheVariants.{ClosePort, CopyPort, Send, Cast, Recv, Poll, Put, Get, Take, Swap}
 use Rattle.cml_board.specs.declared.entry.Who.TheVariants.{Seat}
 use Rattle.cml_board.specs.declared.outcome.Outcome.TheVariants as board
 use Rattle.cml_board.specs.declared.outcome.Refusal.TheVariants.{WrongKind}
-use Rattle.cml_lanes.specs.Prelude.{FloorShown, is_barred}
+use Rattle.cml_lanes.specs.{FloorShown, is_barred}
 use Rattle.cml_lanes.proofs.MovesLemmas.{unchanged}
-use Rattle.cml_room.specs.Prelude.{News, Place, State, MayTurn, news_in, IsOf, news_by, NoneOpen, RoomShown, MayAsk, MayAskAgain, WouldWait}
-use Rattle.cml_room.specs.Prelude.{Follows, IsWatched}
+use Rattle.cml_room.specs.declared.news.News.{News}
+use Rattle.cml_room.specs.{Place, State, MayTurn, news_in, IsOf, news_by, NoneOpen, RoomShown, MayAsk, MayAskAgain, WouldWait, Follows}
+use Rattle.cml_room.specs.{IsWatched}
 use Rattle.cml_room.specs.declared.state.State.TheVariants.{Free, Parked}
 use Rattle.cml_room.proofs.RestingLemmas.{fits_kept}
 use Rattle.cml_room.proofs.RingNewsLemmas.{one_leads, follows, same_follows}

@@ -5,12 +5,14 @@ use Rattle.std.specs.Option.{option_map}
 use Rattle.std.proofs.lemmas.Option.{same_Some, slice_get_within, slice_get-get_or, slice_get-map, get_or_from_slice_get}
 use Rattle.std.proofs.lemmas.Bool.{true≢false}
 use Rattle.std.proofs.lemmas.List.{length-map, map-set, set-get_or}
-use Rattle.cml_board.specs.Prelude.{Entry, Want, Shown, full_at, entries_in, HasRoom}
+use Rattle.cml_board.specs.{Entry, Want, full_at, entries_in, HasRoom}
+use Rattle.cml_board.specs.Shown.{Shown}
 use Rattle.cml_board.proofs.ListLemmas.{slice_get-set_same, slice_get-set_other}
-use Rattle.cml_lanes.specs.Prelude.{FloorShown}
+use Rattle.cml_lanes.specs.{FloorShown}
 use Rattle.cml_lanes.proofs.SlotsLemmas.{this_or_other}
-use Rattle.cml_room.specs.Prelude.{News, Place, Waiter, State, MayTurn, object_of, source_of, NoNews, state_by, states_in, AreRoused}
-use Rattle.cml_room.specs.Prelude.{IsMate, IsQuiet, freed, IsStalled, WouldWait, AreAt, NoneForgotten, Follows, IsWatched}
+use Rattle.cml_room.specs.declared.news.News.{News}
+use Rattle.cml_room.specs.{Place, Waiter, State, MayTurn, object_of, source_of, NoNews, state_by, states_in, AreRoused, IsMate, IsQuiet}
+use Rattle.cml_room.specs.{freed, IsStalled, WouldWait, AreAt, NoneForgotten, Follows, IsWatched}
 use Rattle.cml_room.specs.declared.place.Place.TheVariants.{Free, Waiting, Left}
 use Rattle.cml_room.specs.declared.state.State.TheVariants as state
 use Rattle.cml_room.proofs.IdlingLemmas.{idle_at}

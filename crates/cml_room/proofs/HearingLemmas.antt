@@ -5,17 +5,17 @@ use Rattle.std.specs.Prelude.{◌==◌, ◌&&◌, ◌||◌}
 use Rattle.std.specs.Option.{option_map}
 use Rattle.std.proofs.lemmas.Option.{none-some, same_Some}
 use Rattle.std.proofs.lemmas.Bool.{true≢false, false≢true, eqb-true, eq-eqb, cases_lt}
-use Rattle.cml_board.specs.Prelude.{Name, Call, Reply, Entry, Want, Origin, mailbox, channel, port, ivar, mvar, kind_by, source_by, copy_of}
-use Rattle.cml_board.specs.Prelude.{takes, Lawful, Fits, made, if_made, begun_by, origin_of, kind_of, sent, got}
-use Rattle.cml_calls.specs.Prelude.{Kind, is_channel, is_variable}
+use Rattle.cml_board.specs.{Name, Call, Reply, Entry, Want, Origin, mailbox, channel, port, ivar, mvar, kind_by, source_by, copy_of, takes}
+use Rattle.cml_board.specs.{Lawful, Fits, made, if_made, begun_by, origin_of, kind_of, sent, got}
+use Rattle.cml_calls.specs.{Kind, is_channel, is_variable}
 use Rattle.cml_calls.specs.declared.kind.Kind.TheVariants as kind
 use Rattle.cml_board.specs.declared.call.Call.TheVariants as call
 use Rattle.cml_board.specs.declared.entry.Reply.TheVariants.{Made}
 use Rattle.cml_board.specs.declared.want.Want.TheVariants.{Recv, Get, Take, Swap}
 use Rattle.cml_board.proofs.ClosingLemmas.{kind_kept}
 use Rattle.cml_board.proofs.ReceivedLemmas.{slice_get-append_within}
-use Rattle.cml_room.specs.Prelude.{News, Place, Waiter, object_of, source_of, helps, NoNews, IsOf, AreRoused, IsMate, IsQuiet, reaches}
-use Rattle.cml_room.specs.Prelude.{AreAt}
+use Rattle.cml_room.specs.declared.news.News.{News}
+use Rattle.cml_room.specs.{Place, Waiter, object_of, source_of, helps, NoNews, IsOf, AreRoused, IsMate, IsQuiet, reaches, AreAt}
 use Rattle.cml_room.specs.declared.news.News.TheVariants.{Message, Multicast, Value, Closed}
 use Rattle.cml_room.proofs.RousingLemmas.{mate_on, quiet_before}
 

@@ -5,7 +5,7 @@ use Rattle.std.specs.Prelude.{◌&&◌, ◌||◌, not}
 use Rattle.std.proofs.lemmas.Option.{same_Some, slice_get_within}
 use Rattle.std.proofs.lemmas.Bool.{false≢true}
 use Rattle.cml_lanes.proofs.SlotsLemmas.{this_or_other}
-use Rattle.cml_room.specs.Prelude.{State, RoomShown, is_parked, has_notice, state_of, GivesInTurn, was_woken}
+use Rattle.cml_room.specs.{State, RoomShown, is_parked, has_notice, state_of, GivesInTurn, was_woken}
 
 abbrev one : Bool → ℕ
 one true = 1

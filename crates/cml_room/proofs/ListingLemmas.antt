@@ -12,12 +12,12 @@ use Rattle.std.proofs.lemmas.List.Folds.{list_any-append}
 use Rattle.cml_board.proofs.ListLemmas.{slice_get-set_same, slice_get-set_other, slice_get_pushed}
 use Rattle.cml_board.proofs.LogsLemmas.{slice_get_pushed_other}
 use Rattle.cml_lanes.proofs.SlotsLemmas.{this_or_other}
-use Rattle.cml_room.specs.Prelude.{Notice, Place, Waiter, state_by, states_in, row_of, row_in, notice_by, noted_as, noted_in, quieted}
-use Rattle.cml_room.specs.Prelude.{AreListed, free_by, parked_by, freed, IsKept}
+use Rattle.cml_room.specs.{Notice, Place, Waiter, state_by, states_in, row_of, row_in, notice_by, noted_as, noted_in, quieted, AreListed}
+use Rattle.cml_room.specs.{free_by, parked_by, freed, IsKept}
 use Rattle.cml_room.specs.declared.notice.Notice.TheVariants as notice
 use Rattle.cml_room.specs.declared.place.Place.TheVariants as place
 use Rattle.cml_room.specs.declared.state.State.TheVariants as state
-use Rattle.cml_queues.specs.Prelude.{QueuesShown, has, queue_of, is_in}
+use Rattle.cml_queues.specs.{QueuesShown, has, queue_of, is_in}
 use Rattle.cml_room.proofs.IdlingLemmas.{free_within, parked_within, parked_at}
 
 or_false : (b : Bool) → (b || false) ≡ b

@@ -4,13 +4,13 @@ use Rattle.std.specs.Prelude.{◌==◌, ◌&&◌, ◌||◌}
 use Rattle.std.specs.Option.{option_map}
 use Rattle.std.proofs.lemmas.Option.{none-some, same_Some}
 use Rattle.std.proofs.lemmas.Bool.{false≢true, eqb-true, eq-eqb}
-use Rattle.cml_board.specs.Prelude.{Name, Entry, Want, Origin, mailbox, channel, port, ivar, mvar, kind_by, source_by, Fits, origin_of}
-use Rattle.cml_board.specs.Prelude.{kind_of, wanting}
-use Rattle.cml_calls.specs.Prelude.{Kind, is_receiver, is_variable, is_mvar}
+use Rattle.cml_board.specs.{Name, Entry, Want, Origin, mailbox, channel, port, ivar, mvar, kind_by, source_by, Fits, origin_of, kind_of}
+use Rattle.cml_board.specs.{wanting}
+use Rattle.cml_calls.specs.{Kind, is_receiver, is_variable, is_mvar}
 use Rattle.cml_calls.specs.declared.kind.Kind.TheVariants as kind
 use Rattle.cml_board.specs.declared.want.Want.TheVariants.{Recv, Get, Take, Swap}
 use Rattle.cml_room.specs.declared.news.News.TheVariants.{Message, Multicast, Value, Closed}
-use Rattle.cml_room.specs.Prelude.{Waiter, object_of, source_of, helps, reaches}
+use Rattle.cml_room.specs.{Waiter, object_of, source_of, helps, reaches}
 use Rattle.cml_room.proofs.HearingLemmas.{SourcesAreChannels, source_cases, variable_source}
 
 and_both : (a b : Bool) → (a && b) ≡ true → (a ≡ true) × (b ≡ true)

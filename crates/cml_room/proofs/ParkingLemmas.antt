@@ -2,13 +2,14 @@
 use Rattle.std.proofs.Common.{◌≡◌, ◌≢◌, ℕ, ◌⊎◌, inl, inr, Bool, false, List, get_or, slice_get, slice_set, Some, refl, sym, ap, subst, ◌∙◌}
 use Rattle.std.proofs.lemmas.Option.{same_Some, get_or_from_slice_get}
 use Rattle.std.proofs.lemmas.List.{map-set, set-get_or, set-set}
-use Rattle.cml_board.specs.Prelude.{Entry, Want, Fits, wanting, Shown}
+use Rattle.cml_board.specs.{Entry, Want, Fits, wanting}
+use Rattle.cml_board.specs.Shown.{Shown}
 use Rattle.cml_board.proofs.ListLemmas.{slice_get-set_same, slice_get-set_other}
-use Rattle.cml_lanes.specs.Prelude.{FloorShown}
+use Rattle.cml_lanes.specs.{FloorShown}
 use Rattle.cml_lanes.proofs.SlotsLemmas.{this_or_other}
 use Rattle.cml_room.specs.declared.notice.Notice.TheVariants.{Nothing}
-use Rattle.cml_room.specs.Prelude.{Place, Waiter, State, object_of, source_of, state_by, states_in, quieted, IsMate, IsQuiet, HasRisen}
-use Rattle.cml_room.specs.Prelude.{freed, WouldWait, AreAt, NoneForgotten, IsWatched, MayTurn}
+use Rattle.cml_room.specs.{Place, Waiter, State, object_of, source_of, state_by, states_in, quieted, IsMate, IsQuiet, HasRisen, freed}
+use Rattle.cml_room.specs.{WouldWait, AreAt, NoneForgotten, IsWatched, MayTurn}
 use Rattle.cml_room.specs.declared.place.Place.TheVariants.{Free, Waiting}
 use Rattle.cml_room.specs.declared.state.State.TheVariants as state
 use Rattle.cml_room.proofs.ListingLemmas.{set_here}

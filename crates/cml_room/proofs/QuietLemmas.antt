@@ -1,11 +1,11 @@
 -- What feeds add brings no news.
 use Rattle.std.proofs.Common.{ℕ, inl, inr, Bool, ◌∷◌, None, Result, Ok, Err, ap, ◌∙◌}
-use Rattle.cml_board.specs.Prelude.{Name, Entry, Refusal}
+use Rattle.cml_board.specs.{Name, Entry, Refusal}
 use Rattle.cml_board.specs.declared.call.Call.TheVariants.{NewPort}
 use Rattle.cml_board.specs.declared.entry.Who.TheVariants.{Feed}
 use Rattle.cml_board.specs.declared.entry.Reply.TheVariants.{Made}
-use Rattle.cml_lanes.specs.Prelude.{FeedShown, with_feed, FloorShown, FindsNoFeed, OpensAFeed, FillsFeed, Starves, Pumps}
-use Rattle.cml_room.specs.Prelude.{Follows}
+use Rattle.cml_lanes.specs.{FeedShown, with_feed, FloorShown, FindsNoFeed, OpensAFeed, FillsFeed, Starves, Pumps}
+use Rattle.cml_room.specs.{Follows}
 use Rattle.cml_room.proofs.RingNewsLemmas.{one_leads, feeds_lead, follows, same_follows}
 use Rattle.cml_room.proofs.UnmovedLemmas.{by_reason}
 

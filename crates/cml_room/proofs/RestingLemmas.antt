@@ -5,10 +5,10 @@ use Rattle.std.specs.Prelude.{⊤}
 use Rattle.std.specs.Option.{option_map}
 use Rattle.std.proofs.lemmas.Option.{none-some, same_Some, slice_get_past}
 use Rattle.std.proofs.lemmas.Bool.{false≢true, ne_eqb, eqb-true}
-use Rattle.cml_board.specs.Prelude.{Name, Call, Reply, Entry, Want, Origin, kind_by, source_by, start_by, takes, left_by, held, Fits, made}
-use Rattle.cml_board.specs.Prelude.{if_made, begun_by, origin_of, kind_of, sent, sent_by, got, got_by, closes, is_done, is_open, due, owed}
-use Rattle.cml_board.specs.Prelude.{received, given, answer, Waits}
-use Rattle.cml_calls.specs.Prelude.{Kind}
+use Rattle.cml_board.specs.{Name, Call, Reply, Entry, Want, Origin, kind_by, source_by, start_by, takes, left_by, held, Fits, made, if_made}
+use Rattle.cml_board.specs.{begun_by, origin_of, kind_of, sent, sent_by, got, got_by, closes, is_done, is_open, due, owed, received, given}
+use Rattle.cml_board.specs.{answer, Waits}
+use Rattle.cml_calls.specs.{Kind}
 use Rattle.cml_board.specs.declared.call.Call.TheVariants.{ClosePort, MVarInit, Send, Cast, Recv, Get, Put, Take, TakePoll, Swap}
 use Rattle.cml_board.specs.declared.entry.Reply.TheVariants.{Done, Made, Got, Closed}
 use Rattle.cml_board.specs.declared.want.Want.TheVariants as want
@@ -16,7 +16,7 @@ use Rattle.cml_board.proofs.ClosingLemmas.{kind_kept}
 use Rattle.cml_board.proofs.TellingLemmas.{stays_open, none_sent}
 use Rattle.cml_board.proofs.ReceivedLemmas.{slice_get-append_within}
 use Rattle.cml_board.proofs.UnmadeLemmas.{none_at}
-use Rattle.cml_room.specs.Prelude.{news_in, source_of, NoNews}
+use Rattle.cml_room.specs.{news_in, source_of, NoNews}
 
 module _ {M : Type 0} where
   -- a receive that waits is on what is open and owes nothing

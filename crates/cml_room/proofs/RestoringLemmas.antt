@@ -3,8 +3,8 @@ use Rattle.std.proofs.Common.{◌≡◌, ℕ, zero, suc, ◌+◌, Bool, false, �
 use Rattle.std.proofs.Common.{slice_set, Some, refl, sym, ap, subst, ◌∙◌, add-one, arith, length-append}
 use Rattle.std.proofs.lemmas.Option.{same_Some, none-some}
 use Rattle.std.proofs.lemmas.List.{length-replicate}
-use Rattle.cml_lanes.specs.Prelude.{FloorShown}
-use Rattle.cml_room.specs.Prelude.{Place, Waiter, State, states_in, is_parked, IsWatched}
+use Rattle.cml_lanes.specs.{FloorShown}
+use Rattle.cml_room.specs.{Place, Waiter, State, states_in, is_parked, IsWatched}
 use Rattle.cml_room.specs.declared.place.Place.TheVariants as place
 use Rattle.cml_room.specs.declared.state.State.TheVariants as state
 

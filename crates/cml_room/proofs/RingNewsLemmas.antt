@@ -1,14 +1,15 @@
 -- What lanes and feeds add to a history brings no news but their own.
 use Rattle.std.proofs.Common.{◌≡◌, ℕ, eqb, List, [], ◌∷◌, Option, Some, None, IsSome, refl, sym, ap, subst, ◌∙◌}
 use Rattle.std.specs.Option.{option_map}
-use Rattle.cml_board.specs.Prelude.{Name, Entry, Want, kind_by, source_by, made, if_made, begun_by, origin_of, kind_of, answer, Waits}
-use Rattle.cml_board.specs.Prelude.{Shown}
+use Rattle.cml_board.specs.{Name, Entry, Want, kind_by, source_by, made, if_made, begun_by, origin_of, kind_of, answer, Waits}
+use Rattle.cml_board.specs.Shown.{Shown}
 use Rattle.cml_board.specs.declared.call.Call.TheVariants as call
 use Rattle.cml_board.specs.declared.want.Want.TheVariants as want
 use Rattle.cml_board.proofs.ReceivedLemmas.{slice_get-append_within}
-use Rattle.cml_lanes.specs.Prelude.{Way, lane_entry, with_lane, feed_entry, with_feed}
+use Rattle.cml_lanes.specs.{Way, lane_entry, with_lane, feed_entry, with_feed}
 use Rattle.cml_lanes.specs.declared.way.Way.TheVariants.{Send, Cast}
-use Rattle.cml_room.specs.Prelude.{News, object_of, news_in, source_of, NoNews, Follows}
+use Rattle.cml_room.specs.declared.news.News.{News}
+use Rattle.cml_room.specs.{object_of, news_in, source_of, NoNews, Follows}
 use Rattle.cml_room.specs.declared.news.News.TheVariants.{Message, Multicast}
 use Rattle.cml_room.proofs.RestingLemmas.{within_made, fits_kept, recv_waits, still_waits}
 

@@ -4,13 +4,13 @@ use Rattle.std.proofs.Common.{Option, Some, None, refl, sym, ap, subst, ◌∙�
 use Rattle.std.specs.Option.{option_map}
 use Rattle.std.proofs.lemmas.Option.{none-some, same_Some, slice_get-map}
 use Rattle.std.proofs.lemmas.Bool.{true≢false, false≢true}
-use Rattle.cml_board.specs.Prelude.{Entry, Want}
+use Rattle.cml_board.specs.{Entry, Want}
 use Rattle.cml_board.proofs.ListLemmas.{slice_get-append_some, slice_get-set_other}
-use Rattle.cml_lanes.specs.Prelude.{FloorShown}
+use Rattle.cml_lanes.specs.{FloorShown}
 use Rattle.cml_lanes.proofs.SlotsLemmas.{this_or_other}
-use Rattle.cml_room.specs.Prelude.{News, Notice, Place, Waiter, Helps, state_by, states_in, notice_by, notices_in, is_noted, AreRoused}
-use Rattle.cml_room.specs.Prelude.{HasRisen, OneEach, IsForOne, RisesFew, BecomesDue, WantOf, MakesFewDue, MakesNoneDue, RoomShown}
-use Rattle.cml_room.specs.Prelude.{has_notice, freed}
+use Rattle.cml_room.specs.declared.news.News.{News}
+use Rattle.cml_room.specs.{Notice, Place, Waiter, Helps, state_by, states_in, notice_by, notices_in, is_noted, AreRoused, HasRisen, OneEach}
+use Rattle.cml_room.specs.{IsForOne, RisesFew, BecomesDue, WantOf, MakesFewDue, MakesNoneDue, RoomShown, has_notice, freed}
 use Rattle.cml_room.specs.declared.notice.Notice.TheVariants.{Nothing, Due, Woken}
 use Rattle.cml_room.specs.declared.place.Place.TheVariants.{Free, Waiting, Left}
 use Rattle.cml_room.specs.declared.state.State.TheVariants as state

@@ -5,16 +5,16 @@ use Rattle.std.proofs.lemmas.Option.{same_Some, slice_get_within, slice_get-get_
 use Rattle.std.proofs.lemmas.Bool.{true≢false, false≢true, eqb-true, eq-eqb}
 use Rattle.std.proofs.lemmas.List.{length-set, length-map, ext_get_or}
 use Rattle.std.proofs.Math.ListN.{get_or-map}
-use Rattle.cml_board.specs.Prelude.{Want, Entry, Fits, wanting}
+use Rattle.cml_board.specs.{Want, Entry, Fits, wanting}
 use Rattle.cml_board.proofs.ListLemmas.{slice_get-set_same, slice_get-set_other}
 use Rattle.cml_lanes.proofs.SlotsLemmas.{this_or_other}
-use Rattle.cml_room.specs.Prelude.{Notice, Place, Waiter, state_by, states_in, row_of, row_in, is_noted, AreListed, roused, roused_notice}
-use Rattle.cml_room.specs.Prelude.{AreRoused, IsMate, IsQuiet, object_of, source_of, reaches, AreAt}
+use Rattle.cml_room.specs.{Notice, Place, Waiter, state_by, states_in, row_of, row_in, is_noted, AreListed, roused, roused_notice}
+use Rattle.cml_room.specs.{AreRoused, IsMate, IsQuiet, object_of, source_of, reaches, AreAt}
 use Rattle.cml_room.specs.declared.notice.Notice.TheVariants.{Nothing, Due, Woken}
 use Rattle.cml_room.specs.declared.place.Place.TheVariants.{Free, Waiting, Left}
 use Rattle.cml_room.specs.declared.state.State.TheVariants as state
 use Rattle.cml_room.proofs.ListingLemmas.{set_here, in_row}
-use Rattle.cml_queues.specs.Prelude.{QueuesShown, is_in}
+use Rattle.cml_queues.specs.{QueuesShown, is_in}
 use Rattle.std.specs.Prelude.{◌==◌, ◌&&◌, ◌||◌, ⊤}
 
 -- a seat that was roused does what it did

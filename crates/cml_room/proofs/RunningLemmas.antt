@@ -3,10 +3,9 @@ use Rattle.std.proofs.Common.{◌≡◌, ◌⊎◌, ℕ, inl, inr, Bool, true, f
 use Rattle.std.specs.Prelude.{◌&&◌, ◌||◌, not}
 use Rattle.std.proofs.lemmas.Option.{none-some, same_Some}
 use Rattle.std.proofs.lemmas.Bool.{true≢false, false≢true, eq-eqb, ne_eqb}
-use Rattle.cml_board.specs.Prelude.{Want}
-use Rattle.cml_room.specs.Prelude.{State, Notice, RoomShown, is_parked, has_notice, is_due, state_of, NoneDue, AllSleepRightly, RoomCall}
-use Rattle.cml_room.specs.Prelude.{AskOf, NextDue, Other, AreMade, HasAsked, NobodyForgotten, HaveAllAsked, AllWouldWait, is_returned}
-use Rattle.cml_room.specs.Prelude.{woken_in, was_woken}
+use Rattle.cml_board.specs.{Want}
+use Rattle.cml_room.specs.{State, Notice, RoomShown, is_parked, has_notice, is_due, state_of, NoneDue, AllSleepRightly, RoomCall, AskOf}
+use Rattle.cml_room.specs.{NextDue, Other, AreMade, HasAsked, NobodyForgotten, HaveAllAsked, AllWouldWait, is_returned, woken_in, was_woken}
 use Rattle.cml_room.specs.declared.state.State.TheVariants.{Free, Parked, Left}
 use Rattle.cml_lanes.proofs.SlotsLemmas.{this_or_other}
 use Rattle.cml_room.specs.declared.notice.Notice.TheVariants.{Nothing, Due, Woken}

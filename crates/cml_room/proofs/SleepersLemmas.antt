@@ -6,13 +6,13 @@ use Rattle.std.specs.Option.{option_map}
 use Rattle.std.proofs.lemmas.Option.{none-some, same_Some, slice_get-map, slice_get_past, get_or_from_slice_get}
 use Rattle.std.proofs.lemmas.Bool.{true≢false, false≢true}
 use Rattle.std.proofs.lemmas.List.{map-set, set-get_or}
-use Rattle.cml_board.specs.Prelude.{Entry, Want, Fits, wanting}
+use Rattle.cml_board.specs.{Entry, Want, Fits, wanting}
 use Rattle.cml_board.proofs.ListLemmas.{slice_get-set_same, slice_get-set_other, slice_get-append_some, pushed_cases, slice_get_pushed}
-use Rattle.cml_lanes.specs.Prelude.{FloorShown}
+use Rattle.cml_lanes.specs.{FloorShown}
 use Rattle.cml_lanes.proofs.SlotsLemmas.{this_or_other}
-use Rattle.cml_room.specs.Prelude.{Notice, Place, Waiter, State, object_of, source_of, state_by, states_in, notice_by, notices_in, is_noted}
-use Rattle.cml_room.specs.Prelude.{place_due, AreAlike, AreRoused, IsMate, IsQuiet, free_in, WakesNext, IsStalled, is_parked, has_notice}
-use Rattle.cml_room.specs.Prelude.{is_due, SleepsRightly, WouldWait, AreAt, IsWatched}
+use Rattle.cml_room.specs.{Notice, Place, Waiter, State, object_of, source_of, state_by, states_in, notice_by, notices_in, is_noted}
+use Rattle.cml_room.specs.{place_due, AreAlike, AreRoused, IsMate, IsQuiet, free_in, WakesNext, IsStalled, is_parked, has_notice, is_due}
+use Rattle.cml_room.specs.{SleepsRightly, WouldWait, AreAt, IsWatched}
 use Rattle.cml_room.specs.declared.notice.Notice.TheVariants.{Nothing, Due, Woken}
 use Rattle.cml_room.specs.declared.place.Place.TheVariants.{Free, Waiting, Left}
 use Rattle.cml_room.specs.declared.state.State.TheVariants as state

@@ -6,9 +6,9 @@ use Rattle.std.proofs.lemmas.Option.{slice_get-map, slice_get_within, get_or_fro
 use Rattle.std.proofs.lemmas.List.{length-map}
 use Rattle.std.proofs.lemmas.List.Sums.{sum_by-set}
 use Rattle.std.proofs.lemmas.Bool.{false≢true}
-use Rattle.cml_board.specs.Prelude.{Entry, Want, Waits, Shown}
-use Rattle.cml_room.specs.Prelude.{Notice, Place, Waiter, state_by, states_in, is_noted, noted_as, free_by, free_in, IsIdle, AreIdle}
-use Rattle.cml_room.specs.Prelude.{NoneForgotten}
+use Rattle.cml_board.specs.{Entry, Want, Waits}
+use Rattle.cml_board.specs.Shown.{Shown}
+use Rattle.cml_room.specs.{Notice, Place, Waiter, state_by, states_in, is_noted, noted_as, free_by, free_in, IsIdle, AreIdle, NoneForgotten}
 use Rattle.cml_room.specs.declared.notice.Notice.TheVariants.{Nothing, Due, Woken}
 use Rattle.cml_room.specs.declared.place.Place.TheVariants.{Free, Waiting, Left}
 use Rattle.cml_room.specs.declared.state.State.TheVariants as state

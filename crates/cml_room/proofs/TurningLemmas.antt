@@ -1,12 +1,13 @@
 -- What becomes of the call of a seat that may make it.
 use Rattle.std.proofs.Common.{◌≡◌, ℕ, ◌⊎◌, inl, inr, Bool, true, false, List, slice_set, Some, refl, sym, ap, subst, ◌∙◌}
 use Rattle.std.specs.Prelude.{⊤}
-use Rattle.cml_board.specs.Prelude.{Call, Answer, Outcome, Refusal, Want, want_in, Applies}
+use Rattle.cml_board.specs.{Call, Answer, Refusal, Want, want_in, Applies}
+use Rattle.cml_board.specs.declared.outcome.Outcome.{Outcome}
 use Rattle.cml_board.specs.declared.entry.Who.TheVariants.{Seat}
 use Rattle.cml_board.specs.declared.outcome.Outcome.TheVariants.{Answered, WouldWait, Refused}
 use Rattle.cml_board.specs.declared.outcome.Refusal.TheVariants.{Gone, Busy, NoSuch, WrongKind, JournalFull, Stalled, NoMemory, Unseen}
-use Rattle.cml_lanes.specs.Prelude.{FloorShown, is_barred}
-use Rattle.cml_room.specs.Prelude.{Notice, State, NoneOpen, AreIdle, IsStalled, RoomShown, floor_of, Moves, Reaches, IsBarred, Asks}
+use Rattle.cml_lanes.specs.{FloorShown, is_barred}
+use Rattle.cml_room.specs.{Notice, State, NoneOpen, AreIdle, IsStalled, RoomShown, floor_of, Moves, Reaches, IsBarred, Asks}
 use Rattle.cml_room.specs.declared.state.State.TheVariants.{Free, Parked}
 
 module _ {M : Type 0} where

@@ -3,11 +3,13 @@ use Rattle.std.proofs.Common.{◌≡◌, ℕ, ◌+◌, ◌≤◌, ◌⊎◌, inl
 use Rattle.std.proofs.Common.{Ok, Err, subst, sym, ap, ◌∙◌, arith, length-append}
 use Rattle.std.specs.Prelude.{⊤, min, is_some, count_by, MatchResult}
 use Rattle.std.proofs.lemmas.List.Sums.{sum_by-append}
-use Rattle.cml_board.specs.Prelude.{Entry, Name, Refusal, entries_in, HasRoom, IsAsBefore, Shown, full_at, Waits}
+use Rattle.cml_board.specs.{Entry, Name, Refusal, entries_in, HasRoom, IsAsBefore, full_at, Waits}
+use Rattle.cml_board.specs.Shown.{Shown}
 use Rattle.cml_board.specs.declared.outcome.Refusal.TheVariants.{NoSuch}
-use Rattle.cml_lanes.specs.Prelude.{LaneShown, Ended, FloorShown, NoSuchOr, FindsNoFeed, OpensALane, Ends, CutsFloor, CutsAFloor, NotCut}
-use Rattle.cml_lanes.specs.Prelude.{Reserves, IsFloorAsBefore}
-use Rattle.cml_room.specs.Prelude.{Place, Waiter, states_in, IsMate, NoneOpen, AreIdle, WouldWait, AreAt, IsWatched}
+use Rattle.cml_lanes.specs.{LaneShown, Ended, FloorShown, NoSuchOr, FindsNoFeed, OpensALane, CutsFloor, CutsAFloor, NotCut, Reserves}
+use Rattle.cml_lanes.specs.{IsFloorAsBefore}
+use Rattle.cml_lanes.specs.Feeds.{Ends}
+use Rattle.cml_room.specs.{Place, Waiter, states_in, IsMate, NoneOpen, AreIdle, WouldWait, AreAt, IsWatched}
 
 -- what holds of both reasons holds of each refusal
 pub by_reason : {P : Type 0} (none : Type 0) (why : Refusal → Type 0) (refusal : Refusal) → (none → P)

@@ -4,9 +4,8 @@ use Rattle.std.proofs.Common.{slice_get, slice_set, Option, Some, None, IfSome, 
 use Rattle.std.specs.Option.{option_map}
 use Rattle.std.proofs.lemmas.Option.{slice_get-map, slice_get_past, slice_get-get_or}
 use Rattle.cml_board.proofs.ListLemmas.{slice_get-set_same, slice_get-set_other}
-use Rattle.cml_room.specs.Prelude.{Notice, Place, Waiter, notice_by, notices_in, quieted, roused, roused_notice, AreRoused, RoomShown}
-use Rattle.cml_room.specs.Prelude.{floor_of, has_notice, is_due, freed, WakesNext, is_woken, woken_in, was_woken, KeepsWoken, HasAsked}
-use Rattle.cml_room.specs.Prelude.{GivesNext}
+use Rattle.cml_room.specs.{Notice, Place, Waiter, notice_by, notices_in, quieted, roused, roused_notice, AreRoused, RoomShown, floor_of}
+use Rattle.cml_room.specs.{has_notice, is_due, freed, WakesNext, is_woken, woken_in, was_woken, KeepsWoken, HasAsked, GivesNext}
 use Rattle.cml_room.specs.declared.notice.Notice.TheVariants.{Nothing, Due, Woken}
 use Rattle.cml_room.specs.declared.place.Place.TheVariants.{Free, Waiting, Left}
 use Rattle.cml_lanes.proofs.SlotsLemmas.{this_or_other}

@@ -1,6 +1,6 @@
 -- The end of a seat's turn.
 use Rattle.std.specs.Prelude.{ℕ, ◌≡◌, ◌⊎◌, List, slice_get, slice_set, Option, Some, None, IfSome}
-use Rattle.cml_board.specs.Prelude.{Entry, Want}
+use Rattle.cml_board.specs.{Entry, Want}
 use Rattle.cml_room.specs.declared.news.News.{News}
 use Rattle.cml_room.specs.declared.place.Place.{Place}
 use Rattle.cml_room.specs.declared.state.State.{State}

@@ -1,8 +1,8 @@
 -- What a call leaves of the seats: their states, who was woken, and who becomes due. A seat that waits becomes due by a notice, or
 -- because all that wait are due: that is the alarm, `all_due`.
 use Rattle.std.specs.Prelude.{ℕ, ◌≡◌, Option}
-use Rattle.cml_board.specs.Prelude.{HasRoom}
-use Rattle.cml_lanes.specs.Prelude.{FloorShown}
+use Rattle.cml_board.specs.{HasRoom}
+use Rattle.cml_lanes.specs.{FloorShown}
 use Rattle.cml_room.specs.declared.news.News.{News}
 use Rattle.cml_room.specs.Places.{states_in, notices_in}
 use Rattle.cml_room.specs.Rising.{RisesFew, MakesFewDue, WantOf}

@@ -1,10 +1,10 @@
 -- Which calls end which waits.
 use Rattle.std.specs.Prelude.{ℕ, ◌≡◌, ◌==◌, Bool, true, false, List, Option, Some, None, IfSome}
 use Rattle.cml_calls.specs.declared.kind.Kind.TheVariants.{Mailbox, Channel, Port}
-use Rattle.cml_board.specs.Prelude.{Call, Entry, Want, source_by, origin_of, kind_of}
+use Rattle.cml_board.specs.{Call, Entry, Want, source_by, origin_of, kind_of}
 use Rattle.cml_board.specs.declared.call.Call.TheVariants.{ClosePort, Send, Cast, Put}
 use Rattle.cml_board.specs.declared.want.Want.TheVariants.{Recv, Get, Take, Swap}
-use Rattle.cml_calls.specs.Prelude.{is_variable}
+use Rattle.cml_calls.specs.{is_variable}
 use Rattle.cml_room.specs.declared.news.News.{News}
 use Rattle.cml_room.specs.declared.news.News.TheVariants.{Message, Multicast, Value, Closed}
 

@@ -1,6 +1,6 @@
 -- What a room knows of its seats.
 use Rattle.std.specs.Prelude.{ℕ, ◌≡◌, ◌==◌, ◌||◌, ◌%◌, ◌⊎◌, Bool, true, false, List, map, length, slice_get, Option, Some, None}
-use Rattle.cml_board.specs.Prelude.{Want}
+use Rattle.cml_board.specs.{Want}
 use Rattle.cml_room.specs.declared.notice.Notice.{Notice}
 use Rattle.cml_room.specs.declared.notice.Notice.TheVariants.{Nothing, Due, Woken}
 use Rattle.cml_room.specs.declared.place.Place.{Place}
@@ -8,7 +8,7 @@ use Rattle.cml_room.specs.declared.place.Place.TheVariants as place
 use Rattle.cml_room.specs.declared.place.Waiter.{Waiter}
 use Rattle.cml_room.specs.declared.state.State.{State}
 use Rattle.cml_room.specs.declared.state.State.TheVariants as state
-use Rattle.cml_queues.specs.Prelude.{QueuesShown, is_in}
+use Rattle.cml_queues.specs.{QueuesShown, is_in}
 
 abbrev pub state_by : Place → State
 state_by place.Free = state.Free

@@ -1,7 +1,8 @@
 -- Which seats become due.
 use Rattle.std.specs.Prelude.{ℕ, ◌≡◌, ◌⊎◌, true, false, List, slice_get, Option, Some, None, ⊤}
 use Rattle.cml_calls.specs.declared.kind.Kind.TheVariants.{MVar}
-use Rattle.cml_board.specs.Prelude.{Entry, Want, kind_of, Outcome}
+use Rattle.cml_board.specs.{Entry, Want, kind_of}
+use Rattle.cml_board.specs.declared.outcome.Outcome.{Outcome}
 use Rattle.cml_board.specs.declared.outcome.Outcome.TheVariants.{Answered}
 use Rattle.cml_room.specs.declared.news.News.{News}
 use Rattle.cml_room.specs.declared.news.News.TheVariants.{Message, Value}

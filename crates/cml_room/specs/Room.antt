@@ -1,7 +1,8 @@
 -- What a room shows of itself, and what a seat may do in it.
 use Rattle.std.specs.Prelude.{ℕ, ◌≡◌, ◌&&◌, ◌||◌, ◌⊎◌, Bool, true, false, List, slice_get, slice_set, Option, Some, None}
-use Rattle.cml_board.specs.Prelude.{Call, Want, want_in, Shown}
-use Rattle.cml_lanes.specs.Prelude.{LaneSide, FeedSide, FloorShown}
+use Rattle.cml_board.specs.{Call, Want, want_in}
+use Rattle.cml_board.specs.Shown.{Shown}
+use Rattle.cml_lanes.specs.{LaneSide, FeedSide, FloorShown}
 use Rattle.cml_room.specs.declared.notice.Notice.{Notice}
 use Rattle.cml_room.specs.declared.state.State.{State}
 use Rattle.cml_room.specs.declared.state.State.TheVariants.{Free, Parked}

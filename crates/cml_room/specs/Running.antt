@@ -3,7 +3,8 @@
 -- not said that the thread of such a seat does ask, nor in which order `next_due` returns seats.
 use Rattle.std.specs.Prelude.{ℕ, ◌≡◌, ◌≢◌, ◌==◌, ◌&&◌, ◌||◌, ◌⊎◌, not, Bool, true, false, List, [], ◌∷◌, slice_get, Option}
 use Rattle.std.specs.Prelude.{Some, None, IfSome, IfNone, Result, Ok, Err, ⊤}
-use Rattle.cml_board.specs.Prelude.{Outcome, Refusal, Want}
+use Rattle.cml_board.specs.declared.outcome.Outcome.{Outcome}
+use Rattle.cml_board.specs.{Refusal, Want}
 use Rattle.cml_board.specs.declared.outcome.Outcome.TheVariants.{Refused}
 use Rattle.cml_board.specs.declared.outcome.Refusal.TheVariants.{Gone}
 use Rattle.cml_room.specs.declared.notice.Notice.{Notice}

@@ -1,7 +1,8 @@
 -- Who sleeps rightly.
 use Rattle.std.specs.Prelude.{ℕ, ◌≡◌, ◌≤◌, ◌==◌, ◌||◌, ◌&&◌, ◌⊎◌, Bool, false, List, slice_get, Option, Some, IsSome}
-use Rattle.cml_board.specs.Prelude.{Entry, Want, Fits, entries_in, kind_of, origin_of, Waits, wanting, HasRoom, Shown}
-use Rattle.cml_lanes.specs.Prelude.{FloorShown, KeepsLanes, Deed}
+use Rattle.cml_board.specs.{Entry, Want, Fits, entries_in, kind_of, origin_of, Waits, wanting, HasRoom}
+use Rattle.cml_board.specs.Shown.{Shown}
+use Rattle.cml_lanes.specs.{FloorShown, KeepsLanes, Deed}
 use Rattle.cml_room.specs.declared.place.Place.{Place}
 use Rattle.cml_room.specs.declared.place.Place.TheVariants.{Waiting}
 use Rattle.cml_room.specs.declared.place.Waiter.{Waiter}

@@ -1,7 +1,7 @@
 //! Laws of runs of a room's calls. Each call's contract says which step of a run it is: `IsMade` in `specs/Running.antt`.
 ghost use Rattle.std.specs.Prelude.{◌≡◌, ◌≤◌, ℕ, false, length, List, ◌∷◌, Option, Some, None};
-ghost use Rattle.cml_room.specs.Prelude.{GivesInTurn, RoomShown, NoneDue, is_due, RoomCall, NextDue, AreMade, HasAsked, NobodyForgotten};
-ghost use Rattle.cml_room.specs.Prelude.{HaveAllAsked, AllWouldWait, is_returned, was_woken};
+ghost use Rattle.cml_room.specs.{GivesInTurn, RoomShown, NoneDue, is_due, RoomCall, NextDue, AreMade, HasAsked, NobodyForgotten};
+ghost use Rattle.cml_room.specs.{HaveAllAsked, AllWouldWait, is_returned, was_woken};
 
 use crate::room::Room;
 use cml_board::Message;

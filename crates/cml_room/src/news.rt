@@ -1,6 +1,6 @@
 ghost use Rattle.std.specs.Prelude.{◌≡◌, ◌∷◌, ◌<◌, ◌≤◌, List, Some, None};
-ghost use Rattle.cml_board.specs.Prelude.{Entry, entries_in};
-ghost use Rattle.cml_room.specs.Prelude.{news_in, HasEntries};
+ghost use Rattle.cml_board.specs.{Entry, entries_in};
+ghost use Rattle.cml_room.specs.{news_in, HasEntries};
 
 use cml_board::{Board, Call, Message, Name};
 use cml_lanes::Floor;

@@ -1,5 +1,5 @@
 ghost use Rattle.std.specs.Prelude.{◌≡◌};
-ghost use Rattle.cml_room.specs.Prelude.{state_by};
+ghost use Rattle.cml_room.specs.{state_by};
 
 use crate::notice::Notice;
 use crate::state::State;

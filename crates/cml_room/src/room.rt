@@ -1,10 +1,10 @@
 ghost use Rattle.std.specs.Prelude.{◌≡◌, ◌≢◌, ◌⊎◌, ℕ, true, false, ◌^◌, ◌<◌, ◌≤◌, [], ◌∷◌, ◌++◌, length, replicate};
 ghost use Rattle.std.specs.Prelude.{Some, None, IfOk, IfErr, OnOk};
 ghost use Rattle.cml_board.specs.declared.outcome.Refusal.TheVariants.{Gone, NoMemory};
-ghost use Rattle.cml_board.specs.Prelude.{Want, no_entries, seats_of, lanes_of, feeds_of, IsSound};
-ghost use Rattle.cml_lanes.specs.Prelude.{KeepsLanes, KeepsFeeds};
-ghost use Rattle.cml_room.specs.Prelude.{states_in, MakesNoneDue, free_in, parked_in, floor_of, is_due, state_of, MayAsk, AllSleepRightly};
-ghost use Rattle.cml_room.specs.Prelude.{NoneDue, SleepsRightly, with_state, Other, GivesNext, IsMade};
+ghost use Rattle.cml_board.specs.{Want, no_entries, seats_of, lanes_of, feeds_of, IsSound};
+ghost use Rattle.cml_lanes.specs.{KeepsLanes, KeepsFeeds};
+ghost use Rattle.cml_room.specs.{states_in, MakesNoneDue, free_in, parked_in, floor_of, is_due, state_of, MayAsk, AllSleepRightly, NoneDue};
+ghost use Rattle.cml_room.specs.{SleepsRightly, with_state, Other, GivesNext, IsMade};
 
 mod asking;
 mod feeds;

@@ -1,9 +1,10 @@
 //! The end of a seat's turn, and of the other calls.
 ghost use Rattle.std.specs.Prelude.{◌≡◌, ◌≢◌, ◌⊎◌, ℕ, Option, false, Some, None, IfSome, MatchBool, MatchOption, slice_get, slice_set};
-ghost use Rattle.cml_board.specs.Prelude.{Want, HasRoom};
-ghost use Rattle.cml_lanes.specs.Prelude.{FloorShown};
-ghost use Rattle.cml_room.specs.Prelude.{News, Waiter, Settles, IsOf, states_in, notices_in, HasRisen, IsStalled, EndsTurn, MayEndTurn};
-ghost use Rattle.cml_room.specs.Prelude.{AreAt, Follows, IsWatched, NoneForgotten, WasWatched, WasWatchedAt, WouldWait, HasAsked};
+ghost use Rattle.cml_board.specs.{Want, HasRoom};
+ghost use Rattle.cml_lanes.specs.{FloorShown};
+ghost use Rattle.cml_room.specs.declared.news.News.{News};
+ghost use Rattle.cml_room.specs.{Waiter, Settles, IsOf, states_in, notices_in, HasRisen, IsStalled, EndsTurn, MayEndTurn, AreAt, Follows};
+ghost use Rattle.cml_room.specs.{IsWatched, NoneForgotten, WasWatched, WasWatchedAt, WouldWait, HasAsked};
 ghost use Rattle.cml_room.specs.declared.place.Place.TheVariants as place;
 
 use crate::news::{News, latest_news};

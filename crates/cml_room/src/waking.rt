@@ -1,10 +1,10 @@
 //! Who may go on by what has come, of those that wait.
 ghost use Rattle.std.specs.Prelude.{◌≡◌, ◌≢◌, ◌⊎◌, ℕ, true, false, Some, IfSome, MatchBool, slice_get, ⊤};
 ghost use Rattle.cml_calls.specs.declared.kind.Kind.TheVariants.{MVar};
-ghost use Rattle.cml_board.specs.Prelude.{kind_of, Lawful};
+ghost use Rattle.cml_board.specs.{kind_of, Lawful};
 ghost use Rattle.cml_room.specs.declared.place.Place.TheVariants as place;
-ghost use Rattle.cml_room.specs.Prelude.{Waiter, object_of, source_of, helps, Helps, NoNews, IsOf, is_noted, notices_in, place_due, row_of};
-ghost use Rattle.cml_room.specs.Prelude.{AreAlike, AreRoused, IsMate, IsQuiet, IsForOne, OneEach, reaches, WouldWait, AreAt, KeepsWoken};
+ghost use Rattle.cml_room.specs.{Waiter, object_of, source_of, helps, Helps, NoNews, IsOf, is_noted, notices_in, place_due, row_of};
+ghost use Rattle.cml_room.specs.{AreAlike, AreRoused, IsMate, IsQuiet, IsForOne, OneEach, reaches, WouldWait, AreAt, KeepsWoken};
 
 use crate::news::News;
 use crate::place::{Place, Waiter};

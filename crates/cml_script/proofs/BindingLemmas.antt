@@ -7,20 +7,19 @@ use Rattle.std.proofs.lemmas.Option.{same_Some, none-some, option_and_then_some}
 use Rattle.std.proofs.lemmas.Bool.{cases_lt, cases_eq, eq-eqb, ne_eqb, false≢true, true≢false}
 use Rattle.cml_calls.specs.declared.table.Give.TheVariants as give
 use Rattle.cml_calls.specs.declared.table.Ask.TheVariants as ask
-use Rattle.cml_board.specs.Prelude.{Name, Call, Who, Reply, Entry, Origin, port, kind_by, copy_of, Lawful, Fits, made, begun_by, if_made}
-use Rattle.cml_board.specs.Prelude.{new_name, origin_of, kind_of, is_open, answer, sent, got}
+use Rattle.cml_board.specs.{Name, Call, Who, Reply, Entry, Origin, port, kind_by, copy_of, Lawful, Fits, made, begun_by, if_made, new_name}
+use Rattle.cml_board.specs.{origin_of, kind_of, is_open, answer, sent, got}
 use Rattle.cml_board.specs.declared.call.Call.TheVariants as call
 use Rattle.cml_calls.specs.declared.kind.Kind.TheVariants as kind
 use Rattle.cml_board.specs.declared.entry.Who.TheVariants.{Seat, Lane, Feed}
 use Rattle.cml_board.specs.declared.entry.Reply.TheVariants as reply
-use Rattle.cml_calls.specs.Prelude.{is_port}
+use Rattle.cml_calls.specs.{is_port}
 use Rattle.cml_board.proofs.ClosingLemmas.{kind_kept}
-use Rattle.cml_grammar.specs.Prelude.{Action, SourceLine, Lines, names_of, action_of, is_giving, names_before, gives_name}
+use Rattle.cml_grammar.specs.{Action, SourceLine, Lines, names_of, action_of, is_giving, names_before, gives_name}
 use Rattle.cml_grammar.specs.declared.forms.Action.TheVariants as action
-use Rattle.cml_script.specs.Prelude.{one_if, how_many, IsOfScript, IsNextOfThread, IsOfCaller, History, IsDeclaration, maker, is_feed}
-use Rattle.cml_script.specs.Prelude.{objects_of, is_called, is_seat, earlier, performed, declared_count, object_of, call_on, call_of}
-use Rattle.cml_script.specs.Prelude.{step_call, next_position, given_by, gives_next, bound_by, binding_of, port_bound, is_of_thread}
-use Rattle.cml_script.specs.Prelude.{HasSeats, AsksForPorts}
+use Rattle.cml_script.specs.{one_if, how_many, IsOfScript, IsNextOfThread, IsOfCaller, History, IsDeclaration, maker, is_feed, objects_of}
+use Rattle.cml_script.specs.{is_called, is_seat, earlier, performed, declared_count, object_of, call_on, call_of, step_call, next_position}
+use Rattle.cml_script.specs.{given_by, gives_next, bound_by, binding_of, port_bound, is_of_thread, HasSeats, AsksForPorts}
 use Rattle.cml_script.proofs.ListLemmas.{slice_get_pushed}
 use Rattle.cml_script.proofs.GivingLemmas.{giver, given_at, given_line, given_once, next_at, none_other, gives_as, gives_that}
 use Rattle.cml_script.proofs.LineLemmas.{called_seated}

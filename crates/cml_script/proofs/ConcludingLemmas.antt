@@ -4,9 +4,9 @@ use Rattle.std.specs.Prelude.{◌↔◌, IsTrue, unwrap_or, is_none}
 use Rattle.std.specs.Option.{option_map}
 use Rattle.std.proofs.lemmas.Option.{same_Some, none-some}
 use Rattle.std.proofs.lemmas.Bool.{false≢true}
-use Rattle.cml_board.specs.Prelude.{Name, got_count}
-use Rattle.cml_grammar.specs.Prelude.{Lines}
-use Rattle.cml_script.specs.Prelude.{History, feed_at, declared_object, Tallied, taken_from, taken_by, IsTakenAt}
+use Rattle.cml_board.specs.{Name, got_count}
+use Rattle.cml_grammar.specs.{Lines}
+use Rattle.cml_script.specs.{History, feed_at, declared_object, Tallied, taken_from, taken_by, IsTakenAt}
 
 pub named_object : (o : Option ℕ) (name : Name) → Some name ≡ option_map (λ n. record { 0 = n }) o → o ≡ Some name.0
 named_object None name is = absurd (none-some name (sym is))

@@ -2,13 +2,13 @@
 use Rattle.std.proofs.Common.{◌≡◌, ℕ, List, inl, inr, Bool, true, false, ◌&&◌, Option, Some, None, IsSome, refl, ap, ◌∙◌}
 use Rattle.std.specs.Option.{option_map, option_map_or}
 use Rattle.std.proofs.lemmas.Option.{none-some}
-use Rattle.cml_calls.specs.Prelude.{Kind, is_variable}
+use Rattle.cml_calls.specs.{Kind, is_variable}
 use Rattle.cml_calls.specs.declared.kind.Kind.TheVariants as kind
-use Rattle.cml_board.specs.Prelude.{Origin, port, kind_by, only_if, start_in, Lawful, kind_of, is_open}
+use Rattle.cml_board.specs.{Origin, port, kind_by, only_if, start_in, Lawful, kind_of, is_open}
 use Rattle.cml_board.proofs.ClosingLemmas.{mailbox_open}
 use Rattle.cml_grammar.specs.declared.names.Named.TheVariants as called
-use Rattle.cml_grammar.specs.Prelude.{Given, IsVariableAt}
-use Rattle.cml_script.specs.Prelude.{History, IsObjectAt}
+use Rattle.cml_grammar.specs.{Given, IsVariableAt}
+use Rattle.cml_script.specs.{History, IsObjectAt}
 
 -- an object of the right kind has the number
 pub some_count : (test : Kind → Bool) (o : Option Kind) (k : Kind) (n : ℕ) (r : Option ℕ) → r ≡ only_if (option_map_or test o false) n

@@ -6,17 +6,18 @@ use Rattle.std.specs.Result.{IsErrAnd}
 use Rattle.std.proofs.lemmas.Option.{IfSome_then, same_Some, none-some}
 use Rattle.std.proofs.lemmas.List.{take_all}
 use Rattle.std.proofs.lemmas.Bool.{lt-ltb}
-use Rattle.cml_board.specs.Prelude.{Name, Call, Who, Reply, Entry, Refusal}
+use Rattle.cml_board.specs.{Name, Call, Who, Reply, Entry, Refusal}
 use Rattle.cml_board.specs.declared.call.Call.TheVariants as call
 use Rattle.cml_board.specs.declared.entry.Who.TheVariants.{Seat, Feed}
 use Rattle.cml_board.specs.declared.entry.Reply.TheVariants as reply
-use Rattle.cml_grammar.specs.Prelude.{Makes, FeedMaking, Declaration, Given, makes_feed, SourceLine, Lines, names_of, makes_of, source_of}
-use Rattle.cml_grammar.specs.Prelude.{ReadsDeclaration, IsMadeWell}
+use Rattle.cml_grammar.specs.{Makes, FeedMaking, Declaration, Given, makes_feed, SourceLine, Lines, names_of, makes_of, source_of}
+use Rattle.cml_grammar.specs.{ReadsDeclaration, IsMadeWell}
 use Rattle.cml_grammar.specs.declared.forms.Makes.TheVariants as makes
-use Rattle.cml_script.specs.Prelude.{one_if, how_many, History, declared_count, objects_of, number_of, maker, is_object, is_feed}
-use Rattle.cml_script.specs.Prelude.{makes_object, IsDeclaration, IsOfCaller, IsOfScript, IsKnown, IsMadeOfDeclared, Play, IsNext}
-use Rattle.cml_script.specs.Prelude.{IsNextObject, IsNextPort, Made, with_call, with_feed, is_of_feed, with_refused, BeginsAt}
-use Rattle.cml_script.specs.Prelude.{capacity_made, feed_capacity, AreOpened, Declares, HasCapacity, HasMade, making}
+use Rattle.cml_script.specs.{one_if, how_many, History, declared_count, objects_of, number_of, maker, is_object, is_feed, makes_object}
+use Rattle.cml_script.specs.{IsDeclaration, IsOfCaller, IsOfScript, IsKnown, IsMadeOfDeclared, IsNext, IsNextObject, IsNextPort, Made}
+use Rattle.cml_script.specs.{with_call, with_feed, is_of_feed, with_refused, BeginsAt, capacity_made, feed_capacity, AreOpened, Declares}
+use Rattle.cml_script.specs.{HasCapacity, HasMade, making}
+use Rattle.cml_script.specs.Stage.{Play}
 use Rattle.cml_script.proofs.ListLemmas.{count_taken, filter_at, taken_all, told_more}
 use Rattle.cml_script.proofs.LineLemmas.{declaration_object, declaration_feed}
 use Rattle.cml_script.proofs.KindLemmas.{next_object}

@@ -1,17 +1,17 @@
 -- Names of objects of a kind, and the calls that these take.
 use Rattle.std.proofs.Common.{◌≡◌, ℕ, true, List, Option, Some, refl, ap, ◌∙◌}
 use Rattle.std.proofs.lemmas.Option.{none-some}
-use Rattle.cml_calls.specs.Prelude.{Kind, Takers, Give, Ask, admits, is_receiver, Row, given, asked}
+use Rattle.cml_calls.specs.{Kind, Takers, Give, Ask, admits, is_receiver, Row, given, asked}
 use Rattle.cml_calls.specs.declared.kind.Kind.TheVariants as kind
 use Rattle.cml_calls.specs.declared.table.Give.TheVariants as give
 use Rattle.cml_calls.specs.declared.table.Ask.TheVariants as ask
-use Rattle.cml_board.specs.Prelude.{Name, Call, object_in, row_of, takes, given_call, want_in, Fits, kind_of}
-use Rattle.cml_grammar.specs.Prelude.{Action, Named, Given, kind_of_named, kind_named, asked_place, IsMailboxAt, IsChannelAt, IsPortAt}
-use Rattle.cml_grammar.specs.Prelude.{IsFeedAt, UsesWell, used_by, IsSuitedAt}
+use Rattle.cml_board.specs.{Name, Call, object_in, row_of, takes, given_call, want_in, Fits, kind_of}
+use Rattle.cml_grammar.specs.{Action, Named, Given, kind_of_named, kind_named, asked_place, IsMailboxAt, IsChannelAt, IsPortAt, IsFeedAt}
+use Rattle.cml_grammar.specs.{UsesWell, used_by, IsSuitedAt}
 use Rattle.cml_grammar.specs.declared.forms.Action.TheVariants as action
 use Rattle.cml_grammar.specs.declared.forms.Place.TheVariants.{Object}
 use Rattle.cml_grammar.specs.declared.names.Named.TheVariants as called
-use Rattle.cml_script.specs.Prelude.{History, call_on, call_of, IsObjectAt}
+use Rattle.cml_script.specs.{History, call_on, call_of, IsObjectAt}
 use Rattle.cml_grammar.proofs.ListLemmas.{mapped_some}
 use Rattle.cml_script.proofs.ListLemmas.{passing}
 

@@ -1,9 +1,9 @@
 -- Which ends are no hold of a gate.
 use Rattle.std.proofs.Common.{◌≡◌, Result, Ok, Err, sym, ◌∙◌}
 use Rattle.std.specs.Prelude.{◌≢◌, IfOk}
-use Rattle.cml_board.specs.Prelude.{Refusal}
+use Rattle.cml_board.specs.{Refusal}
 use Rattle.cml_board.specs.declared.outcome.Refusal.TheVariants as refusal
-use Rattle.cml_script.specs.Prelude.{Stop, Played, Ending, IsUnheld, stop_of}
+use Rattle.cml_script.specs.{Stop, Played, Ending, IsUnheld, stop_of}
 use Rattle.cml_script.specs.declared.stop.Stop.TheVariants.{Held}
 
 -- no refusal is a hold

@@ -6,12 +6,11 @@ use Rattle.std.specs.Option.{option_map_or, option_and_then}
 use Rattle.std.proofs.lemmas.Option.{cond_some}
 use Rattle.std.proofs.lemmas.List.Sums.{sum_by-cons}
 use Rattle.std.proofs.lemmas.Bool.{cases_eq, cases_order, eqb-true, ne_eqb, true≢false}
-use Rattle.cml_board.specs.Prelude.{Call, Who}
+use Rattle.cml_board.specs.{Call, Who}
 use Rattle.cml_board.specs.declared.entry.Who.TheVariants.{Seat, Lane, Feed}
-use Rattle.cml_grammar.specs.Prelude.{SourceLine, Lines, is_giving, names_before}
-use Rattle.cml_script.specs.Prelude.{one_if, how_many, IsOfScript, IsOfCaller, History, IsReady, IsStep, IsDeclaration, Follows}
-use Rattle.cml_script.specs.Prelude.{declared_count, is_called, earlier, performed, positions_from, next_position, given_by, gives_next}
-use Rattle.cml_script.specs.Prelude.{is_of_thread, HasSeats}
+use Rattle.cml_grammar.specs.{SourceLine, Lines, is_giving, names_before}
+use Rattle.cml_script.specs.{one_if, how_many, IsOfScript, IsOfCaller, History, IsReady, IsStep, IsDeclaration, Follows, declared_count}
+use Rattle.cml_script.specs.{is_called, earlier, performed, positions_from, next_position, given_by, gives_next, is_of_thread, HasSeats}
 use Rattle.cml_script.proofs.ListLemmas.{counted_mono, taken_count, count_taken, none_unless, passing}
 use Rattle.cml_script.proofs.LineLemmas.{called_seated}
 use Rattle.cml_script.proofs.QueueLemmas.{position_is, position_of_step}

@@ -3,13 +3,13 @@ use Rattle.std.proofs.Common.{◌≡◌, ℕ, zero, suc, ◌+◌, ◌<◌, ◌�
 use Rattle.std.proofs.Common.{MatchOption, refl, sym, subst, ◌∙◌, arith, inl, inr, List}
 use Rattle.std.proofs.lemmas.Option.{same_Some, none-some}
 use Rattle.std.proofs.lemmas.Bool.{cases_lt}
-use Rattle.cml_board.specs.Prelude.{Call, Reply, Entry, Lawful, Fits, answer, new_name}
+use Rattle.cml_board.specs.{Call, Reply, Entry, Lawful, Fits, answer, new_name}
 use Rattle.cml_board.specs.declared.entry.Who.TheVariants.{Seat}
-use Rattle.cml_grammar.specs.Prelude.{Lines, first_ring}
+use Rattle.cml_grammar.specs.{Lines, first_ring}
 use Rattle.cml_grammar.proofs.ReadableLemmas.{CanBeRead, can_be_read}
-use Rattle.cml_script.specs.Prelude.{Stop, History, Schedule, Follows, Ends, NoneReady, declared_count, left, is_called, performed}
-use Rattle.cml_script.specs.Prelude.{positions_from, step_call, IsLeast, ScriptsHaveASchedule, StalledThreadsWait, SomeThreadWaits}
-use Rattle.cml_script.specs.Prelude.{steps_of_seat, WaitsAtNext}
+use Rattle.cml_script.specs.{Stop, History, Follows, Ends, NoneReady, declared_count, left, is_called, performed, positions_from, step_call}
+use Rattle.cml_script.specs.{IsLeast, ScriptsHaveASchedule, StalledThreadsWait, SomeThreadWaits, steps_of_seat, WaitsAtNext}
+use Rattle.cml_script.specs.Schedule.{Schedule}
 use Rattle.cml_script.specs.declared.stop.Stop.TheVariants.{Done, Stalled, Full}
 use Rattle.cml_script.proofs.LineLemmas.{stands}
 use Rattle.cml_script.proofs.PlainLemmas.{plain_maker, plain_count}

@@ -1,7 +1,7 @@
 -- The entries before a position of a journal.
 use Rattle.std.proofs.Common.{◌≡◌, ℕ, ◌+◌, ◌≤◌, List, [], ◌∷◌, length, reverse, take, slice_get, Some, ap, ◌∙◌}
 use Rattle.std.proofs.lemmas.List.{length-reverse, length-take-le, reverse-append}
-use Rattle.cml_board.specs.Prelude.{Entry, before}
+use Rattle.cml_board.specs.{Entry, before}
 use Rattle.cml_script.proofs.ListLemmas.{taken_more}
 
 module _ (journal : List (Entry (List ℕ))) where

@@ -5,19 +5,20 @@ use Rattle.std.specs.Option.{option_map, option_map_or, option_and_then}
 use Rattle.std.proofs.lemmas.Option.{same_Some, none-some, slice_get_within}
 use Rattle.std.proofs.lemmas.List.{length_push, length-append}
 use Rattle.std.proofs.lemmas.Bool.{lt-ltb, cases_lt}
-use Rattle.cml_board.specs.Prelude.{Call, Entry, Origin, mailbox, channel, port, ivar, mvar, kind_by, Lawful, made, begun_by, if_made}
-use Rattle.cml_board.specs.Prelude.{new_name, kind_of, answer, sent}
+use Rattle.cml_board.specs.{Call, Entry, Origin, mailbox, channel, port, ivar, mvar, kind_by, Lawful, made, begun_by, if_made, new_name}
+use Rattle.cml_board.specs.{kind_of, answer, sent}
 use Rattle.cml_board.specs.declared.call.Call.TheVariants as call
-use Rattle.cml_calls.specs.Prelude.{Kind}
+use Rattle.cml_calls.specs.{Kind}
 use Rattle.cml_calls.specs.declared.kind.Kind.TheVariants as kind
 use Rattle.cml_board.proofs.ReceivedLemmas.{slice_get-append_within}
 use Rattle.cml_grammar.specs.declared.names.Named.TheVariants as called
-use Rattle.cml_grammar.specs.Prelude.{Makes, SourceLine, Lines, names_of, makes_of, Declaration, source_of, ReadsDeclaration, IsMadeWell}
-use Rattle.cml_grammar.specs.Prelude.{IsChannelAt}
+use Rattle.cml_grammar.specs.{Makes, SourceLine, Lines, names_of, makes_of, Declaration, source_of, ReadsDeclaration, IsMadeWell}
+use Rattle.cml_grammar.specs.{IsChannelAt}
 use Rattle.cml_grammar.specs.declared.forms.Makes.TheVariants as makes
-use Rattle.cml_script.specs.Prelude.{NamesObjects, kind_made, kind_declared, Play, IsNextObject, IsNextPort, IsNext, one_if, how_many}
-use Rattle.cml_script.specs.Prelude.{IsOfScript, IsOfCaller, History, IsDeclaration, declared_count, objects_of, call_in, making_call}
-use Rattle.cml_script.specs.Prelude.{makes_object, is_object, declared_object}
+use Rattle.cml_script.specs.{NamesObjects, kind_made, kind_declared, IsNextObject, IsNextPort, IsNext, one_if, how_many, IsOfScript}
+use Rattle.cml_script.specs.{IsOfCaller, History, IsDeclaration, declared_count, objects_of, call_in, making_call, makes_object, is_object}
+use Rattle.cml_script.specs.{declared_object}
+use Rattle.cml_script.specs.Stage.{Play}
 use Rattle.cml_script.proofs.ListLemmas.{slice_get_pushed, filter_at, counted_mono, taken_all}
 
 -- what is made behind a list of objects, by a call that makes one

@@ -2,9 +2,9 @@
 use Rattle.std.proofs.Common.{◌≡◌, ◌-◌, [], ◌∷◌, length, ap, ◌∙◌, arith, inl, inr}
 use Rattle.std.specs.Prelude.{not}
 use Rattle.std.proofs.lemmas.Bool.{cases_lt, ne_eqb}
-use Rattle.cml_grammar.specs.Prelude.{Lines}
-use Rattle.cml_script.specs.Prelude.{one_if, how_many, History, Follows, declared_count, is_of_thread, is_step_entry, HasSeats}
-use Rattle.cml_script.specs.Prelude.{ReportsTellWhatIsLeft}
+use Rattle.cml_grammar.specs.{Lines}
+use Rattle.cml_script.specs.{one_if, how_many, History, Follows, declared_count, is_of_thread, is_step_entry, HasSeats}
+use Rattle.cml_script.specs.{ReportsTellWhatIsLeft}
 use Rattle.cml_script.proofs.ScheduleLemmas.{declares, steps}
 use Rattle.cml_script.proofs.BindingLemmas.{maker_is_none}
 use Rattle.cml_grammar.proofs.ReadableLemmas.{can_be_read}

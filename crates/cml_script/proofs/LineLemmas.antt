@@ -6,16 +6,16 @@ use Rattle.std.specs.Option.{option_and_then, option_map_or}
 use Rattle.std.specs.Bool.{then_some}
 use Rattle.std.proofs.lemmas.List.{length-map}
 use Rattle.std.proofs.lemmas.Bool.{and_parts, and_right, eqb-true, false≢true}
-use Rattle.cml_grammar.specs.Prelude.{Makes, Named, names_of, makes_of, action_of, seat_of_step, Declaration, Step, Given, kind_named}
-use Rattle.cml_grammar.specs.Prelude.{thread_count, SourceLine, Lines, is_giving, makes_feed, source_of, ReadsDeclaration, ReadsStep, Gives}
-use Rattle.cml_grammar.specs.Prelude.{GivesAt, GivesNames, gives_name, Action}
+use Rattle.cml_grammar.specs.{Makes, Named, names_of, makes_of, action_of, seat_of_step, Declaration, Step, Given, kind_named, thread_count}
+use Rattle.cml_grammar.specs.{SourceLine, Lines, is_giving, makes_feed, source_of, ReadsDeclaration, ReadsStep, Gives, GivesAt, GivesNames}
+use Rattle.cml_grammar.specs.{gives_name, Action}
 use Rattle.cml_grammar.specs.declared.forms.Makes.TheVariants as makes
 use Rattle.cml_grammar.specs.declared.names.Named.TheVariants as called
 use Rattle.cml_grammar.specs.declared.names.Users.TheVariants as users
-use Rattle.cml_calls.specs.Prelude.{Kind}
+use Rattle.cml_calls.specs.{Kind}
 use Rattle.cml_calls.specs.declared.table.Ask.TheVariants as ask
-use Rattle.cml_script.specs.Prelude.{NamesObjects, HasSeats, AsksForPorts, IsObjectAt, kind_made, how_many, one_if, makes_object, is_object}
-use Rattle.cml_script.specs.Prelude.{is_feed, is_seated, is_called, is_apart, is_by_ring, route_of, route_of_line}
+use Rattle.cml_script.specs.{NamesObjects, HasSeats, AsksForPorts, IsObjectAt, kind_made, how_many, one_if, makes_object, is_object}
+use Rattle.cml_script.specs.{is_feed, is_seated, is_called, is_apart, is_by_ring, route_of, route_of_line}
 use Rattle.std.proofs.lemmas.List.Elements.{All-get_or}
 use Rattle.std.proofs.lemmas.Option.{slice_get_within, get_or_from_slice_get, same_Some, some_pair_parts}
 use mir.Val.{bool_byte}

@@ -8,7 +8,7 @@ use Rattle.std.proofs.lemmas.List.{length_push}
 use Rattle.std.proofs.lemmas.Bool.{cases_lt, false≢true}
 use Rattle.cml_board.proofs.ListLemmas.{slice_get_pushed as push_at}
 use Rattle.cml_board.proofs.ReceivedLemmas.{slice_get-append_within}
-use Rattle.cml_script.specs.Prelude.{one_if, how_many}
+use Rattle.cml_script.specs.{one_if, how_many}
 
 module _ {X : Type 0} where
   pub taken_more : (xs : List X) (i : ℕ) (x : X) → slice_get xs i ≡ Some x → take (i + 1) xs ≡ take i xs ++ x ∷ []

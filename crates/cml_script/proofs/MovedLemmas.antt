@@ -8,11 +8,10 @@ use Rattle.std.specs.List.{list_any}
 use Rattle.std.proofs.lemmas.List.{append-nil, append_cancel_left, reverse-append, take-append-drop, take_all, at_drop_more}
 use Rattle.std.proofs.lemmas.Option.{same_Some, none-some, slice_get_within, get_or_from_slice_get}
 use Rattle.std.proofs.lemmas.Bool.{cases_Bool, or_right, false≢true}
-use Rattle.cml_board.specs.Prelude.{Call, Entry, before}
-use Rattle.cml_grammar.specs.Prelude.{Step, Lane, SourceLine, Lines, names_of, source_of, ReadsStep, ReadsLane, used_by, Laid, lane_of}
-use Rattle.cml_script.specs.Prelude.{History, number_of, route_of, call_on, is_laid, is_of_name, is_laid_to, call_to, sends_to, is_moved_to}
-use Rattle.cml_script.specs.Prelude.{is_moved_on, moved_to, IsInOrder, IsInOrderAt, IsOnLine, AreOnLines, IsNextLaid, IsSent, IsNotSent}
-use Rattle.cml_script.specs.Prelude.{IsBehind}
+use Rattle.cml_board.specs.{Call, Entry, before}
+use Rattle.cml_grammar.specs.{Step, Lane, SourceLine, Lines, names_of, source_of, ReadsStep, ReadsLane, used_by, Laid, lane_of}
+use Rattle.cml_script.specs.{History, number_of, route_of, call_on, is_laid, is_of_name, is_laid_to, call_to, sends_to, is_moved_to}
+use Rattle.cml_script.specs.{is_moved_on, moved_to, IsInOrder, IsInOrderAt, IsOnLine, AreOnLines, IsNextLaid, IsSent, IsNotSent, IsBehind}
 use Rattle.cml_script.specs.Left.{is_by_lane}
 use Rattle.cml_script.proofs.LineLemmas.{step_seated, step_route}
 use Rattle.cml_script.proofs.JournalLemmas.{before_more}

@@ -5,17 +5,17 @@ use Rattle.std.proofs.Common.{MatchOption, refl, sym, ap, subst, ◌∙◌, arit
 use Rattle.std.proofs.lemmas.Option.{same_Some, none-some, slice_get_within}
 use Rattle.std.proofs.lemmas.List.{length-map}
 use Rattle.std.proofs.lemmas.Bool.{false≢true}
-use Rattle.cml_board.specs.Prelude.{Name, Call, Reply, Lawful, Fits, answer, new_name}
+use Rattle.cml_board.specs.{Name, Call, Reply, Lawful, Fits, answer, new_name}
 use Rattle.cml_calls.specs.declared.kind.Kind.TheVariants as kind
 use Rattle.cml_board.specs.declared.call.Call.TheVariants as call
 use Rattle.cml_board.specs.declared.entry.Who.TheVariants.{Seat}
-use Rattle.cml_grammar.specs.Prelude.{Makes, Declaration, Step, Lines, names_of, first_ring, source_of, ReadsDeclaration, ReadsStep}
-use Rattle.cml_grammar.specs.Prelude.{used_by}
+use Rattle.cml_grammar.specs.{Makes, Declaration, Step, Lines, names_of, first_ring, source_of, ReadsDeclaration, ReadsStep, used_by}
 use Rattle.cml_grammar.specs.declared.forms.Makes.TheVariants as makes
 use Rattle.cml_grammar.proofs.ReadableLemmas.{CanBeRead}
-use Rattle.cml_script.specs.Prelude.{Binding, History, Follows, NoneReady, makes_object, is_object, declared_count, performed}
-use Rattle.cml_script.specs.Prelude.{next_position, positions_where, step_call, call_on, binding_of, IsKnown, Play, Stands, IsNextObject}
-use Rattle.cml_script.specs.Prelude.{IsNextPort, IsNext, IsReadyOf, NoneReadyOf, IsLeast, IsLeastBelow, earlier_of}
+use Rattle.cml_script.specs.{Binding, History, Follows, NoneReady, makes_object, is_object, declared_count, performed, next_position}
+use Rattle.cml_script.specs.{positions_where, step_call, call_on, binding_of, IsKnown, Stands, IsNextObject, IsNextPort, IsNext, IsReadyOf}
+use Rattle.cml_script.specs.{NoneReadyOf, IsLeast, IsLeastBelow, earlier_of}
+use Rattle.cml_script.specs.Stage.{Play}
 use Rattle.cml_script.proofs.ListLemmas.{mapped_at, how_many-le, listed}
 use Rattle.cml_script.proofs.LineLemmas.{all_at, stands, names_objects, has_seats, asks_for_ports, declaration_object}
 use Rattle.cml_script.proofs.QueueLemmas.{position_is, positions_count}

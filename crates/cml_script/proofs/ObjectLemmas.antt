@@ -6,13 +6,13 @@ use Rattle.std.specs.List.{list_any}
 use Rattle.std.proofs.lemmas.Option.{same_Some}
 use Rattle.std.proofs.lemmas.List.{length_push, length-set}
 use Rattle.std.proofs.lemmas.Bool.{or_right, cases_lt, cases_eq, eq-eqb, ne_eqb, true≢false}
-use Rattle.cml_calls.specs.Prelude.{Kind}
+use Rattle.cml_calls.specs.{Kind}
 use Rattle.cml_calls.specs.declared.kind.Kind.TheVariants as kind
-use Rattle.cml_board.specs.Prelude.{Who}
+use Rattle.cml_board.specs.{Who}
 use Rattle.cml_board.specs.declared.entry.Who.TheVariants.{Seat, Feed}
-use Rattle.cml_grammar.specs.Prelude.{Lane, SourceLine, Lines, names_of, source_of, ReadsLane}
-use Rattle.cml_script.specs.Prelude.{one_if, how_many, is_object, is_feed, objects_of, declared_count, number_of, maker, leads_to, IsKnown}
-use Rattle.cml_script.specs.Prelude.{IsObjectAt}
+use Rattle.cml_grammar.specs.{Lane, SourceLine, Lines, names_of, source_of, ReadsLane}
+use Rattle.cml_script.specs.{one_if, how_many, is_object, is_feed, objects_of, declared_count, number_of, maker, leads_to, IsKnown}
+use Rattle.cml_script.specs.{IsObjectAt}
 use Rattle.cml_board.proofs.ListLemmas.{slice_get-set_other}
 use Rattle.cml_script.proofs.ListLemmas.{taken_more, count_taken, filter_at, each_pushed, set_at}
 use Rattle.cml_script.proofs.LineLemmas.{feed_object}

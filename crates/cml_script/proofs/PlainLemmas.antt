@@ -9,14 +9,14 @@ use Rattle.std.proofs.lemmas.Bool.{true≢false, false≢true, false_from_ne_tru
 use Rattle.cml_calls.specs.declared.table.Give.TheVariants as give
 use Rattle.cml_calls.specs.declared.table.Ask.TheVariants as ask
 use Rattle.cml_board.specs.declared.entry.Who.TheVariants.{Seat, Feed}
-use Rattle.cml_grammar.specs.Prelude.{Declares, Action, Given, position_of, declares_of, SourceLine, Lines, names_of, makes_of, makes_by}
-use Rattle.cml_grammar.specs.Prelude.{action_of, seat_of_step, lesser, first_lane, first_feed, first_ring, declares_feed, makes_feed}
-use Rattle.cml_grammar.specs.Prelude.{is_feed as is_feed_word, capacity_of}
+use Rattle.cml_grammar.specs.{Declares, Action, Given, position_of, declares_of, SourceLine, Lines, names_of, makes_of, makes_by, action_of}
+use Rattle.cml_grammar.specs.{seat_of_step, lesser, first_lane, first_feed, first_ring, declares_feed, makes_feed, is_feed as is_feed_word}
+use Rattle.cml_grammar.specs.{capacity_of}
 use Rattle.cml_grammar.specs.declared.forms.Declares.TheVariants as declares
 use Rattle.cml_grammar.specs.declared.forms.Action.TheVariants as action
 use Rattle.cml_script.specs.declared.route.Route.TheVariants as route
-use Rattle.cml_script.specs.Prelude.{how_many, is_feed, is_seated, is_called, is_apart, is_by_ring, objects_of, is_object, maker, feed_at}
-use Rattle.cml_script.specs.Prelude.{feed_route, lane_route, route_of}
+use Rattle.cml_script.specs.{how_many, is_feed, is_seated, is_called, is_apart, is_by_ring, objects_of, is_object, maker, feed_at}
+use Rattle.cml_script.specs.{feed_route, lane_route, route_of}
 use Rattle.cml_script.proofs.ListLemmas.{cases_Option, passing}
 use Rattle.cml_script.proofs.LineLemmas.{and_true}
 

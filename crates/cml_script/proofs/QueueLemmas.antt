@@ -9,9 +9,9 @@ use Rattle.std.specs.Option.{option_map}
 use Rattle.std.proofs.lemmas.List.{append-nil, length-map, length-set, map-set, length-take-le}
 use Rattle.std.proofs.lemmas.Bool.{eq-eqb, ne_eqb, cases_eq}
 use Rattle.std.proofs.lemmas.Option.{same_Some, none-some, slice_get-map, slice_get_read, slice_get_within, slice_get_past}
-use Rattle.cml_grammar.specs.Prelude.{Step, thread_count, names_of, source_of, ReadsStep, SourceLine, Lines}
+use Rattle.cml_grammar.specs.{Step, thread_count, names_of, source_of, ReadsStep, SourceLine, Lines}
 use Rattle.cml_script.proofs.LineLemmas.{all_at}
-use Rattle.cml_script.specs.Prelude.{one_if, how_many, positions_where, AreQueues, items_of}
+use Rattle.cml_script.specs.{one_if, how_many, positions_where, AreQueues, items_of}
 use Rattle.cml_board.proofs.ListLemmas.{slice_get-set_other}
 use Rattle.cml_script.proofs.ListLemmas.{taken_more, mapped_at, set_at}
 

@@ -3,10 +3,10 @@ use Rattle.std.proofs.Common.{◌≡◌, ◌≢◌, ℕ, ◌+◌, ◌<◌, ◌�
 use Rattle.std.proofs.Common.{sym, ap, subst, ◌∙◌, arith, inl, inr, List}
 use Rattle.std.proofs.lemmas.Option.{same_Some, none-some, slice_get_within}
 use Rattle.std.proofs.lemmas.Bool.{cases_lt}
-use Rattle.cml_board.specs.Prelude.{Call, answer}
-use Rattle.cml_grammar.specs.Prelude.{Lines}
-use Rattle.cml_script.specs.Prelude.{how_many, History, IsReady, NoneReady, is_called, performed, positions_from, step_call, HasSeats}
-use Rattle.cml_script.specs.Prelude.{earlier_of, IsReadyOf, NoneReadyOf, IsLeast, IsLeastBelow}
+use Rattle.cml_board.specs.{Call, answer}
+use Rattle.cml_grammar.specs.{Lines}
+use Rattle.cml_script.specs.{how_many, History, IsReady, NoneReady, is_called, performed, positions_from, step_call, HasSeats, earlier_of}
+use Rattle.cml_script.specs.{IsReadyOf, NoneReadyOf, IsLeast, IsLeastBelow}
 use Rattle.cml_script.proofs.LineLemmas.{called_seated}
 use Rattle.cml_script.proofs.QueueLemmas.{position_is, position_of_step}
 

@@ -3,12 +3,12 @@ use Rattle.std.proofs.Common.{◌≡◌, ℕ, List, Option, Some, None, Result, 
 use Rattle.std.specs.Prelude.{IfOk, IfErr, string_bytes}
 use Rattle.std.specs.Io.KnownBytes.{Keeps}
 use Rattle.cml_grammar.specs.declared.fault.What.TheVariants.{NeedsRun}
-use Rattle.cml_grammar.specs.Prelude.{at_line, first_ring, Lines, IsScript}
-use Rattle.cml_script.specs.Prelude.{Form, Stop, IsRead, AreAll, IsTextForRun, IsPlayedTextAs, EndsUnplayed, EndsUnplayedText, ReplaysAs}
-use Rattle.cml_script.specs.Prelude.{Writes, EndsUntold, IsTextOf, IsRunText, IsRefused, IsUntold, IsUnsettled, AreScript, RunsAs, History}
-use Rattle.cml_script.specs.Prelude.{Tallied, Played, Ending}
+use Rattle.cml_grammar.specs.{at_line, first_ring, Lines, IsScript}
+use Rattle.cml_script.specs.{Form, Stop, IsRead, AreAll, IsTextForRun, IsPlayedTextAs, EndsUnplayed, EndsUnplayedText, ReplaysAs, Writes}
+use Rattle.cml_script.specs.{EndsUntold, IsTextOf, IsRunText, IsRefused, IsUntold, IsUnsettled, AreScript, RunsAs, History, Tallied, Played}
+use Rattle.cml_script.specs.{Ending}
 use Rattle.cml_script.specs.declared.stop.Stop.TheVariants as stop
-use Rattle.cml_board.specs.Prelude.{Shown}
+use Rattle.cml_board.specs.Shown.{Shown}
 use Rattle.cml_script.specs.declared.ending.Ending.TheVariants as ending
 
 -- a script with a lane or a feed is not replayed

@@ -7,10 +7,10 @@ use Rattle.std.proofs.lemmas.Option.{same_Some, none-some, slice_get_past, slice
 use Rattle.std.proofs.lemmas.List.{append_assoc}
 use Rattle.std.proofs.lemmas.List.Splits.{join_with_byte-slice_split}
 use Rattle.std.proofs.lemmas.Bool.{le-ltb, lt-ltb, cases_lt}
-use Rattle.cml_board.specs.Prelude.{Entry, Who, before}
-use Rattle.cml_grammar.specs.Prelude.{Step, Given, Lines, source_of, SourceLine, names_of, NamesAreGiven}
-use Rattle.cml_script.specs.Prelude.{History, declared_count, next_position, Progress, history_of, Tallied, entry_lines, entry_line}
-use Rattle.cml_script.specs.Prelude.{next_step, line_text, given_word, object_lines_from, object_line, positions_where}
+use Rattle.cml_board.specs.{Entry, Who, before}
+use Rattle.cml_grammar.specs.{Step, Given, Lines, source_of, SourceLine, names_of, NamesAreGiven}
+use Rattle.cml_script.specs.{History, declared_count, next_position, Progress, history_of, Tallied, entry_lines, entry_line, next_step}
+use Rattle.cml_script.specs.{line_text, given_word, object_lines_from, object_line, positions_where}
 use Rattle.cml_script.proofs.ListLemmas.{mapped_at, filter_at}
 use Rattle.cml_script.proofs.LineLemmas.{stands}
 use Rattle.cml_script.proofs.KindLemmas.{length_filter}

@@ -7,11 +7,11 @@ use Rattle.std.proofs.lemmas.Option.{same_Some, slice_get_within}
 use Rattle.std.proofs.lemmas.Bool.{or_right, cases_lt, cases_eq, cases_order, eqb-true, eq-eqb, ne_eqb, false≢true, lt-ltb, le-ltb}
 use Rattle.std.proofs.lemmas.Map.Keys.{IsDistinct-cons}
 use Rattle.std.proofs.lemmas.Map.Steps.{length-le_from_distinct_below}
-use Rattle.cml_board.specs.Prelude.{Call, Who, Reply, Entry, Lawful, answer}
+use Rattle.cml_board.specs.{Call, Who, Reply, Entry, Lawful, answer}
 use Rattle.cml_board.specs.declared.entry.Who.TheVariants.{Seat}
-use Rattle.cml_grammar.specs.Prelude.{SourceLine, Lines, names_of, seat_of_step}
-use Rattle.cml_script.specs.Prelude.{Stop, one_if, History, IsStep, IsDeclaration, Follows, Ends, is_seated, is_called, is_seat, earlier}
-use Rattle.cml_script.specs.Prelude.{performed, declared_count, next_position, step_call, left, SchedulesAreOne}
+use Rattle.cml_grammar.specs.{SourceLine, Lines, names_of, seat_of_step}
+use Rattle.cml_script.specs.{Stop, one_if, History, IsStep, IsDeclaration, Follows, Ends, is_seated, is_called, is_seat, earlier, performed}
+use Rattle.cml_script.specs.{declared_count, next_position, step_call, left, SchedulesAreOne}
 use Rattle.cml_script.specs.declared.stop.Stop.TheVariants.{Done, Stalled, Full, Held}
 use Rattle.cml_script.proofs.LineLemmas.{called_seated}
 use Rattle.cml_script.proofs.GivingLemmas.{next_is}

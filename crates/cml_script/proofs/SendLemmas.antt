@@ -5,15 +5,14 @@ use Rattle.std.specs.Prelude.{All}
 use Rattle.std.specs.Option.{option_map_or, option_and_then}
 use Rattle.std.proofs.lemmas.Option.{slice_get-get_or, same_Some}
 use Rattle.std.proofs.lemmas.Bool.{cases_lt, false≢true}
-use Rattle.cml_calls.specs.Prelude.{Kind, Give, Ask, admits, given}
+use Rattle.cml_calls.specs.{Kind, Give, Ask, admits, given}
 use Rattle.cml_calls.specs.declared.kind.Kind.TheVariants as kind
 use Rattle.cml_calls.specs.declared.table.Give.TheVariants as give
 use Rattle.cml_calls.specs.declared.table.Ask.TheVariants as ask
-use Rattle.cml_grammar.specs.Prelude.{Action, Step, SourceLine, Lines, names_of, action_of, seat_of_step, source_of, ReadsStep, UsesWell}
+use Rattle.cml_grammar.specs.{Action, Step, SourceLine, Lines, names_of, action_of, seat_of_step, source_of, ReadsStep, UsesWell}
 use Rattle.cml_grammar.specs.declared.forms.Action.TheVariants as action
 use Rattle.cml_script.specs.declared.route.Route.TheVariants as route
-use Rattle.cml_script.specs.Prelude.{feed_route, feed_at, route_of, route_of_line, by_feed, act_of, act_of_line, IsKnown, IsObjectAt}
-use Rattle.cml_script.specs.Prelude.{route_at}
+use Rattle.cml_script.specs.{feed_route, feed_at, route_of, route_of_line, by_feed, act_of, act_of_line, IsKnown, IsObjectAt, route_at}
 use Rattle.cml_script.proofs.ListLemmas.{mapped_at}
 use Rattle.cml_script.proofs.LineLemmas.{all_at, step_route}
 use Rattle.cml_script.proofs.FitLemmas.{used_taker}

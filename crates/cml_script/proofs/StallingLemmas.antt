@@ -6,13 +6,13 @@ use Rattle.std.specs.Option.{option_map_or, option_and_then}
 use Rattle.std.proofs.lemmas.Option.{same_Some, none-some, slice_get_within}
 use Rattle.std.proofs.lemmas.List.{length-map, length-take-le}
 use Rattle.std.proofs.lemmas.Bool.{cases_lt}
-use Rattle.cml_board.specs.Prelude.{Call, Fits, answer}
+use Rattle.cml_board.specs.{Call, Fits, answer}
 use Rattle.cml_board.specs.declared.entry.Who.TheVariants.{Seat}
-use Rattle.cml_grammar.specs.Prelude.{Step, SourceLine, Lines, names_of, seat_of_step, source_of, ReadsStep}
+use Rattle.cml_grammar.specs.{Step, SourceLine, Lines, names_of, seat_of_step, source_of, ReadsStep}
 use Rattle.cml_script.specs.declared.route.Route.TheVariants as route
-use Rattle.cml_script.specs.Prelude.{one_if, how_many, History, declared_count, is_apart, is_by_ring, is_called, next_position, performed}
-use Rattle.cml_script.specs.Prelude.{positions_where, route_of_line, step_call, Tallied, is_laid, HasSeats, route_at, WaitsOrIsDone}
-use Rattle.cml_script.specs.Prelude.{is_before, is_passed, IsAllMoved, NobodyGoesOn, Progress, next_call}
+use Rattle.cml_script.specs.{one_if, how_many, History, declared_count, is_apart, is_by_ring, is_called, next_position, performed}
+use Rattle.cml_script.specs.{positions_where, route_of_line, step_call, Tallied, is_laid, HasSeats, route_at, WaitsOrIsDone, is_before}
+use Rattle.cml_script.specs.{is_passed, IsAllMoved, NobodyGoesOn, Progress, next_call}
 use Rattle.cml_script.specs.Left.{is_by_lane}
 use Rattle.cml_script.proofs.ListLemmas.{how_many-append, mapped_at, taken_more}
 use Rattle.cml_script.proofs.QueueLemmas.{position_is, positions_pushed}

@@ -3,21 +3,22 @@ use Rattle.std.proofs.Common.{◌≡◌, ℕ, ◌+◌, ◌-◌, ◌<◌, ◌≤�
 use Rattle.std.proofs.Common.{take, get_or, slice_get, slice_set, replicate, Option, Some, None, MatchBool, IfSome, IsSome}
 use Rattle.std.proofs.Common.{refl, sym, ap, subst, ◌∙◌, arith, inl, inr}
 use Rattle.std.specs.Prelude.{map, All}
-use Rattle.cml_board.specs.Prelude.{Reply, Call, Entry, answer, Fits, kind_of, Lawful}
-use Rattle.cml_grammar.specs.Prelude.{Step, thread_count, Lines, names_of, source_of, ReadsStep, names_before, NamesAreGiven}
+use Rattle.cml_board.specs.{Reply, Call, Entry, answer, Fits, kind_of, Lawful}
+use Rattle.cml_grammar.specs.{Step, thread_count, Lines, names_of, source_of, ReadsStep, names_before, NamesAreGiven}
 use Rattle.cml_script.proofs.LineLemmas.{all_at, step_seated, called_seated}
 use Rattle.cml_script.proofs.PlainLemmas.{plain_maker}
 use Rattle.std.specs.Option.{option_and_then}
 use Rattle.std.proofs.lemmas.Option.{same_Some, none-some, slice_get_within, slice_get_read, slice_get-get_or}
 use Rattle.std.proofs.lemmas.List.{length-set, length-map, length-replicate, get_or-replicate}
 use Rattle.std.proofs.lemmas.Bool.{eqb-true, eq-eqb, ne_eqb, cases_eq, cases_lt, le-ltb, lt-ltb, false≢true}
-use Rattle.cml_calls.specs.Prelude.{Kind}
+use Rattle.cml_calls.specs.{Kind}
 use Rattle.cml_board.specs.declared.entry.Who.TheVariants.{Seat}
-use Rattle.cml_script.specs.Prelude.{one_if, how_many, Binding, History, IsReady, IsStep, IsDeclaration, Follows, is_seated, is_seat, is_by}
-use Rattle.cml_script.specs.Prelude.{is_object, performed, next_position, step_call, declared_count, declared_object, object_of, made_of}
-use Rattle.cml_script.specs.Prelude.{given_by, bound_by, binding_of, port_bound, port_made, IsOfScript, IsKnown, NamesObjects, HasSeats}
-use Rattle.cml_script.specs.Prelude.{AsksForPorts, IsObject, IsObjectAt, AreBindings, with_binding, Play, Stands, IsNextObject, AreCounts}
-use Rattle.cml_script.specs.Prelude.{with_entry, IsStepAt, IsLeast}
+use Rattle.cml_script.specs.{one_if, how_many, Binding, History, IsReady, IsStep, IsDeclaration, Follows, is_seated, is_seat, is_by}
+use Rattle.cml_script.specs.{is_object, performed, next_position, step_call, declared_count, declared_object, object_of, made_of, given_by}
+use Rattle.cml_script.specs.{bound_by, binding_of, port_bound, port_made, IsOfScript, IsKnown, NamesObjects, HasSeats, AsksForPorts}
+use Rattle.cml_script.specs.{IsObject, IsObjectAt, AreBindings, with_binding, Stands, IsNextObject, AreCounts, with_entry, IsStepAt}
+use Rattle.cml_script.specs.{IsLeast}
+use Rattle.cml_script.specs.Stage.{Play}
 use Rattle.cml_script.specs.declared.binding.Binding.TheVariants as binding
 use Rattle.cml_grammar.specs.declared.names.Named.TheVariants as called
 use Rattle.cml_grammar.specs.declared.names.Users.TheVariants as users

@@ -6,15 +6,16 @@ use Rattle.std.specs.Option.{option_map, option_map_or, option_and_then}
 use Rattle.std.proofs.lemmas.Option.{none-some, slice_get_within}
 use Rattle.std.proofs.lemmas.List.{length-map}
 use Rattle.std.proofs.lemmas.Bool.{le-ltb, lt-ltb, cases_Bool, cases_order}
-use Rattle.cml_board.specs.Prelude.{Who, Entry, Name, before, Call}
+use Rattle.cml_board.specs.{Who, Entry, Name, before, Call}
 use Rattle.cml_board.specs.declared.entry.Who.TheVariants.{Seat, Lane, Feed}
-use Rattle.cml_grammar.specs.Prelude.{Action, Declaration, Step, SourceLine, Lines, names_of, action_of, NamesAreGiven, source_of}
-use Rattle.cml_grammar.specs.Prelude.{ReadsDeclaration, ReadsStep, used_by}
-use Rattle.cml_script.specs.Prelude.{IsOwn, IsOfCaller, IsOfFeed, how_many, Objects, Binding, History, IsDeclaration, objects_of}
-use Rattle.cml_script.specs.Prelude.{declared_count, declared_object, number_of, maker, is_object, is_feed, is_called, positions_where}
-use Rattle.cml_script.specs.Prelude.{making_call, call_in, performed, next_position, given_by, step_call, call_on, call_of, object_of}
-use Rattle.cml_script.specs.Prelude.{bound_by, HasSeats, AreBindings, with_binding, AreCounts, Progress, history_of, with_next, IsFollowed}
-use Rattle.cml_script.specs.Prelude.{IsNoThread, CountsOneMore, next_given, next_call}
+use Rattle.cml_grammar.specs.{Action, Declaration, Step, SourceLine, Lines, names_of, action_of, NamesAreGiven, source_of, ReadsDeclaration}
+use Rattle.cml_grammar.specs.{ReadsStep, used_by}
+use Rattle.cml_script.specs.{IsOwn, IsOfCaller, IsOfFeed, how_many, Binding, History, IsDeclaration, objects_of, declared_count}
+use Rattle.cml_script.specs.{declared_object, number_of, maker, is_object, is_feed, is_called, positions_where, making_call, call_in}
+use Rattle.cml_script.specs.{performed, next_position, given_by, step_call, call_on, call_of, object_of, bound_by, HasSeats, AreBindings}
+use Rattle.cml_script.specs.{with_binding, AreCounts, Progress, history_of, with_next, IsFollowed, IsNoThread, CountsOneMore, next_given}
+use Rattle.cml_script.specs.{next_call}
+use Rattle.cml_script.specs.declared.objects.Objects.{Objects}
 use Rattle.cml_board.specs.declared.call.Call.TheVariants as call
 use Rattle.cml_script.proofs.ListLemmas.{mapped_at, counted_mono, none_unless, passing}
 use Rattle.cml_script.proofs.KindLemmas.{counted_below}

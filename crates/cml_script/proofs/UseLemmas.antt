@@ -6,15 +6,16 @@ use Rattle.std.specs.Option.{option_map, option_map_or}
 use Rattle.std.proofs.lemmas.Option.{none-some, same_Some, slice_get_within, slice_get-get_or}
 use Rattle.std.proofs.lemmas.List.{length-map}
 use Rattle.std.proofs.lemmas.Bool.{cases_lt, eqb-true, eq-eqb, false≢true}
-use Rattle.cml_board.specs.Prelude.{Name, kind_of, Lawful}
-use Rattle.cml_calls.specs.Prelude.{Kind}
+use Rattle.cml_board.specs.{Name, kind_of, Lawful}
+use Rattle.cml_calls.specs.{Kind}
 use Rattle.cml_calls.specs.declared.kind.Kind.TheVariants as kind
 use Rattle.cml_board.specs.declared.entry.Who.TheVariants.{Seat}
-use Rattle.cml_grammar.specs.Prelude.{Action, Declaration, Step, Given, kind_named, SourceLine, Lines, names_of, IsGivenAt, is_giving}
-use Rattle.cml_grammar.specs.Prelude.{names_before, source_of, ReadsStep, UsesWell, UsesEarlier, MayUse, used_by}
-use Rattle.cml_script.specs.Prelude.{Binding, IsOfScript, History, is_seated, is_called, earlier, performed, next_position, declared_count}
-use Rattle.cml_script.specs.Prelude.{object_of, made_of, binding_of, port_bound, port_made, IsKnown, IsObject, IsObjectAt, AreBindings}
-use Rattle.cml_script.specs.Prelude.{Play, Stands, IsNextStep, IsBound}
+use Rattle.cml_grammar.specs.{Action, Declaration, Step, Given, kind_named, SourceLine, Lines, names_of, IsGivenAt, is_giving, names_before}
+use Rattle.cml_grammar.specs.{source_of, ReadsStep, UsesWell, UsesEarlier, MayUse, used_by}
+use Rattle.cml_script.specs.{Binding, IsOfScript, History, is_seated, is_called, earlier, performed, next_position, declared_count}
+use Rattle.cml_script.specs.{object_of, made_of, binding_of, port_bound, port_made, IsKnown, IsObject, IsObjectAt, AreBindings, Stands}
+use Rattle.cml_script.specs.{IsNextStep, IsBound}
+use Rattle.cml_script.specs.Stage.{Play}
 use Rattle.cml_script.specs.declared.binding.Binding.TheVariants as binding
 use Rattle.cml_script.proofs.ListLemmas.{mapped_at, counted_mono}
 use Rattle.cml_script.proofs.LineLemmas.{all_at, step_seated, called_seated, giving_called}

@@ -6,13 +6,13 @@ use Rattle.std.proofs.lemmas.List.{length-map}
 use Rattle.std.proofs.lemmas.List.Elements.{All-head, All-tail}
 use Rattle.std.proofs.lemmas.Bool.{cases_lt, cases_eq, eq-eqb, ne_eqb, false≢true}
 use Rattle.std.proofs.lemmas.Option.{slice_get_within}
-use Rattle.cml_board.specs.Prelude.{Who}
+use Rattle.cml_board.specs.{Who}
 use Rattle.cml_board.specs.declared.entry.Who.TheVariants.{Seat, Lane, Feed}
-use Rattle.cml_grammar.specs.Prelude.{Step, thread_count, Lines, names_of, source_of, ReadsStep}
+use Rattle.cml_grammar.specs.{Step, thread_count, Lines, names_of, source_of, ReadsStep}
 use Rattle.cml_grammar.proofs.ReadableLemmas.{CanBeRead, can_be_read}
-use Rattle.cml_script.specs.Prelude.{one_if, how_many, History, Follows, is_apart, is_by_ring, is_called, is_seated, is_seat, performed}
-use Rattle.cml_script.specs.Prelude.{declared_count, left, next_position, positions_from, positions_where, is_passed, passed_count}
-use Rattle.cml_script.specs.Prelude.{steps_of_seat, SomeThreadIsStuck, Tallied, is_of_thread, is_step_entry, unperformed}
+use Rattle.cml_script.specs.{one_if, how_many, History, Follows, is_apart, is_by_ring, is_called, is_seated, is_seat, performed}
+use Rattle.cml_script.specs.{declared_count, left, next_position, positions_from, positions_where, is_passed, passed_count, steps_of_seat}
+use Rattle.cml_script.specs.{SomeThreadIsStuck, Tallied, is_of_thread, is_step_entry, unperformed}
 use Rattle.cml_script.proofs.ListLemmas.{cases_Option}
 use Rattle.cml_script.proofs.LineLemmas.{all_at, none_within, one_le, stands, step_called, step_route, step_seated}
 use Rattle.cml_script.proofs.QueueLemmas.{position_is, positions_count}

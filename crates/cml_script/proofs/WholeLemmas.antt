@@ -2,7 +2,8 @@
 use Rattle.std.proofs.Common.{◌≡◌, ◌+◌, ◌<◌, ◌≤◌, List, [], ◌++◌, reverse, sym, ap, ◌∙◌, arith}
 use Rattle.std.proofs.Math.Nat.{min-le_left}
 use Rattle.std.proofs.lemmas.List.{append-nil, reverse-reverse}
-use Rattle.cml_board.specs.Prelude.{Entry, entries_in, Shown, full_at, HasRoom}
+use Rattle.cml_board.specs.{Entry, entries_in, full_at, HasRoom}
+use Rattle.cml_board.specs.Shown.{Shown}
 
 module _ {M : Type 0} where
   -- its journal has all entries

@@ -6,18 +6,20 @@ use Rattle.std.specs.Option.{option_map, option_map_or, option_and_then}
 use Rattle.std.specs.declared.alloc.AllocError.{AllocError}
 use Rattle.std.proofs.lemmas.Option.{IfSome_then, slice_get_within}
 use Rattle.std.proofs.lemmas.Bool.{and_right, not_from_true, false≢true, eq-eqb}
-use Rattle.cml_board.specs.Prelude.{Call, Reply, Entry, Refusal}
+use Rattle.cml_board.specs.{Call, Reply, Entry, Refusal}
 use Rattle.cml_board.specs.declared.call.Call.TheVariants as call
 use Rattle.cml_board.specs.declared.entry.Who.TheVariants.{Seat}
 use Rattle.cml_board.specs.declared.entry.Reply.TheVariants as reply
-use Rattle.cml_threads.specs.Prelude.{suits}
-use Rattle.cml_grammar.specs.Prelude.{Step, Lines, names_of, source_of, ReadsStep, UsesEarlier, used_by}
-use Rattle.cml_script.specs.Prelude.{Stop, Route, Course, one_if, History, declared_count, maker, performed, is_seat, is_called, is_by_ring}
-use Rattle.cml_script.specs.Prelude.{route_of_line, earlier, next_position, given_by, step_call, bound_by, binding_of, port_bound, Apart}
-use Rattle.cml_script.specs.Prelude.{goes_apart, earlier_apart, act_of_line, is_of_thread, IsKnown, HasSeats, AsksForPorts, route_at}
-use Rattle.cml_script.specs.Prelude.{AreBindings, with_binding, Made, with_call, with_apart, with_closed, waits, MayCall, BeginsAt}
-use Rattle.cml_script.specs.Prelude.{AreBySeat, AreByMakers, IsOpening, AreNextSteps, IsTurn, IsUnrefused, IsStop, Works, with_refused}
-use Rattle.cml_script.specs.Prelude.{stop_of, ending_with, closed_if, IsRefusedSo, AreSuiting, IsUnderWay, HasTaken}
+use Rattle.cml_threads.specs.{suits}
+use Rattle.cml_grammar.specs.{Step, Lines, names_of, source_of, ReadsStep, UsesEarlier, used_by}
+use Rattle.cml_script.specs.{Stop, Route, one_if, History, declared_count, maker, performed, is_seat, is_called, is_by_ring, route_of_line}
+use Rattle.cml_script.specs.{earlier, next_position, given_by, step_call, bound_by, binding_of, port_bound, goes_apart, earlier_apart}
+use Rattle.cml_script.specs.{act_of_line, is_of_thread, IsKnown, HasSeats, AsksForPorts, route_at, AreBindings, with_binding, Made}
+use Rattle.cml_script.specs.{with_call, with_apart, with_closed, waits, MayCall, BeginsAt, AreBySeat, AreByMakers, IsOpening, AreNextSteps}
+use Rattle.cml_script.specs.{IsTurn, IsUnrefused, IsStop, Works, with_refused, stop_of, ending_with, closed_if, IsRefusedSo, AreSuiting}
+use Rattle.cml_script.specs.{IsUnderWay, HasTaken}
+use Rattle.cml_script.specs.declared.running.worker.Course.{Course}
+use Rattle.cml_script.specs.Apart.{Apart}
 use Rattle.cml_script.specs.declared.binding.Binding.TheVariants as binding
 use Rattle.cml_script.specs.declared.route.Route.TheVariants as route
 use Rattle.cml_script.specs.Apart.{is_by_lane}

@@ -1,8 +1,8 @@
 -- What goes by the lanes and feeds of a thread.
 use Rattle.std.specs.Prelude.{ℕ, ◌≡◌, ◌&&◌, Bool, true, false, List, [], ◌∷◌, length, take, slice_get, Option, Some, None, ⊤}
 use Rattle.std.specs.Option.{option_and_then}
-use Rattle.cml_board.specs.Prelude.{Name}
-use Rattle.cml_grammar.specs.Prelude.{Action, SourceLine, Lines, names_of, action_of}
+use Rattle.cml_board.specs.{Name}
+use Rattle.cml_grammar.specs.{Action, SourceLine, Lines, names_of, action_of}
 use Rattle.cml_grammar.specs.declared.forms.Action.TheVariants as action
 use Rattle.cml_script.specs.declared.route.Route.{Route}
 use Rattle.cml_script.specs.declared.route.Route.TheVariants as route

@@ -2,10 +2,10 @@
 use Rattle.std.specs.Prelude.{ℕ, ◌≡◌, ◌==◌, Bool, true, false, List, [], ◌∷◌, reverse, slice_get, nat_lt, Option, Some, None, MatchBool, ⊤}
 use Rattle.std.specs.Option.{option_map_or}
 use Rattle.std.specs.List.{list_any}
-use Rattle.cml_board.specs.Prelude.{Call, Who, Entry, entries_in, Lawful, before, IsFirstUnlawful}
+use Rattle.cml_board.specs.{Call, Who, Entry, entries_in, Lawful, before, IsFirstUnlawful}
 use Rattle.cml_board.specs.declared.call.Call.TheVariants as call
 use Rattle.cml_board.specs.declared.entry.Who.TheVariants.{Seat, Lane, Feed}
-use Rattle.cml_grammar.specs.Prelude.{SourceLine, Lines, names_of, lane_of}
+use Rattle.cml_grammar.specs.{SourceLine, Lines, names_of, lane_of}
 use Rattle.cml_script.specs.declared.verdict.Verdict.{Verdict}
 use Rattle.cml_script.specs.declared.verdict.Verdict.TheVariants as verdict
 use Rattle.cml_script.specs.Schedule.{History, declared_count, number_of, maker, next_position, step_call, IsDeclaration}

@@ -1,6 +1,6 @@
 -- The inside of `play`, `work`, `audit` and a report: what steps gave their names, kept by name.
 use Rattle.std.specs.Prelude.{ℕ, ◌≡◌, ◌<◌, List, length, slice_get, slice_set, Option, Some, None}
-use Rattle.cml_grammar.specs.Prelude.{Lines, names_of}
+use Rattle.cml_grammar.specs.{Lines, names_of}
 use Rattle.cml_script.specs.declared.binding.Binding.{Binding}
 use Rattle.cml_script.specs.Schedule.{History, binding_of}
 

@@ -1,9 +1,9 @@
 -- The inside of `work`: how far a thread has come, and what one step does.
 use Rattle.std.specs.Prelude.{ℕ, ◌≡◌, ◌+◌, if◌then◌else◌, Bool, true, List, [], ◌∷◌, ◌++◌, length, take, Option, None, IfSome, ⊤}
 use Rattle.std.specs.Option.{option_map}
-use Rattle.cml_board.specs.Prelude.{Refusal, entries_in}
-use Rattle.cml_threads.specs.Prelude.{suits}
-use Rattle.cml_grammar.specs.Prelude.{Lines}
+use Rattle.cml_board.specs.{Refusal, entries_in}
+use Rattle.cml_threads.specs.{suits}
+use Rattle.cml_grammar.specs.{Lines}
 use Rattle.cml_script.specs.declared.running.worker.Course.{Course}
 use Rattle.cml_script.specs.Counting.{how_many}
 use Rattle.cml_script.specs.Schedule.{History, declared_count, is_seated, earlier}

@@ -1,8 +1,8 @@
 -- The inside of `declare`: how it makes what one declaration says.
 use Rattle.std.specs.Prelude.{ℕ, ◌≡◌, Option, Some, ⊤, List}
 use Rattle.std.specs.Option.{option_map}
-use Rattle.cml_board.specs.Prelude.{Name, Call, Reply}
-use Rattle.cml_grammar.specs.Prelude.{Lines, Makes, IsCapacity}
+use Rattle.cml_board.specs.{Name, Call, Reply}
+use Rattle.cml_grammar.specs.{Lines, Makes, IsCapacity}
 use Rattle.cml_grammar.specs.declared.forms.Makes.TheVariants as makes
 use Rattle.cml_script.specs.Schedule.{number_of, making_call}
 use Rattle.cml_script.specs.Working.{Made, with_call, with_feed}

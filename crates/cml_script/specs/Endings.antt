@@ -1,6 +1,6 @@
 -- How a run ends, by what stopped it, and the exit status of each ending.
 use Rattle.std.specs.Prelude.{ℕ}
-use Rattle.cml_grammar.specs.Prelude.{What, Fault, Unread}
+use Rattle.cml_grammar.specs.{What, Fault, Unread}
 use Rattle.cml_grammar.specs.declared.fault.What.TheVariants as what
 use Rattle.cml_grammar.specs.declared.input.Unread.TheVariants as unread
 use Rattle.cml_script.specs.declared.stop.Stop.{Stop}

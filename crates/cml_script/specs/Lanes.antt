@@ -3,9 +3,9 @@ use Rattle.std.specs.Prelude.{ℕ, ◌≡◌, ◌≢◌, ◌+◌, ◌<◌, ◌�
 use Rattle.std.specs.Prelude.{slice_get, Option, Some, if◌then◌else◌, ⊤}
 use Rattle.std.specs.Option.{option_map, option_map_or}
 use Rattle.std.specs.List.{list_any}
-use Rattle.cml_board.specs.Prelude.{Call, Who, Entry}
+use Rattle.cml_board.specs.{Call, Who, Entry}
 use Rattle.cml_board.specs.declared.entry.Who.TheVariants.{Seat, Lane, Feed}
-use Rattle.cml_grammar.specs.Prelude.{SourceLine, Lines, names_of, action_of, used_by, Laid, lane_of}
+use Rattle.cml_grammar.specs.{SourceLine, Lines, names_of, action_of, used_by, Laid, lane_of}
 use Rattle.cml_script.specs.Schedule.{History, number_of, is_seated, call_on}
 use Rattle.cml_script.specs.Audit.{sent_to}
 use Rattle.cml_script.specs.Left.{is_laid, is_moved}

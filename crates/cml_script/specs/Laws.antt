@@ -1,6 +1,6 @@
 -- Laws of the definitions.
 use Rattle.std.specs.Prelude.{ℕ, ◌≡◌, ◌<◌, List, None}
-use Rattle.cml_grammar.specs.Prelude.{Lines, IsScript, first_ring}
+use Rattle.cml_grammar.specs.{Lines, IsScript, first_ring}
 use Rattle.cml_script.specs.declared.stop.Stop.{Stop}
 use Rattle.cml_script.specs.declared.stop.Stop.TheVariants.{Stalled}
 use Rattle.cml_script.specs.Counting.{how_many}

@@ -1,8 +1,8 @@
 -- What is left of a script.
 use Rattle.std.specs.Prelude.{ℕ, ◌≡◌, ◌<◌, ◌≤◌, ◌⊎◌, Bool, true, false, List}
-use Rattle.cml_board.specs.Prelude.{Entry, Who, entries_in}
+use Rattle.cml_board.specs.{Entry, Who, entries_in}
 use Rattle.cml_board.specs.declared.entry.Who.TheVariants as who
-use Rattle.cml_grammar.specs.Prelude.{SourceLine, Lines}
+use Rattle.cml_grammar.specs.{SourceLine, Lines}
 use Rattle.cml_script.specs.declared.route.Route.{Route}
 use Rattle.cml_script.specs.declared.route.Route.TheVariants as route
 use Rattle.cml_script.specs.Counting.{how_many}

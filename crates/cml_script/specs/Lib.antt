@@ -30,4 +30,49 @@ pub mod Endings
 pub mod Replay
 pub mod Running
 pub mod Laws
-pub mod Prelude
+-- the names that others import from here
+pub use Counting.{how_many, one_if}
+pub use Schedule.{Ends, Follows, History, IsDeclaration, IsReady, IsStep, NoneReady, apart_count, binding_of, bound_by, call_in, call_of}
+pub use Schedule.{call_on, closed_by, declared_count, declared_object, earlier, feed_at, feed_count, feed_route, given_by, gives_next}
+pub use Schedule.{is_apart, is_by, is_by_ring, is_called, is_feed, is_object, is_seat, is_seated, lane_route, left, made_of, maker}
+pub use Schedule.{makes_object, making_call, next_position, number_of, object_of, objects_of, performed, port_bound, port_made}
+pub use Schedule.{positions_from, positions_where, route_of, route_of_line, step_call}
+pub use Report.{Tallied, channel_counts, end_line, entry_line, entry_lines, given_word, held_text, is_of_thread, is_step_entry, line_text}
+pub use Report.{mailbox_counts, message_mark, named_line, next_step, no_rings, object_line, object_lines_from, performed_count, port_counts}
+pub use Report.{reply_word, report, sent_text, state_text, taken_by, taken_from, unperformed, word_line}
+pub use Left.{HasLeft, IsAllDone, is_laid, is_lane, is_moved, laid_count}
+pub use Stalling.{IsAllMoved, NobodyGoesOn, WaitsAtNext, WaitsOrIsDone, is_before, is_passed, passed_count}
+pub use Written.{journal_text, text_as}
+pub use Play.{IsPlayed, IsPlayedAs}
+pub use Plan.{AreFeedNumbers, AreGivings, AreNumbers, AreQueues, AsksForPorts, HasLaneRoom, HasSeats, IsKnown, IsObject, IsObjectAt}
+pub use Plan.{NamesObjects, items_of, kind_declared, kind_made, object_among, route_at}
+pub use Bindings.{AreBindings, with_binding}
+pub use Makes.{IsMadeOfDeclared}
+pub use Objects.{AreLaid, AreMakers, AreObjects}
+pub use Stage.{AreCounts, IsBound, IsLeast, IsLeastBelow, IsNext, IsNextObject, IsNextPort, IsNextStep, IsReadyOf, IsStepAt, NoneReadyOf}
+pub use Stage.{Stands, WaitsIf, earlier_of, with_entry}
+pub use Apart.{act_of, act_of_line, by_feed, by_lane, earlier_apart, goes_apart}
+pub use Audit.{IsFirstForeign, IsNextOfThread, IsOfCaller, IsOfFeed, IsOfLane, IsOfScript, IsOwn, Judges, leads_to, sent_to}
+pub use Lanes.{AreOnLines, AreSentInOrder, IsAstray, IsBehind, IsInOrder, IsInOrderAt, IsNextLaid, IsNotSent, IsOnLine, IsSent, call_to}
+pub use Lanes.{is_laid_to, is_lane_of, is_moved_on, is_moved_to, is_of_name, is_sent_to, moved_to, sends_to}
+pub use Trail.{AreSmallCounts, CountsOneMore, IsFollowed, IsNoThread, IsThread, Progress, declared_call, history_of, next_call, next_given}
+pub use Trail.{next_text, with_next}
+pub use Scene.{Told}
+pub use Working.{AreByMakers, AreBySeat, AreNextSteps, AreOpened, BeginsAt, Declares, IsOpening, IsStop, IsTurn, IsUnheld, IsUnrefused}
+pub use Working.{Made, MayCall, Works, capacity_made, ending_with, feed_capacity, first_of, is_of_feed, stop_of, waits, with_apart}
+pub use Working.{with_call, with_closed, with_feed, with_refused}
+pub use Declaring.{HasCapacity, HasMade, making}
+pub use Course.{AreSuiting, HasTaken, IsRefusedSo, IsUnderWay, closed_if}
+pub use Endings.{ending_of_fault, ending_of_stop, ending_of_unread, status}
+pub use Replay.{AreAll, EndsUnplayed, EndsUnplayedText, IsPlayedText, IsPlayedTextAs, IsRead, IsTextForRun, Replays, ReplaysAs}
+pub use Replay.{ReplaysJournal, Writes}
+pub use Running.{AreScript, EndsUntold, IsOfRun, IsRefused, IsReportOf, IsRunText, IsTakenAt, IsTextOf, IsUnsettled, IsUntold, Leaves}
+pub use Running.{MayEnd, Runs, RunsAs, RunsJournal}
+pub use Laws.{ReportsTellWhatIsLeft, SchedulesAreOne, ScriptsHaveASchedule, SomeThreadIsStuck, SomeThreadWaits, StalledThreadsWait}
+pub use Laws.{steps_of_seat}
+pub use declared.binding.Binding.{Binding}
+pub use declared.ending.Ending.{Ending}
+pub use declared.form.Form.{Form}
+pub use declared.perform.Played.{Played}
+pub use declared.route.Route.{Route}
+pub use declared.stop.Stop.{Stop}

@@ -2,8 +2,8 @@
 use Rattle.std.specs.Prelude.{ℕ, ◌≡◌, ◌<◌, Bool, false, List, length, slice_get, Some}
 use Rattle.std.specs.Option.{option_map_or}
 use Rattle.std.specs.List.{list_any}
-use Rattle.cml_board.specs.Prelude.{Who}
-use Rattle.cml_grammar.specs.Prelude.{Lines}
+use Rattle.cml_board.specs.{Who}
+use Rattle.cml_grammar.specs.{Lines}
 use Rattle.cml_script.specs.declared.objects.Objects.{Objects}
 use Rattle.cml_script.specs.Schedule.{is_object, is_feed, declared_count, maker, positions_where}
 use Rattle.cml_script.specs.Audit.{leads_to}

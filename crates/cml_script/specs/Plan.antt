@@ -3,10 +3,10 @@ use Rattle.std.specs.Prelude.{ℕ, ◌≡◌, ◌+◌, ◌<◌, ◌≤◌, Bool,
 use Rattle.std.specs.Prelude.{Some, None, if◌then◌else◌, Vec, ⊤}
 use Rattle.std.specs.Global.{Global}
 use Rattle.std.specs.Option.{option_map_or, option_and_then}
-use Rattle.cml_calls.specs.Prelude.{Kind}
+use Rattle.cml_calls.specs.{Kind}
 use Rattle.cml_calls.specs.declared.kind.Kind.TheVariants as kind
-use Rattle.cml_grammar.specs.Prelude.{SourceLine, Lines, names_of, makes_of, action_of, Given, kind_named, Named, Makes, Action, gives_name}
-use Rattle.cml_grammar.specs.Prelude.{IsCapacity, is_giving, NamesAreGiven}
+use Rattle.cml_grammar.specs.{SourceLine, Lines, names_of, makes_of, action_of, Given, kind_named, Named, Makes, Action, gives_name}
+use Rattle.cml_grammar.specs.{IsCapacity, is_giving, NamesAreGiven}
 use Rattle.cml_grammar.specs.declared.forms.Makes.TheVariants as makes
 use Rattle.cml_script.specs.Counting.{how_many}
 use Rattle.cml_script.specs.Schedule.{is_feed, number_of, is_seated, is_called, positions_where, route_of_line, given_by}

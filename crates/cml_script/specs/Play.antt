@@ -1,6 +1,6 @@
 -- A whole script, performed and reported.
 use Rattle.std.specs.Prelude.{ℕ, ◌≡◌, List}
-use Rattle.cml_grammar.specs.Prelude.{Lines}
+use Rattle.cml_grammar.specs.{Lines}
 use Rattle.cml_script.specs.declared.form.Form.{Form}
 use Rattle.cml_script.specs.declared.form.Form.TheVariants.{Report}
 use Rattle.cml_script.specs.declared.stop.Stop.{Stop}

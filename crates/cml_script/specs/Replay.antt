@@ -1,7 +1,7 @@
 -- What a replay reads and writes, by how it ends.
 use Rattle.std.specs.Prelude.{ℕ, ◌≡◌, ◌⊎◌, List, Option, Some, ⊤}
 use Rattle.std.specs.Io.KnownBytes.{Consumes, IsAtEnd, Appends, Keeps}
-use Rattle.cml_grammar.specs.Prelude.{IsReadUpTo, Fault, Lines, IsScript, fault_of, at_line, first_ring}
+use Rattle.cml_grammar.specs.{IsReadUpTo, Fault, Lines, IsScript, fault_of, at_line, first_ring}
 use Rattle.cml_grammar.specs.declared.fault.What.TheVariants.{NeedsRun}
 use Rattle.cml_script.specs.declared.form.Form.{Form}
 use Rattle.cml_script.specs.declared.form.Form.TheVariants.{Report, Journal}

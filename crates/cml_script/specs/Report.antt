@@ -4,12 +4,11 @@ use Rattle.std.specs.Prelude.{slice_get, Option, Some, None, if◌then◌else◌
 use Rattle.std.specs.Option.{option_map_or, option_and_then}
 use Rattle.std.specs.List.{join_with_byte}
 use Rattle.std.specs.Fmt.{decimal}
-use Rattle.cml_board.specs.Prelude.{Call, Who, Reply, Entry, start_by, entries_in, origin_of, sent, got, owed, is_open, held, kept_from}
-use Rattle.cml_board.specs.Prelude.{kept_size}
+use Rattle.cml_board.specs.{Call, Who, Reply, Entry, start_by, entries_in, origin_of, sent, got, owed, is_open, held, kept_from, kept_size}
 use Rattle.cml_board.specs.declared.call.Call.TheVariants as call
 use Rattle.cml_board.specs.declared.entry.Who.TheVariants as who
 use Rattle.cml_board.specs.declared.entry.Reply.TheVariants as reply
-use Rattle.cml_grammar.specs.Prelude.{Named, Given, SourceLine, Lines, names_of, declared_word}
+use Rattle.cml_grammar.specs.{Named, Given, SourceLine, Lines, names_of, declared_word}
 use Rattle.cml_grammar.specs.declared.names.Named.TheVariants.{Thread, Mailbox, Channel, Port, IVar, MVar, Feed}
 use Rattle.cml_script.specs.Counting.{how_many}
 use Rattle.cml_script.specs.declared.stop.Stop.{Stop}

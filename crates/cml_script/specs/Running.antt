@@ -1,8 +1,9 @@
 -- What a run reads and writes, by how it ends.
 use Rattle.std.specs.Prelude.{ℕ, ◌≡◌, ◌+◌, ◌<◌, ◌≤◌, ◌⊎◌, List, length, reverse, Option, Some, unwrap_or, ⊤}
 use Rattle.std.specs.Io.KnownBytes.{Appends, Keeps}
-use Rattle.cml_board.specs.Prelude.{no_entries, entries_in, Lawful, Shown, got_count, IsFirstUnlawful}
-use Rattle.cml_grammar.specs.Prelude.{Lines, IsScript}
+use Rattle.cml_board.specs.{no_entries, entries_in, Lawful, got_count, IsFirstUnlawful}
+use Rattle.cml_board.specs.Shown.{Shown}
+use Rattle.cml_grammar.specs.{Lines, IsScript}
 use Rattle.cml_script.specs.declared.form.Form.{Form}
 use Rattle.cml_script.specs.declared.form.Form.TheVariants.{Report, Journal}
 use Rattle.cml_script.specs.declared.stop.Stop.{Stop}

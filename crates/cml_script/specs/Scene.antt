@@ -1,7 +1,7 @@
 -- The inside of a report: what it tells of.
 use Rattle.std.specs.Prelude.{◌≡◌}
-use Rattle.cml_board.specs.Prelude.{no_entries, Lawful}
-use Rattle.cml_grammar.specs.Prelude.{Lines}
+use Rattle.cml_board.specs.{no_entries, Lawful}
+use Rattle.cml_grammar.specs.{Lines}
 use Rattle.cml_script.specs.Schedule.{History}
 use Rattle.cml_script.specs.Report.{Tallied}
 use Rattle.cml_script.specs.Audit.{IsOfScript}

@@ -5,12 +5,12 @@ use Rattle.std.specs.Option.{option_map, option_map_or, option_and_then}
 use Rattle.cml_script.specs.Counting.{how_many}
 use Rattle.cml_calls.specs.declared.table.Give.TheVariants as give
 use Rattle.cml_calls.specs.declared.table.Ask.TheVariants as ask
-use Rattle.cml_board.specs.Prelude.{Name, Call, Who, Reply, Entry, given_call, asked_call, entries_in, Lawful, answer}
+use Rattle.cml_board.specs.{Name, Call, Who, Reply, Entry, given_call, asked_call, entries_in, Lawful, answer}
 use Rattle.cml_board.specs.declared.call.Call.TheVariants as call
 use Rattle.cml_board.specs.declared.entry.Who.TheVariants.{Seat, Lane, Feed}
 use Rattle.cml_board.specs.declared.entry.Reply.TheVariants as reply
-use Rattle.cml_grammar.specs.Prelude.{Makes, Action, SourceLine, Lines, names_of, makes_of, action_of, seat_of_step, is_giving}
-use Rattle.cml_grammar.specs.Prelude.{names_before, used_by, makes_feed, capacity_of, first_ring}
+use Rattle.cml_grammar.specs.{Makes, Action, SourceLine, Lines, names_of, makes_of, action_of, seat_of_step, is_giving, names_before}
+use Rattle.cml_grammar.specs.{used_by, makes_feed, capacity_of, first_ring}
 use Rattle.cml_grammar.specs.declared.forms.Makes.TheVariants as makes
 use Rattle.cml_grammar.specs.declared.forms.Action.TheVariants as action
 use Rattle.cml_script.specs.declared.binding.Binding.{Binding}

@@ -1,11 +1,11 @@
 -- The inside of `play`: a script under way, what its stage shows, and what it keeps.
 use Rattle.std.specs.Prelude.{ℕ, ◌≡◌, ◌+◌, ◌<◌, List, ◌∷◌, ◌≤◌, ◌^◌, length, min, slice_get, Option, Some, None, ⊤, Bool, IsTrue, ◌↔◌}
 use Rattle.std.specs.Option.{option_and_then}
-use Rattle.cml_board.specs.Prelude.{Call, Entry, entries_in, Lawful, kind_of, Fits, answer}
+use Rattle.cml_board.specs.{Call, Entry, entries_in, Lawful, kind_of, Fits, answer}
 use Rattle.cml_board.specs.declared.call.Call.TheVariants as call
-use Rattle.cml_calls.specs.Prelude.{Kind}
+use Rattle.cml_calls.specs.{Kind}
 use Rattle.cml_board.specs.declared.entry.Who.TheVariants.{Seat}
-use Rattle.cml_grammar.specs.Prelude.{Lines, names_of, Makes, IsChannelAt, first_ring}
+use Rattle.cml_grammar.specs.{Lines, names_of, Makes, IsChannelAt, first_ring}
 use Rattle.cml_grammar.specs.declared.forms.Makes.TheVariants as makes
 use Rattle.cml_script.specs.declared.binding.Binding.{Binding}
 use Rattle.cml_script.specs.Schedule.{objects_of, object_of, declared_object, declared_count, call_in, History, next_position}

@@ -1,9 +1,9 @@
 -- When no thread could go on with a script.
 use Rattle.std.specs.Prelude.{ℕ, ◌≡◌, ◌<◌, ◌≤◌, Bool, true, false, nat_lt, List, slice_get, Option, Some, None}
 use Rattle.std.specs.Option.{option_map_or}
-use Rattle.cml_board.specs.Prelude.{Call, entries_in, Fits, answer}
+use Rattle.cml_board.specs.{Call, entries_in, Fits, answer}
 use Rattle.cml_board.specs.declared.entry.Who.TheVariants.{Seat}
-use Rattle.cml_grammar.specs.Prelude.{SourceLine, Lines, names_of, seat_of_step}
+use Rattle.cml_grammar.specs.{SourceLine, Lines, names_of, seat_of_step}
 use Rattle.cml_script.specs.Counting.{how_many}
 use Rattle.cml_script.specs.Schedule.{History, declared_count, is_apart, next_position, positions_where, step_call}
 use Rattle.cml_script.specs.Report.{Tallied}

@@ -1,9 +1,9 @@
 -- The inside of `audit` and of a report: a journal that is followed entry by entry beside a script, and what is kept of it.
 use Rattle.std.specs.Prelude.{ℕ, ◌≡◌, ◌≢◌, ◌+◌, ◌^◌, ◌<◌, ◌≤◌, List, [], ◌∷◌, length, slice_get, Option}
 use Rattle.std.specs.Option.{option_map_or, option_and_then}
-use Rattle.cml_board.specs.Prelude.{Call, Who, Entry, entries_in, before}
+use Rattle.cml_board.specs.{Call, Who, Entry, entries_in, before}
 use Rattle.cml_board.specs.declared.entry.Who.TheVariants.{Seat}
-use Rattle.cml_grammar.specs.Prelude.{Lines}
+use Rattle.cml_grammar.specs.{Lines}
 use Rattle.cml_script.specs.declared.binding.Binding.{Binding}
 use Rattle.cml_script.specs.Schedule.{History, objects_of, call_in, step_call, next_position, given_by}
 use Rattle.cml_script.specs.Plan.{IsKnown}

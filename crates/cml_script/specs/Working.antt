@@ -4,12 +4,12 @@ use Rattle.std.specs.Prelude.{Option, Some, None, Result, Ok, Err, IfSome, OnOk,
 use Rattle.std.specs.Option.{option_and_then}
 use Rattle.std.specs.Result.{result_err}
 use Rattle.std.specs.declared.alloc.AllocError.{AllocError}
-use Rattle.cml_board.specs.Prelude.{Name, Call, Who, Reply, Entry, Refusal, row_of, entries_in}
+use Rattle.cml_board.specs.{Name, Call, Who, Reply, Entry, Refusal, row_of, entries_in}
 use Rattle.cml_board.specs.declared.call.Call.TheVariants.{NewPort}
 use Rattle.cml_board.specs.declared.entry.Who.TheVariants.{Seat, Lane, Feed}
 use Rattle.cml_board.specs.declared.entry.Reply.TheVariants as reply
 use Rattle.cml_board.specs.declared.outcome.Refusal.TheVariants.{JournalFull, NoMemory}
-use Rattle.cml_grammar.specs.Prelude.{SourceLine, Lines, names_of, makes_of, Makes}
+use Rattle.cml_grammar.specs.{SourceLine, Lines, names_of, makes_of, Makes}
 use Rattle.cml_grammar.specs.declared.forms.Makes.TheVariants as makes
 use Rattle.cml_script.specs.declared.stop.Stop.{Stop}
 use Rattle.cml_script.specs.declared.stop.Stop.TheVariants.{Done, Stalled, Full, Held}

@@ -1,7 +1,7 @@
 -- What is written of a script and its history: its report, or its journal's text.
 use Rattle.std.specs.Prelude.{ℕ, List, reverse}
-use Rattle.cml_grammar.specs.Prelude.{Lines}
-use Rattle.cml_journal.specs.Prelude.{script_word, text_of, piece_lines}
+use Rattle.cml_grammar.specs.{Lines}
+use Rattle.cml_journal.specs.{script_word, text_of, piece_lines}
 use Rattle.cml_script.specs.declared.form.Form.{Form}
 use Rattle.cml_script.specs.declared.form.Form.TheVariants.{Report, Journal}
 use Rattle.cml_script.specs.declared.stop.Stop.{Stop}

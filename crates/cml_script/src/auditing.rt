@@ -1,6 +1,6 @@
 //! How a given journal is judged, by the rules of boards and by a script.
 ghost use Rattle.std.specs.Prelude.{◌≤◌, ◌^◌, length, reverse, IfOk, MatchOption};
-ghost use Rattle.cml_script.specs.Prelude.{IsOfScript, IsFirstForeign, Judges};
+ghost use Rattle.cml_script.specs.{IsOfScript, IsFirstForeign, Judges};
 
 use crate::trail::Trail;
 use crate::verdict::Verdict;

@@ -1,7 +1,7 @@
 //! The objects of the names that steps give.
 ghost use Rattle.std.specs.Prelude.{◌≡◌, ◌<◌, length, IfSome};
 ghost use Rattle.std.specs.Option.{option_map};
-ghost use Rattle.cml_script.specs.Prelude.{bound_by, closed_by, port_bound, port_made, with_binding};
+ghost use Rattle.cml_script.specs.{bound_by, closed_by, port_bound, port_made, with_binding};
 
 use cml_board::{Call, Name, Reply, Text};
 

@@ -1,8 +1,8 @@
 //! The calls that steps ask for.
 ghost use Rattle.std.specs.Prelude.{◌≡◌, ◌↔◌, None, IsTrue, IfOk};
-ghost use Rattle.cml_board.specs.Prelude.{Fits, answer, want_in};
-ghost use Rattle.cml_grammar.specs.Prelude.{used_by};
-ghost use Rattle.cml_script.specs.Prelude.{call_on};
+ghost use Rattle.cml_board.specs.{Fits, answer, want_in};
+ghost use Rattle.cml_grammar.specs.{used_by};
+ghost use Rattle.cml_script.specs.{call_on};
 
 use cml_board::{Board, BoardLog, Call, Give, Message, Name, Text, Want, calls_wait_by_want};
 use cml_grammar::Action;

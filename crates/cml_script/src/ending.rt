@@ -1,7 +1,7 @@
 //! How a run of a script ends.
 ghost use Rattle.std.specs.Prelude.{◌≡◌};
 ghost use Rattle.cml_script.specs.declared.ending.Ending.TheVariants as ending;
-ghost use Rattle.cml_script.specs.Prelude.{ending_of_fault, ending_of_stop, ending_of_unread, status};
+ghost use Rattle.cml_script.specs.{ending_of_fault, ending_of_stop, ending_of_unread, status};
 
 use crate::stop::Stop;
 use cml_grammar::{Fault, Unread, What};

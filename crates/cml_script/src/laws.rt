@@ -1,6 +1,6 @@
 //! Laws of the definitions, each the contract of a function that does nothing.
-ghost use Rattle.cml_script.specs.Prelude.{SchedulesAreOne, ScriptsHaveASchedule, StalledThreadsWait, SomeThreadWaits, SomeThreadIsStuck};
-ghost use Rattle.cml_script.specs.Prelude.{ReportsTellWhatIsLeft};
+ghost use Rattle.cml_script.specs.{SchedulesAreOne, ScriptsHaveASchedule, StalledThreadsWait, SomeThreadWaits, SomeThreadIsStuck};
+ghost use Rattle.cml_script.specs.{ReportsTellWhatIsLeft};
 
 /// Shows that under a limit a script has at most one history, and it ends in one way.
 pub fn schedules_are_one()

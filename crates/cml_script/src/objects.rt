@@ -1,7 +1,7 @@
 //! The objects that a script declares.
 ghost use Rattle.std.specs.Prelude.{◌≡◌, false, slice_get, IfOk};
 ghost use Rattle.std.specs.Option.{option_map_or};
-ghost use Rattle.cml_script.specs.Prelude.{is_object, is_feed, positions_where, AreMakers, AreLaid, AreObjects};
+ghost use Rattle.cml_script.specs.{is_object, is_feed, positions_where, AreMakers, AreLaid, AreObjects};
 
 use crate::plan::{Plan, makes_feed, makes_object};
 use cml_board::Who;

@@ -1,8 +1,8 @@
 //! A whole script, performed and reported.
 ghost use Rattle.std.specs.Prelude.{◌≡◌, ◌≤◌, ◌^◌, None, IfOk, string_bytes};
-ghost use Rattle.cml_board.specs.Prelude.{no_entries, entries_in};
-ghost use Rattle.cml_grammar.specs.Prelude.{first_ring};
-ghost use Rattle.cml_script.specs.Prelude.{declared_count, Ends, IsPlayed, IsPlayedAs};
+ghost use Rattle.cml_board.specs.{no_entries, entries_in};
+ghost use Rattle.cml_grammar.specs.{first_ring};
+ghost use Rattle.cml_script.specs.{declared_count, Ends, IsPlayed, IsPlayedAs};
 
 use crate::form::Form;
 use crate::stage::Stage;

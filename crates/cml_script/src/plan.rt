@@ -1,14 +1,13 @@
 //! What is known of a script before any of it is performed.
 ghost use Rattle.std.specs.Prelude.{◌≡◌, ◌+◌, ◌<◌, ◌^◌, [], length, take, slice_get, Some, All, IfOk, IfSome};
 ghost use Rattle.std.specs.Option.{option_map};
-ghost use Rattle.cml_calls.specs.Prelude.{shown, is_name, names_one};
-ghost use Rattle.cml_board.specs.Prelude.{no_entries, entries_in};
-ghost use Rattle.cml_grammar.specs.Prelude.{makes_feed, gives_name, IsCapacity};
-ghost use Rattle.cml_script.specs.Prelude.{how_many, History, makes_object, is_object, is_feed, is_seated, is_called, number_of};
-ghost use Rattle.cml_script.specs.Prelude.{apart_count, feed_at, declared_count, feed_count, positions_where, positions_from, lane_route};
-ghost use Rattle.cml_script.specs.Prelude.{feed_route, route_of, given_by, object_of, IsKnown, AreNumbers, AreFeedNumbers, AreQueues};
-ghost use Rattle.cml_script.specs.Prelude.{AreGivings, NamesObjects, HasSeats, AsksForPorts, items_of, object_among, route_at, HasLaneRoom};
-ghost use Rattle.cml_script.specs.Prelude.{AreBindings, laid_count};
+ghost use Rattle.cml_calls.specs.{shown, is_name, names_one};
+ghost use Rattle.cml_board.specs.{no_entries, entries_in};
+ghost use Rattle.cml_grammar.specs.{makes_feed, gives_name, IsCapacity};
+ghost use Rattle.cml_script.specs.{how_many, History, makes_object, is_object, is_feed, is_seated, is_called, number_of, apart_count};
+ghost use Rattle.cml_script.specs.{feed_at, declared_count, feed_count, positions_where, positions_from, lane_route, feed_route, route_of};
+ghost use Rattle.cml_script.specs.{given_by, object_of, IsKnown, AreNumbers, AreFeedNumbers, AreQueues, AreGivings, NamesObjects, HasSeats};
+ghost use Rattle.cml_script.specs.{AsksForPorts, items_of, object_among, route_at, HasLaneRoom, AreBindings, laid_count};
 
 use crate::binding::Binding;
 use crate::route::Route;

@@ -1,6 +1,6 @@
 //! A script's bytes.
 ghost use Rattle.std.specs.Prelude.{IfOk};
-ghost use Rattle.cml_script.specs.Prelude.{IsRead};
+ghost use Rattle.cml_script.specs.{IsRead};
 
 use cml_grammar::{Unread, read_up_to};
 use std::alloc::Global;

@@ -1,7 +1,7 @@
 //! A script, from the reader's bytes to those of its report or its journal.
 ghost use Rattle.std.specs.Prelude.{◌≤◌, ◌^◌, IfOk, IfErr, string_bytes};
-ghost use Rattle.cml_script.specs.Prelude.{AreAll, IsPlayedText, IsPlayedTextAs, EndsUnplayed, EndsUnplayedText, Replays, ReplaysAs};
-ghost use Rattle.cml_script.specs.Prelude.{ReplaysJournal};
+ghost use Rattle.cml_script.specs.{AreAll, IsPlayedText, IsPlayedTextAs, EndsUnplayed, EndsUnplayedText, Replays, ReplaysAs};
+ghost use Rattle.cml_script.specs.{ReplaysJournal};
 
 use crate::ending::Ending;
 use crate::form::Form;

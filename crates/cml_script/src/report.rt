@@ -1,13 +1,13 @@
 //! The report's lines.
 ghost use Rattle.std.specs.Prelude.{◌≡◌, ◌++◌, [], true, reverse, slice_get, Some, IfOk, OnOk, string_bytes, codes};
 ghost use Rattle.std.specs.Fmt.{decimal};
-ghost use Rattle.cml_calls.specs.Prelude.{Kind, is_variable};
+ghost use Rattle.cml_calls.specs.{Kind, is_variable};
 ghost use Rattle.cml_calls.specs.declared.kind.Kind.TheVariants as kind;
-ghost use Rattle.cml_board.specs.Prelude.{held, no_entries, kind_of};
-ghost use Rattle.cml_grammar.specs.Prelude.{names_of, kind_named};
-ghost use Rattle.cml_script.specs.Prelude.{IsOfScript, history_of, report, entry_lines, entry_line, sent_text, message_mark, reply_word};
-ghost use Rattle.cml_script.specs.Prelude.{mailbox_counts, channel_counts, port_counts, held_text, state_text, word_line, named_line};
-ghost use Rattle.cml_script.specs.Prelude.{object_lines_from, end_line};
+ghost use Rattle.cml_board.specs.{held, no_entries, kind_of};
+ghost use Rattle.cml_grammar.specs.{names_of, kind_named};
+ghost use Rattle.cml_script.specs.{IsOfScript, history_of, report, entry_lines, entry_line, sent_text, message_mark, reply_word};
+ghost use Rattle.cml_script.specs.{mailbox_counts, channel_counts, port_counts, held_text, state_text, word_line, named_line};
+ghost use Rattle.cml_script.specs.{object_lines_from, end_line};
 
 use crate::scene::Scene;
 use crate::stop::Stop;

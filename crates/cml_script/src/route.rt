@@ -1,6 +1,6 @@
 //! How the steps of a script go.
 ghost use Rattle.std.specs.Prelude.{◌≡◌};
-ghost use Rattle.cml_script.specs.Prelude.{is_by_ring};
+ghost use Rattle.cml_script.specs.{is_by_ring};
 ghost use Rattle.cml_script.specs.Left.{is_by_lane};
 
 /// How a step goes.

@@ -1,7 +1,6 @@
 //! A script whose threads are real threads, from the reader's bytes to those of its report or its journal.
 ghost use Rattle.std.specs.Prelude.{◌≡◌, ◌≢◌, ◌↔◌, ◌≤◌, ◌^◌, true, IsTrue, IfOk, IfErr, string_bytes};
-ghost use Rattle.cml_script.specs.Prelude.{AreAll, IsRunText, IsTextOf, IsUnsettled, IsUntold, IsOfRun, EndsUntold, Runs, RunsAs};
-ghost use Rattle.cml_script.specs.Prelude.{RunsJournal};
+ghost use Rattle.cml_script.specs.{AreAll, IsRunText, IsTextOf, IsUnsettled, IsUntold, IsOfRun, EndsUntold, Runs, RunsAs, RunsJournal};
 
 mod caller;
 mod concluding;

@@ -1,10 +1,10 @@
 //! What a report is about.
 ghost use Rattle.std.specs.Prelude.{◌≡◌, Some, None, reverse, MatchOption, IfSome};
-ghost use Rattle.cml_calls.specs.Prelude.{Kind};
-ghost use Rattle.cml_board.specs.Prelude.{no_entries, Lawful, kind_of};
-ghost use Rattle.cml_grammar.specs.Prelude.{names_of};
-ghost use Rattle.cml_script.specs.Prelude.{how_many, made_of, is_lane, is_moved, performed_count, unperformed, taken_by, is_of_thread};
-ghost use Rattle.cml_script.specs.Prelude.{is_step_entry, IsObject, IsObjectAt, IsOfScript, history_of};
+ghost use Rattle.cml_calls.specs.{Kind};
+ghost use Rattle.cml_board.specs.{no_entries, Lawful, kind_of};
+ghost use Rattle.cml_grammar.specs.{names_of};
+ghost use Rattle.cml_script.specs.{how_many, made_of, is_lane, is_moved, performed_count, unperformed, taken_by, is_of_thread};
+ghost use Rattle.cml_script.specs.{is_step_entry, IsObject, IsObjectAt, IsOfScript, history_of};
 
 use crate::plan::count_objects;
 use crate::tally::Tally;

@@ -1,13 +1,13 @@
 //! A script under way on a board.
 ghost use Rattle.std.specs.Prelude.{◌≡◌, ◌≢◌, ◌↔◌, ℕ, ◌+◌, ◌-◌, ◌<◌, ◌≤◌, ◌^◌, List, [], ◌∷◌, length, slice_get, false, Some, None};
 ghost use Rattle.std.specs.Prelude.{IfOk, OnOk, OnErr, MatchOption, MatchBool, IsTrue, IfSome, IsSome};
-ghost use Rattle.cml_board.specs.Prelude.{no_entries, entries_in, Fits, Lawful, kind_of, Reply, Entry};
-ghost use Rattle.cml_calls.specs.Prelude.{Kind};
-ghost use Rattle.cml_grammar.specs.Prelude.{names_of, UsesWell, used_by, first_ring, makes_feed};
-ghost use Rattle.cml_script.specs.Prelude.{NoneReady, Follows, left, declared_count, makes_object, declared_object, object_of, made_of};
-ghost use Rattle.cml_script.specs.Prelude.{next_position, call_of, step_call, performed_count, one_if, IsObject, IsObjectAt, with_entry};
-ghost use Rattle.cml_script.specs.Prelude.{IsNextObject, IsNext, IsNextStep, IsBound, WaitsIf, earlier_of, IsLeast, IsReadyOf, NoneReadyOf};
-ghost use Rattle.cml_script.specs.Prelude.{IsStepAt};
+ghost use Rattle.cml_board.specs.{no_entries, entries_in, Fits, Lawful, kind_of, Reply, Entry};
+ghost use Rattle.cml_calls.specs.{Kind};
+ghost use Rattle.cml_grammar.specs.{names_of, UsesWell, used_by, first_ring, makes_feed};
+ghost use Rattle.cml_script.specs.{NoneReady, Follows, left, declared_count, makes_object, declared_object, object_of, made_of};
+ghost use Rattle.cml_script.specs.{next_position, call_of, step_call, performed_count, one_if, IsObject, IsObjectAt, with_entry};
+ghost use Rattle.cml_script.specs.{IsNextObject, IsNext, IsNextStep, IsBound, WaitsIf, earlier_of, IsLeast, IsReadyOf, NoneReadyOf};
+ghost use Rattle.cml_script.specs.{IsStepAt};
 
 use crate::binding::{Binding, bind};
 use crate::calls::{call_on, used_by, would_wait};

@@ -1,6 +1,6 @@
 //! What a run counts beside its journal.
 ghost use Rattle.std.specs.Prelude.{◌≡◌, IfOk, replicate, slice_set};
-ghost use Rattle.cml_script.specs.Prelude.{no_rings, taken_from};
+ghost use Rattle.cml_script.specs.{no_rings, taken_from};
 
 use std::alloc::{AllocError, Global};
 use std::marker::Model;

@@ -2,13 +2,13 @@
 ghost use Rattle.std.specs.Prelude.{◌≡◌, ◌↔◌, ◌&&◌, ℕ, ◌+◌, ◌<◌, ◌≤◌, Some, None, length, filter, slice_get, IfOk};
 ghost use Rattle.std.specs.Prelude.{IfSome, IsTrue, MatchOption};
 ghost use Rattle.std.specs.Option.{option_map, option_and_then};
-ghost use Rattle.cml_board.specs.Prelude.{entries_in};
-ghost use Rattle.cml_grammar.specs.Prelude.{names_of};
-ghost use Rattle.cml_script.specs.Prelude.{declared_count, declared_object, object_of, made_of, making_call, maker, next_position};
-ghost use Rattle.cml_script.specs.Prelude.{objects_of, is_feed, feed_at, is_apart, is_by_ring, IsDeclaration, IsKnown, IsObject, route_at};
-ghost use Rattle.cml_script.specs.Prelude.{IsOwn, IsOfCaller, IsOfLane, IsOfFeed, sent_to, IsMadeOfDeclared, given_word, is_laid};
-ghost use Rattle.cml_script.specs.Prelude.{WaitsOrIsDone, is_passed, passed_count, history_of, with_next, next_text, IsThread, IsNoThread};
-ghost use Rattle.cml_script.specs.Prelude.{AreSmallCounts, CountsOneMore, next_given, next_call, declared_call};
+ghost use Rattle.cml_board.specs.{entries_in};
+ghost use Rattle.cml_grammar.specs.{names_of};
+ghost use Rattle.cml_script.specs.{declared_count, declared_object, object_of, made_of, making_call, maker, next_position, objects_of};
+ghost use Rattle.cml_script.specs.{is_feed, feed_at, is_apart, is_by_ring, IsDeclaration, IsKnown, IsObject, route_at, IsOwn, IsOfCaller};
+ghost use Rattle.cml_script.specs.{IsOfLane, IsOfFeed, sent_to, IsMadeOfDeclared, given_word, is_laid, WaitsOrIsDone, is_passed};
+ghost use Rattle.cml_script.specs.{passed_count, history_of, with_next, next_text, IsThread, IsNoThread, AreSmallCounts, CountsOneMore};
+ghost use Rattle.cml_script.specs.{next_given, next_call, declared_call};
 ghost use Rattle.cml_script.specs.Left.{is_by_lane};
 
 use crate::binding::{Binding, bind};

@@ -1,6 +1,6 @@
 //! The journal of a board that was never cut: all of its entries. No step of a script cuts one.
 ghost use Rattle.std.specs.Prelude.{◌≡◌, ◌≤◌, reverse};
-ghost use Rattle.cml_board.specs.Prelude.{no_entries, entries_in, Lawful};
+ghost use Rattle.cml_board.specs.{no_entries, entries_in, Lawful};
 
 use cml_board::{Board, BoardLog, Entry, Text};
 

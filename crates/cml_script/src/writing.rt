@@ -1,7 +1,7 @@
 //! What is written of a script: its report, or its journal as text.
 ghost use Rattle.std.specs.Prelude.{◌≡◌, IfOk, string_bytes};
-ghost use Rattle.cml_board.specs.Prelude.{no_entries};
-ghost use Rattle.cml_script.specs.Prelude.{IsOfScript, Writes, journal_text, text_as};
+ghost use Rattle.cml_board.specs.{no_entries};
+ghost use Rattle.cml_script.specs.{IsOfScript, Writes, journal_text, text_as};
 
 use crate::ending::Ending;
 use crate::form::Form;

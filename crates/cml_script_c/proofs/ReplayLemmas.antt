@@ -1,9 +1,9 @@
 -- What came of a script, by how it ended.
 use Rattle.std.proofs.Common.{◌≡◌, ℕ, List, []}
-use Rattle.cml_script.specs.Prelude.{Ending, Stop, ending_of_stop, IsPlayedText, EndsUnplayedText}
+use Rattle.cml_script.specs.{Ending, Stop, ending_of_stop, IsPlayedText, EndsUnplayedText}
 use Rattle.cml_script.specs.declared.ending.Ending.TheVariants as ending
 use Rattle.cml_script.specs.declared.stop.Stop.TheVariants as stop
-use Rattle.cml_script_c.specs.Prelude.{IsReplay}
+use Rattle.cml_script_c.specs.{IsReplay}
 
 pub played : (limit : ℕ) (script report : List ℕ) (stopped : Stop) → IsPlayedText limit script stopped report
     → IsReplay limit script report (ending_of_stop stopped)

@@ -1,2 +1,3 @@
 pub mod Replaying
-pub mod Prelude
+-- the names that others import from here
+pub use Replaying.{Fills, HasNoRoom, IsReplay, line_of}

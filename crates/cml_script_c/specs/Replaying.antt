@@ -1,6 +1,6 @@
 -- What a replay returns to a caller in C.
 use Rattle.std.specs.Prelude.{ℕ, ◌≡◌, ◌≤◌, ◌<◌, List, [], ◌++◌, length, drop}
-use Rattle.cml_script.specs.Prelude.{Ending, status, IsPlayedText, EndsUnplayedText}
+use Rattle.cml_script.specs.{Ending, status, IsPlayedText, EndsUnplayedText}
 use Rattle.cml_script.specs.declared.ending.Ending.TheVariants as ending
 use Rattle.cml_script.specs.declared.stop.Stop.TheVariants as stop
 use Rattle.cml_script_c.specs.declared.SeryugoEnd.{SeryugoEnd}

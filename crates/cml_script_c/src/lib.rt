@@ -2,7 +2,7 @@
 #![tactic(auto)]
 
 ghost use Rattle.std.specs.Prelude.{◌≡◌, ◌≤◌, ◌<◌, ◌^◌, ◌++◌, length, drop, string_bytes};
-ghost use Rattle.cml_script_c.specs.Prelude.{Fills, HasNoRoom, IsReplay, line_of};
+ghost use Rattle.cml_script_c.specs.{Fills, HasNoRoom, IsReplay, line_of};
 
 use cml_script::{Ending, replay_text, status_of};
 use std::alloc::Global;

@@ -1,2 +1,3 @@
 pub mod Statuses
-pub mod Prelude
+-- the names that others import from here
+pub use Statuses.{EndsUnordered, IsShowing, error_status}

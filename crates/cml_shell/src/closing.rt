@@ -1,7 +1,7 @@
 //! The end of a program: its exit status, and what it says on standard error.
 ghost use Rattle.std.specs.Prelude.{◌≡◌, MatchResult};
 ghost use Rattle.clap.specs.Words.{kind_of};
-ghost use Rattle.cml_shell.specs.Prelude.{error_status, EndsUnordered, IsShowing};
+ghost use Rattle.cml_shell.specs.{error_status, EndsUnordered, IsShowing};
 
 use crate::ending::Ending;
 use crate::opening::NoOrder;

@@ -1,11 +1,12 @@
 -- What a floor answers suits the call, and is the answer to that call.
 use Rattle.std.proofs.Common.{◌≡◌, ℕ, List, Bool, true, false, Some, refl}
-use Rattle.cml_board.specs.Prelude.{Call, Answered, answer}
+use Rattle.cml_board.specs.{Call, answer}
+use Rattle.cml_board.specs.Answered.{Answered}
 use Rattle.cml_board.specs.declared.outcome.Outcome.TheVariants as outcome
 use Rattle.cml_board.specs.declared.outcome.Refusal.TheVariants.{WrongKind}
 use Rattle.cml_board.proofs.SuitingLemmas.{answer_suits}
-use Rattle.cml_lanes.specs.Prelude.{FloorShown, is_barred}
-use Rattle.cml_threads.specs.Prelude.{suits}
+use Rattle.cml_lanes.specs.{FloorShown, is_barred}
+use Rattle.cml_threads.specs.{suits}
 
 where_it_is_not : {A : Type 0} (t : Bool) → (t ≡ true → ⊥) → (t ≡ false → A) → A
 where_it_is_not true is isnt = absurd (is refl)

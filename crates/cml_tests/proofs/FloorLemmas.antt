@@ -1,11 +1,12 @@
 -- What lanes and feeds move, no seat asks for.
 use Rattle.std.proofs.Common.{◌≡◌, ℕ, List, [], ◌∷◌, length, Some, refl, ap, ◌∙◌, arith}
 use Rattle.std.proofs.lemmas.List.{length_push}
-use Rattle.cml_board.specs.Prelude.{Name, Shown}
-use Rattle.cml_lanes.specs.Prelude.{Way, with_lane, lane_entry, with_feed, feed_entry, FloorShown, Deed, as_it_was, lane_drained, lane_gone}
-use Rattle.cml_lanes.specs.Prelude.{lane_opened, feed_pumped, feed_gone, feed_opened}
-use Rattle.cml_script.specs.Prelude.{History}
-use Rattle.cml_tests.specs.Prelude.{asked, IsUnasked}
+use Rattle.cml_board.specs.{Name}
+use Rattle.cml_board.specs.Shown.{Shown}
+use Rattle.cml_lanes.specs.{Way, with_lane, lane_entry, with_feed, feed_entry, FloorShown, Deed, as_it_was, lane_drained, lane_gone}
+use Rattle.cml_lanes.specs.{lane_opened, feed_pumped, feed_gone, feed_opened}
+use Rattle.cml_script.specs.{History}
+use Rattle.cml_tests.specs.{asked, IsUnasked}
 
 lane_moves : (number : ℕ) (way : Way) (target : Name) (moved : List (List ℕ)) (history : History)
     → asked (with_lane number way target moved history) ≡ asked history

@@ -1,8 +1,8 @@
 -- Which entries open a script's journal.
 use Rattle.std.proofs.Common.{◌≡◌, ℕ, ◌≤◌, [], ◌∷◌, length, MatchBool, subst, arith}
 use Rattle.std.proofs.lemmas.Bool.{lt-ltb}
-use Rattle.cml_grammar.specs.Prelude.{Lines}
-use Rattle.cml_script.specs.Prelude.{History, declared_count, IsDeclaration, IsOfScript, IsOfCaller, AreByMakers}
+use Rattle.cml_grammar.specs.{Lines}
+use Rattle.cml_script.specs.{History, declared_count, IsDeclaration, IsOfScript, IsOfCaller, AreByMakers}
 
 -- the declared objects are an opening
 pub opens : (script : Lines) (history : History) → IsOfScript script history

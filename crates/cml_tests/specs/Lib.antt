@@ -1,4 +1,7 @@
 pub mod Rings
 pub mod Telling
 pub mod Performed
-pub mod Prelude
+-- the names that others import from here
+pub use Rings.{IsUnasked, asked, with_call, with_feed}
+pub use Telling.{EndsWith, unmade}
+pub use Performed.{IsPerformed}

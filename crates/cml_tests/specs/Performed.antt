@@ -1,9 +1,9 @@
 -- What was performed of a script by a teller.
 use Rattle.std.specs.Prelude.{Result, Ok, Err}
 use Rattle.std.specs.declared.alloc.AllocError.{AllocError}
-use Rattle.cml_board.specs.Prelude.{Refusal}
-use Rattle.cml_grammar.specs.Prelude.{Lines}
-use Rattle.cml_script.specs.Prelude.{Stop, Made, Declares, Works}
+use Rattle.cml_board.specs.{Refusal}
+use Rattle.cml_grammar.specs.{Lines}
+use Rattle.cml_script.specs.{Stop, Made, Declares, Works}
 
 -- the declared objects up to one that was refused were made; or all of them were made, and then the first thread's steps
 -- behind just these

@@ -1,11 +1,11 @@
 -- What a floor and the other ends of its rings show of themselves.
 use Rattle.std.specs.Prelude.{ℕ, ◌≡◌, ◌+◌, Bool, true, false, List, ◌∷◌, length, filter}
-use Rattle.cml_board.specs.Prelude.{Name, Call, Who, Reply, Entry}
+use Rattle.cml_board.specs.{Name, Call, Who, Reply, Entry}
 use Rattle.cml_board.specs.declared.call.Call.TheVariants.{NewPort}
 use Rattle.cml_board.specs.declared.entry.Who.TheVariants.{Seat, Feed}
 use Rattle.cml_board.specs.declared.entry.Reply.TheVariants.{Made}
-use Rattle.cml_lanes.specs.Prelude.{FloorShown}
-use Rattle.cml_script.specs.Prelude.{History}
+use Rattle.cml_lanes.specs.{FloorShown}
+use Rattle.cml_script.specs.{History}
 
 -- a seat's call, or the opening of a feed, and not what a lane or a feed moved
 abbrev pub is_asked_by : Who → Call (List ℕ) → Bool

@@ -1,7 +1,8 @@
 -- What a teller made.
 use Rattle.std.specs.Prelude.{ℕ, ◌≡◌, Bool, false, List, [], ◌++◌, reverse, Option, Some, None}
-use Rattle.cml_board.specs.Prelude.{Name, Refusal}
-use Rattle.cml_script.specs.Prelude.{how_many, History, Apart, by_lane, by_feed, Made, is_of_feed}
+use Rattle.cml_board.specs.{Name, Refusal}
+use Rattle.cml_script.specs.{how_many, History, by_lane, by_feed, Made, is_of_feed}
+use Rattle.cml_script.specs.Apart.{Apart}
 
 -- a message that was sent by a lane with so much room, or a poll of the feed of this number
 abbrev pub went_so : Option (List ℕ) → Name → ℕ → Apart

@@ -1,11 +1,12 @@
 -- How many entries a call on lanes or feeds adds, and that all of them are of lanes and feeds.
 use Rattle.std.proofs.Common.{◌≡◌, ℕ, ◌+◌, ◌≤◌, List, [], ◌∷◌, length, ap, ◌∙◌, arith}
-use Rattle.cml_board.specs.Prelude.{Name, Entry, entries_in, rings_in, Shown}
-use Rattle.cml_lanes.specs.Prelude.{Way, lane_entry, with_lane, feed_entry, with_feed, FloorShown, Deed, as_it_was, lane_drained, lane_gone}
-use Rattle.cml_lanes.specs.Prelude.{lane_opened, feed_pumped, feed_gone, feed_opened}
+use Rattle.cml_board.specs.{Name, Entry, entries_in, rings_in}
+use Rattle.cml_board.specs.Shown.{Shown}
+use Rattle.cml_lanes.specs.{Way, lane_entry, with_lane, feed_entry, with_feed, FloorShown, Deed, as_it_was, lane_drained, lane_gone}
+use Rattle.cml_lanes.specs.{lane_opened, feed_pumped, feed_gone, feed_opened}
 use Rattle.cml_lanes.proofs.ReservedLemmas.{lane_entries, feed_entries}
-use Rattle.cml_room.specs.Prelude.{State, RoomShown, floor_of}
-use Rattle.cml_threads.specs.Prelude.{IsCounted, WasCounted}
+use Rattle.cml_room.specs.{State, RoomShown, floor_of}
+use Rattle.cml_threads.specs.{IsCounted, WasCounted}
 
 -- some entries were added, each of a lane or a feed
 record AddsRings {M : Type 0} (old new : Shown M) : Type 0 where

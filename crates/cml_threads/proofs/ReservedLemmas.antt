@@ -1,16 +1,18 @@
 -- A run of a hall's calls is one of its floor's, and what was reserved lasts over it.
 use Rattle.std.proofs.Common.{◌≡◌, ◌⊎◌, ℕ, ◌+◌, ◌<◌, ◌≤◌, inl, inr, Bool, true, not, List, [], ◌∷◌, ◌++◌, refl, sym, subst, ap, ◌∙◌}
 use Rattle.std.proofs.lemmas.Bool.{true≢false, and_from, and_parts}
-use Rattle.cml_board.specs.Prelude.{Call, Outcome, Refusal, Shown}
+use Rattle.cml_board.specs.{Call, Refusal}
+use Rattle.cml_board.specs.declared.outcome.Outcome.{Outcome}
+use Rattle.cml_board.specs.Shown.{Shown}
 use Rattle.cml_board.specs.declared.outcome.Outcome.TheVariants as board
 use Rattle.cml_board.specs.declared.outcome.Refusal.TheVariants.{Gone, Busy, NoSuch, WrongKind, JournalFull, Stalled, NoMemory, Unseen}
-use Rattle.cml_lanes.specs.Prelude.{FloorShown, HoldsUp, Starves, added_since, TakesEntryAlone, LaneTakesEntryAlone, FeedTakesEntryAlone}
-use Rattle.cml_lanes.specs.Prelude.{FloorCall, Apply, AppliesSeat, IsCalled, AreCalled, takes_journal, keeps_journal}
+use Rattle.cml_lanes.specs.{FloorShown, HoldsUp, Starves, added_since, TakesEntryAlone, LaneTakesEntryAlone, FeedTakesEntryAlone, FloorCall}
+use Rattle.cml_lanes.specs.{Apply, AppliesSeat, IsCalled, AreCalled, takes_journal, keeps_journal}
 use Rattle.cml_lanes.proofs.ReservedLemmas.{reserved_lasts, seats_served, lanes_served, feeds_served}
-use Rattle.cml_threads.specs.Prelude.{Sitting, Hosted, floor_of, Asks, HallCall, Ask, AskAgain, NewSeat, Leave, NextDue, OnFloor, IsMade}
-use Rattle.cml_threads.specs.Prelude.{AreMade, hands_over, keeps_entries}
+use Rattle.cml_threads.specs.{Sitting, Hosted, floor_of, Asks, HallCall, Ask, AskAgain, NewSeat, Leave, NextDue, OnFloor, IsMade, AreMade}
+use Rattle.cml_threads.specs.{hands_over, keeps_entries}
 use Rattle.cml_room.specs.Room as room
-use Rattle.cml_room.specs.Prelude.{Reaches, IsBarred}
+use Rattle.cml_room.specs.{Reaches, IsBarred}
 
 module _ {M : Type 0} where
   -- calls of the floor that do to it what the hall's did, and keep the journal if those do

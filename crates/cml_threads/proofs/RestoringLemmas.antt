@@ -3,9 +3,9 @@ use Rattle.std.proofs.Common.{◌≡◌, ℕ, zero, suc, ◌+◌, ◌<◌, ◌�
 use Rattle.std.proofs.Common.{Some, refl, sym, ap, ◌∙◌, arith}
 use Rattle.std.proofs.lemmas.Option.{same_Some, none-some}
 use Rattle.std.proofs.lemmas.List.Sums.{sum_by-append, sum_by-cons}
-use Rattle.cml_board.specs.Prelude.{Who, Entry, ring_by, entries_in, rings_in, behind_seat, seats_of}
+use Rattle.cml_board.specs.{Who, Entry, ring_by, entries_in, rings_in, behind_seat, seats_of}
 use Rattle.cml_board.specs.declared.entry.Who.TheVariants.{Seat, Lane, Feed}
-use Rattle.cml_threads.specs.Prelude.{Sitting, answers_in, share_at}
+use Rattle.cml_threads.specs.{Sitting, answers_in, share_at}
 
 one_at_most : (who : Who) → ring_by who ≤ 1
 one_at_most (Seat number) = omega arith

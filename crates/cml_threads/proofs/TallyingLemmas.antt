@@ -1,8 +1,9 @@
 -- What becomes of a seat's call in a hall, by what became of it in the room.
 use Rattle.std.proofs.Common.{◌≡◌, ℕ, Bool, subst}
-use Rattle.cml_board.specs.Prelude.{Call, Outcome}
-use Rattle.cml_room.specs.Prelude.{RoomShown, Asks, Turns, news_by, asked_by}
-use Rattle.cml_threads.specs.Prelude.{Sitting, Tallies, Hosted, room_of}
+use Rattle.cml_board.specs.{Call}
+use Rattle.cml_board.specs.declared.outcome.Outcome.{Outcome}
+use Rattle.cml_room.specs.{RoomShown, Asks, Turns, news_by, asked_by}
+use Rattle.cml_threads.specs.{Sitting, Tallies, Hosted, room_of}
 use Rattle.cml_threads.specs.Asking as hosted
 
 module _ {M : Type 0} where

@@ -1,6 +1,7 @@
 -- How a seat's call in a hall ends.
 use Rattle.std.specs.Prelude.{ℕ, ◌≡◌, ◌+◌, Bool}
-use Rattle.cml_board.specs.Prelude.{Call, Outcome}
+use Rattle.cml_board.specs.{Call}
+use Rattle.cml_board.specs.declared.outcome.Outcome.{Outcome}
 use Rattle.cml_board.specs.declared.outcome.Outcome.TheVariants.{Answered}
 use Rattle.cml_room.specs.Asking as room
 use Rattle.cml_threads.specs.Seating.{Sitting, raised}

@@ -1,8 +1,9 @@
 -- What a hall shows of itself, and what always holds of it.
 use Rattle.std.specs.Prelude.{ℕ, ◌≡◌, ◌+◌, ◌^◌, ◌<◌, Bool, List, length, Option}
-use Rattle.cml_board.specs.Prelude.{Call, entries_in, rings_in, Shown}
-use Rattle.cml_lanes.specs.Prelude.{LaneSide, FeedSide, FloorShown, Deed}
-use Rattle.cml_room.specs.Prelude.{Notice, State}
+use Rattle.cml_board.specs.{Call, entries_in, rings_in}
+use Rattle.cml_board.specs.Shown.{Shown}
+use Rattle.cml_lanes.specs.{LaneSide, FeedSide, FloorShown, Deed}
+use Rattle.cml_room.specs.{Notice, State}
 use Rattle.cml_room.specs.Room as room
 
 -- the board; by its number the floor's end of each lane and of each feed, of open ones alone; the state of each seat, by

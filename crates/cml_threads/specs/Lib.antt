@@ -5,4 +5,11 @@ pub mod Running
 pub mod Settling
 pub mod Telling
 pub mod Unparking
-pub mod Prelude
+-- the names that others import from here
+pub use Seating.{Sitting, answers_in, raised, share_at}
+pub use Hosting.{Hosted, IsCounted, MayAsk, MayAskAgain, WasCounted, floor_of, room_of, with_state}
+pub use Asking.{Asks, Tallies}
+pub use Running.{AreMade, Ask, AskAgain, HallCall, IsMade, Leave, NewSeat, NextDue, OnFloor, hands_over, keeps_entries}
+pub use Settling.{Final}
+pub use Telling.{MayRefuse, MayRefuseClose, MayRefuseDrain, MayRefuseFeed, MayRefuseLane, Replies, Tells, suits}
+pub use Unparking.{HaveLeft, UnparksNext}

@@ -1,7 +1,8 @@
 -- A run of a hall's calls.
 use Rattle.std.specs.Prelude.{◌≡◌, ℕ, Bool, true, false, not, ◌&&◌, List, [], ◌∷◌}
-use Rattle.cml_board.specs.Prelude.{Call, Outcome}
-use Rattle.cml_lanes.specs.Prelude.{FloorCall, IsCalled, takes_journal}
+use Rattle.cml_board.specs.{Call}
+use Rattle.cml_board.specs.declared.outcome.Outcome.{Outcome}
+use Rattle.cml_lanes.specs.{FloorCall, IsCalled, takes_journal}
 use Rattle.cml_threads.specs.Seating.{Sitting}
 use Rattle.cml_threads.specs.Hosting.{Hosted, floor_of, MayAsk, MayAskAgain}
 use Rattle.cml_threads.specs.Asking.{Asks}

@@ -1,6 +1,7 @@
 -- What a settled hall shows.
 use Rattle.std.specs.Prelude.{ℕ, ◌≡◌, ◌+◌}
-use Rattle.cml_board.specs.Prelude.{entries_in, rings_in, Shown}
+use Rattle.cml_board.specs.{entries_in, rings_in}
+use Rattle.cml_board.specs.Shown.{Shown}
 
 -- the board; how many answers were counted for seats; and how many entries are of lanes and feeds
 pub record Final (M : Type 0) : Type 0 where

@@ -1,6 +1,7 @@
 -- What a call on a switchboard returns.
 use Rattle.std.specs.Prelude.{◌≡◌, Bool, true, Option, Some, Result, Ok, Err, ⊤}
-use Rattle.cml_board.specs.Prelude.{Want, want_in, Call, row_of, may_have, Reply, Refusal, Outcome}
+use Rattle.cml_board.specs.{Want, want_in, Call, row_of, may_have, Reply, Refusal}
+use Rattle.cml_board.specs.declared.outcome.Outcome.{Outcome}
 use Rattle.cml_board.specs.declared.outcome.Refusal.TheVariants.{NoSuch, WrongKind, JournalFull, NoMemory, Busy, Stalled, Unseen}
 use Rattle.cml_board.specs.declared.outcome.Outcome.TheVariants as outcome
 use Rattle.cml_threads.specs.Seating.{Sitting, raised}

@@ -1,6 +1,6 @@
 -- Whom a thread wakes when it unlocks a hall, and in which halls there is nobody to wake.
 use Rattle.std.specs.Prelude.{ℕ, ◌≡◌, List, All, Option}
-use Rattle.cml_room.specs.Prelude.{State, GivesNext}
+use Rattle.cml_room.specs.{State, GivesNext}
 use Rattle.cml_room.specs.declared.state.State.TheVariants.{Left}
 use Rattle.cml_threads.specs.Hosting.{Hosted, room_of}
 

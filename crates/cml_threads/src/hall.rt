@@ -1,9 +1,9 @@
 ghost use Rattle.std.specs.Prelude.{◌≡◌, ◌≢◌, ◌^◌, ◌≤◌, [], ◌∷◌, ◌++◌, length, reverse, IfOk, IfErr, OnOk, MatchResult};
 ghost use Rattle.cml_board.specs.declared.outcome.Refusal.TheVariants.{Gone, NoMemory};
-ghost use Rattle.cml_board.specs.Prelude.{no_entries, entries_in, IsSound};
-ghost use Rattle.cml_lanes.specs.Prelude.{KeepsLanes, KeepsFeeds, KeepsRings, Reserves, CutsAFloor, CutsFloor, NotCut};
-ghost use Rattle.cml_room.specs.Prelude.{KeepsSeats, MakesNoneDue, AllSleepRightly, NoneDue, Other, IsMade, free_in, parked_in};
-ghost use Rattle.cml_threads.specs.Prelude.{Sitting, floor_of, room_of, MayAsk, with_state};
+ghost use Rattle.cml_board.specs.{no_entries, entries_in, IsSound};
+ghost use Rattle.cml_lanes.specs.{KeepsLanes, KeepsFeeds, KeepsRings, Reserves, CutsAFloor, CutsFloor, NotCut};
+ghost use Rattle.cml_room.specs.{KeepsSeats, MakesNoneDue, AllSleepRightly, NoneDue, Other, IsMade, free_in, parked_in};
+ghost use Rattle.cml_threads.specs.{Sitting, floor_of, room_of, MayAsk, with_state};
 
 mod asking;
 mod counting;

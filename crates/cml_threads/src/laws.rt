@@ -1,14 +1,13 @@
 //! Laws of runs of calls in a hall.
 ghost use Rattle.std.specs.Prelude.{◌≡◌, ℕ, ◌+◌, ◌<◌, ◌≤◌, Bool, true, List, ◌∷◌, Option, None};
-ghost use Rattle.cml_board.specs.Prelude.{Call};
+ghost use Rattle.cml_board.specs.{Call};
 ghost use Rattle.cml_board.specs.declared.outcome.Refusal.TheVariants.{NoMemory};
-ghost use Rattle.cml_lanes.specs.Prelude.{FloorShown, HoldsUp, Starves, added_since, TakesEntryAlone, LaneTakesEntryAlone};
-ghost use Rattle.cml_lanes.specs.Prelude.{FeedTakesEntryAlone, FloorCall, AreCalled};
+ghost use Rattle.cml_lanes.specs.{FloorShown, HoldsUp, Starves, added_since, TakesEntryAlone, LaneTakesEntryAlone, FeedTakesEntryAlone};
+ghost use Rattle.cml_lanes.specs.{FloorCall, AreCalled};
 ghost use Rattle.cml_board.specs.declared.outcome.Outcome.TheVariants.{Refused};
-ghost use Rattle.cml_room.specs.Prelude.{RoomShown, NoneDue};
+ghost use Rattle.cml_room.specs.{RoomShown, NoneDue};
 ghost use Rattle.cml_room.specs.Running as room;
-ghost use Rattle.cml_threads.specs.Prelude.{Sitting, Hosted, floor_of, room_of, MayAsk, MayAskAgain, Asks, HallCall, AreMade};
-ghost use Rattle.cml_threads.specs.Prelude.{keeps_entries};
+ghost use Rattle.cml_threads.specs.{Sitting, Hosted, floor_of, room_of, MayAsk, MayAskAgain, Asks, HallCall, AreMade, keeps_entries};
 
 use crate::hall::Hall;
 use cml_board::Message;

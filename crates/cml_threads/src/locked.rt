@@ -1,6 +1,6 @@
 //! A hall under its lock. A thread that has locked it lets go of it in one way alone: it takes the seat that is due next, unlocks
 //! the hall, and unparks that seat's thread.
-ghost use Rattle.cml_threads.specs.Prelude.{UnparksNext};
+ghost use Rattle.cml_threads.specs.{UnparksNext};
 
 use crate::hall::Hall;
 use crate::parker::{Parkers, Unparked};

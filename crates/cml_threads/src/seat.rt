@@ -1,5 +1,5 @@
 ghost use Rattle.std.specs.Prelude.{◌≡◌, ◌+◌, ◌<◌, ◌≤◌, ◌^◌};
-ghost use Rattle.cml_threads.specs.Prelude.{Sitting, raised};
+ghost use Rattle.cml_threads.specs.{Sitting, raised};
 
 use std::marker::Model;
 use std::sync::ledger::{Book, Ledger, Share};

@@ -1,6 +1,6 @@
 ghost use Rattle.std.specs.Prelude.{◌≡◌, ◌+◌};
-ghost use Rattle.cml_board.specs.Prelude.{entries_in, rings_in, IsSound};
-ghost use Rattle.cml_threads.specs.Prelude.{Final};
+ghost use Rattle.cml_board.specs.{entries_in, rings_in, IsSound};
+ghost use Rattle.cml_threads.specs.{Final};
 
 use cml_board::{Board, Message};
 use cml_log::MessageLog;

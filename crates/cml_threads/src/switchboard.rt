@@ -1,7 +1,7 @@
 ghost use Rattle.std.specs.Prelude.{ℕ, ◌≡◌, ◌+◌, ◌-◌, ◌^◌, ◌≤◌, true, slice_get, Some, vec_len, IfOk, IfErr, OnOk};
 ghost use Rattle.cml_board.specs.declared.outcome.Refusal.TheVariants.{Busy, NoMemory};
-ghost use Rattle.cml_board.specs.Prelude.{want_in, entries_in, rings_in};
-ghost use Rattle.cml_threads.specs.Prelude.{HaveLeft, Sitting, raised, answers_in, share_at, suits, MayRefuse, Tells, Replies};
+ghost use Rattle.cml_board.specs.{want_in, entries_in, rings_in};
+ghost use Rattle.cml_threads.specs.{HaveLeft, Sitting, raised, answers_in, share_at, suits, MayRefuse, Tells, Replies};
 
 mod channels;
 mod feeds;

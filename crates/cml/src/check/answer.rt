@@ -1,7 +1,7 @@
 //! The right answer to the call of an unlawful entry.
 ghost use Rattle.std.specs.Prelude.{◌≡◌, Some, IfOk, string_bytes};
-ghost use Rattle.cml_board.specs.Prelude.{Expected, expected_of};
-ghost use Rattle.cml.specs.Prelude.{answer_text, EndsAs};
+ghost use Rattle.cml_board.specs.{Expected, expected_of};
+ghost use Rattle.cml.specs.{answer_text, EndsAs};
 
 use crate::check::ending::Ending;
 use cml_board::{Expected, Message, Refusal};

@@ -3,10 +3,10 @@
 ghost use Rattle.std.specs.Prelude.{◌≡◌, ◌≤◌, ◌-◌, ◌∷◌, ◌++◌, ℕ, List, [], Ok, true, false, length, None, ◌<◌, IfOk, IfErr};
 ghost use Rattle.std.specs.Prelude.{IfSome, OnOk, IsTrue, string_bytes};
 ghost use Rattle.std.specs.Io.KnownBytes.{Consumes, Keeps, IsAtEnd};
-ghost use Rattle.cml_journal.specs.Prelude.{IsSoFar, Goes};
+ghost use Rattle.cml_journal.specs.{IsSoFar, Goes};
 ghost use Rattle.cml.specs.declared.check.ending.Ending.TheVariants.{ReadFault, BehindCut};
-ghost use Rattle.cml.specs.Prelude.{Tells, EndsIn, EndsInFront, Concludes, ConcludesBy, IsFront, IsVerdict, IsRead, IsSilent, is_of_bytes};
-ghost use Rattle.cml.specs.Prelude.{is_behind_cut, ending_of, IsStateOf};
+ghost use Rattle.cml.specs.{Tells, EndsIn, EndsInFront, Concludes, ConcludesBy, IsFront, IsVerdict, IsRead, IsSilent, is_of_bytes};
+ghost use Rattle.cml.specs.{is_behind_cut, ending_of, IsStateOf};
 
 use crate::check::answer::ending_of;
 use crate::check::ending::Ending;

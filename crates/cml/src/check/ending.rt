@@ -2,7 +2,7 @@
 
 ghost use Rattle.std.specs.Prelude.{◌≡◌};
 ghost use Rattle.cml.specs.declared.check.ending.Ending.TheVariants.{NoMemory};
-ghost use Rattle.cml.specs.Prelude.{status_of_check, is_check_shown};
+ghost use Rattle.cml.specs.{status_of_check, is_check_shown};
 
 use cml_journal::What;
 use std::alloc::{AllocError, AllocFailed};

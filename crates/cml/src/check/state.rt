@@ -1,8 +1,8 @@
 //! The lines of the objects.
 ghost use Rattle.std.specs.Prelude.{◌≡◌, ◌++◌, ◌∷◌, [], Some, IfOk, OnOk, string_bytes};
 ghost use Rattle.cml_calls.specs.declared.kind.Kind.TheVariants as kind;
-ghost use Rattle.cml_board.specs.Prelude.{kind_of};
-ghost use Rattle.cml.specs.Prelude.{counted, state_lines, object_line, object_head, mailbox_line, channel_line, port_line, variable_line};
+ghost use Rattle.cml_board.specs.{kind_of};
+ghost use Rattle.cml.specs.{counted, state_lines, object_line, object_head, mailbox_line, channel_line, port_line, variable_line};
 
 use cml_board::{Board, BoardLog, Kind, Message, Name};
 use cml_journal::Written;

@@ -1,6 +1,6 @@
 //! The verdict is written.
 ghost use Rattle.std.specs.Prelude.{◌≡◌, IfOk, IfErr, OnOk, string_bytes};
-ghost use Rattle.cml.specs.Prelude.{IsSilent, IsVerdict, Writes, lines_for};
+ghost use Rattle.cml.specs.{IsSilent, IsVerdict, Writes, lines_for};
 
 use crate::check::checking::check_stream;
 use crate::check::ending::Ending;

@@ -1,6 +1,6 @@
 //! How a call is made: first the tests by which it may fail, and then one function for each kind of call.
 ghost use Rattle.std.specs.Prelude.{◌≢◌, MatchOption};
-ghost use Rattle.cml_board.specs.Prelude.{Fits, Applies, Performs, Refuses, HasRoom};
+ghost use Rattle.cml_board.specs.{Fits, Applies, Performs, Refuses, HasRoom};
 
 use super::Board;
 use super::note::Performed;

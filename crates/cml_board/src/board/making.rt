@@ -1,7 +1,7 @@
 //! Calls that make or close an object.
 ghost use Rattle.std.specs.Prelude.{◌≡◌, true, false, Some, MatchOption, slice_get};
-ghost use Rattle.cml_calls.specs.Prelude.{is_port};
-ghost use Rattle.cml_board.specs.Prelude.{making_call, makes_empty, CanMake, is_a, is_open, Fits, open_port, Performs, HasRoom};
+ghost use Rattle.cml_calls.specs.{is_port};
+ghost use Rattle.cml_board.specs.{making_call, makes_empty, CanMake, is_a, is_open, Fits, open_port, Performs, HasRoom};
 
 use super::Board;
 use super::note::{Making, Performed, note};

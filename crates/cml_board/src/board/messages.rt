@@ -1,9 +1,9 @@
 //! Calls that put a message into a log or take one out of it.
 ghost use Rattle.std.specs.Prelude.{◌≡◌, ◌≢◌, ◌<◌, true, false, [], length, Some, IfOk, OnErr, slice_get};
-ghost use Rattle.cml_log.specs.Prelude.{IsOpen, owed_items};
-ghost use Rattle.cml_calls.specs.Prelude.{is_receiver};
-ghost use Rattle.cml_board.specs.Prelude.{is_a, owed, is_open, Fits, given_call, asked_call, adds, takes_next, asks_port, ReadsAt};
-ghost use Rattle.cml_board.specs.Prelude.{Performs, HasRoom};
+ghost use Rattle.cml_log.specs.{IsOpen, owed_items};
+ghost use Rattle.cml_calls.specs.{is_receiver};
+ghost use Rattle.cml_board.specs.{is_a, owed, is_open, Fits, given_call, asked_call, adds, takes_next, asks_port, ReadsAt, Performs};
+ghost use Rattle.cml_board.specs.{HasRoom};
 
 use super::Board;
 use super::note::{Performed, note};

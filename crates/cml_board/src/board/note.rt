@@ -1,6 +1,6 @@
 //! The calls that make an object, and how an entry is added to the journal.
 ghost use Rattle.std.specs.Prelude.{◌≡◌, ◌+◌, ◌-◌, ◌<◌, [], ◌∷◌, ◌++◌, length, vec_len, vec_capacity};
-ghost use Rattle.cml_board.specs.Prelude.{making_call};
+ghost use Rattle.cml_board.specs.{making_call};
 
 use crate::call::{Call, Name};
 use crate::entry::{Entry, Reply};

@@ -1,9 +1,10 @@
 //! What a call does to the objects of a board, by their names.
 ghost use Rattle.std.specs.Prelude.{◌≡◌, ◌-◌, ◌%◌, ◌<◌, ◌≤◌, ◌++◌, ◌∷◌, [], Some, OnOk, OnErr};
-ghost use Rattle.cml_log.specs.Prelude.{Log, empty_log, next_of, place_of};
+ghost use Rattle.cml_log.specs.Log.{Log};
+ghost use Rattle.cml_log.specs.{empty_log, next_of, place_of};
 ghost use Rattle.cml_board.specs.declared.object.Object.TheVariants.{Channel, Variable};
-ghost use Rattle.cml_board.specs.Prelude.{HasSource, AddsMade, seen_all, log_at, on_log, pushed, advanced, HasLog, HasRoomAt, HasCursor};
-ghost use Rattle.cml_board.specs.Prelude.{HasOwed, HasPort, HasVariable, AddsMailbox, AddsPort, ClosesPort, SetsHeld};
+ghost use Rattle.cml_board.specs.{HasSource, AddsMade, seen_all, log_at, on_log, pushed, advanced, HasLog, HasRoomAt, HasCursor, HasOwed};
+ghost use Rattle.cml_board.specs.{HasPort, HasVariable, AddsMailbox, AddsPort, ClosesPort, SetsHeld};
 
 use super::note::Making;
 use crate::call::Name;

@@ -1,7 +1,7 @@
 //! Calls that make a variable, fill it or read it.
 ghost use Rattle.std.specs.Prelude.{◌≡◌, ◌≢◌, true, false, Some, None, option_copied, IfOk, OnErr};
-ghost use Rattle.cml_calls.specs.Prelude.{is_variable, asked};
-ghost use Rattle.cml_board.specs.Prelude.{is_a, held, Fits, asked_call, reads_variable, empties, Performs, HasRoom};
+ghost use Rattle.cml_calls.specs.{is_variable, asked};
+ghost use Rattle.cml_board.specs.{is_a, held, Fits, asked_call, reads_variable, empties, Performs, HasRoom};
 
 use super::Board;
 use super::note::{Performed, note};

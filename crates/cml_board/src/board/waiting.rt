@@ -1,6 +1,6 @@
 //! Whether a call would wait.
 ghost use Rattle.std.specs.Prelude.{◌≡◌, ◌↔◌, Some, None, IsTrue};
-ghost use Rattle.cml_board.specs.Prelude.{Fits, answer, Waits, held_by};
+ghost use Rattle.cml_board.specs.{Fits, answer, Waits, held_by};
 
 use super::Board;
 use crate::call::{Call, Name};

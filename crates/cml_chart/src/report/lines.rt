@@ -1,10 +1,10 @@
 //! What the lines of a report are, by their words.
 ghost use Rattle.std.specs.Prelude.{◌≡◌};
 ghost use Rattle.std.specs.Option.{option_map};
-ghost use Rattle.cml_grammar.specs.Prelude.{is_number};
-ghost use Rattle.cml_chart.specs.Prelude.{doer_of, row_of, makes_port, says, may_answer, may_do, behind_step, object_of, deed_by, deed_of};
-ghost use Rattle.cml_chart.specs.Prelude.{is_closing, thing_of, may_leave, ended_of, line_by, before_colon, is_message, is_for, fits};
-ghost use Rattle.cml_chart.specs.Prelude.{texts, shown_actor, shown_act, shown_object, shown_end, shown_line};
+ghost use Rattle.cml_grammar.specs.{is_number};
+ghost use Rattle.cml_chart.specs.{doer_of, row_of, makes_port, says, may_answer, may_do, behind_step, object_of, deed_by, deed_of};
+ghost use Rattle.cml_chart.specs.{is_closing, thing_of, may_leave, ended_of, line_by, before_colon, is_message, is_for, fits, texts};
+ghost use Rattle.cml_chart.specs.{shown_actor, shown_act, shown_object, shown_end, shown_line};
 
 use crate::report::{Act, Actor, End, Line, Object};
 use cml_calls::{Ask, Give, ReplyKind};

@@ -1,8 +1,7 @@
 //! A report's lines, read one by one.
 ghost use Rattle.std.specs.Prelude.{◌≡◌, ◌⊎◌, ◌≤◌, ◌+◌, Ok, Err, IfOk, IfErr, OnOk, length};
 ghost use Rattle.cml_chart.specs.declared.report.faults.What.TheVariants.{Memory};
-ghost use Rattle.cml_chart.specs.Prelude.{shown_line, shown_report, so_far, line_count, told, told_at_end, with_line, with_text, wrong};
-ghost use Rattle.cml_chart.specs.Prelude.{IsFaultOf};
+ghost use Rattle.cml_chart.specs.{shown_line, shown_report, so_far, line_count, told, told_at_end, with_line, with_text, wrong, IsFaultOf};
 
 use crate::report::faults::{Fault, What};
 use crate::report::lines::line_by;

@@ -1,9 +1,9 @@
 //! The calls that open, pump and end feeds.
 ghost use Rattle.std.specs.Prelude.{ℕ, ◌≡◌, ◌≤◌, ◌<◌, true, length, IfOk, IfErr, IfNone, IfSome, MatchOption};
 ghost use Rattle.cml_board.specs.declared.call.Call.TheVariants.{NewPort};
-ghost use Rattle.cml_board.specs.Prelude.{Fits, Lawful, HasRoom, IsAsBefore, Refuses};
-ghost use Rattle.cml_lanes.specs.Prelude.{is_open_feed, stays, OnFeed, KeepsRings, SameFeedRing, MakesPort, OpensAFeed, Pumps, Ends};
-ghost use Rattle.cml_lanes.specs.Prelude.{PumpsUntil};
+ghost use Rattle.cml_board.specs.{Fits, Lawful, HasRoom, IsAsBefore, Refuses};
+ghost use Rattle.cml_lanes.specs.{is_open_feed, stays, OnFeed, KeepsRings, SameFeedRing, MakesPort, OpensAFeed, Pumps, PumpsUntil};
+ghost use Rattle.cml_lanes.specs.Feeds.{Ends};
 
 use super::Floor;
 use crate::MAX_CAPACITY;

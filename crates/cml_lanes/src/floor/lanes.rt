@@ -1,6 +1,6 @@
 //! The calls that open, drain and close lanes.
 ghost use Rattle.std.specs.Prelude.{ℕ, ◌≤◌, ◌<◌, length};
-ghost use Rattle.cml_lanes.specs.Prelude.{KeepsRings, SameRing, IsOfItsRing, OpensALane, Drains, Closes, ClosesCounted, Drops, Abandons};
+ghost use Rattle.cml_lanes.specs.{KeepsRings, SameRing, IsOfItsRing, OpensALane, Drains, Closes, ClosesCounted, Drops, Abandons};
 
 use super::Floor;
 use crate::MAX_CAPACITY;

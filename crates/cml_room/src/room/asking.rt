@@ -1,7 +1,7 @@
 //! A seat's calls.
 ghost use Rattle.std.specs.Prelude.{◌≡◌, ◌≢◌, ◌⊎◌, Some, None, IfErr, OnOk, ⊤};
-ghost use Rattle.cml_board.specs.Prelude.{Want};
-ghost use Rattle.cml_room.specs.Prelude.{state_of, MayAsk, MayAskAgain, Moves, Asks, Turns, news_by, AskOf, asked_by, withdrawn_by};
+ghost use Rattle.cml_board.specs.{Want};
+ghost use Rattle.cml_room.specs.{state_of, MayAsk, MayAskAgain, Moves, Asks, Turns, news_by, AskOf, asked_by, withdrawn_by};
 
 use super::Room;
 use crate::news::news_in;

@@ -1,7 +1,8 @@
 //! The calls on feeds. None of them changes a seat's state, and none brings anything to the seats that wait.
 ghost use Rattle.std.specs.Prelude.{ℕ, ◌≡◌, ◌≤◌, ◌<◌, length, count_by, is_some};
-ghost use Rattle.cml_lanes.specs.Prelude.{KeepsRings, SameFeedRing, OpensAFeed, Pumps, Ends};
-ghost use Rattle.cml_room.specs.Prelude.{KeepsSeats, Stirs, MakesNoneDue, floor_of};
+ghost use Rattle.cml_lanes.specs.{KeepsRings, SameFeedRing, OpensAFeed, Pumps};
+ghost use Rattle.cml_lanes.specs.Feeds.{Ends};
+ghost use Rattle.cml_room.specs.{KeepsSeats, Stirs, MakesNoneDue, floor_of};
 
 use super::Room;
 use crate::turns::settle;

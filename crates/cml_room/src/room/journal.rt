@@ -1,7 +1,7 @@
 //! The calls on the journal. They make no seat due.
 ghost use Rattle.std.specs.Prelude.{◌≡◌, ◌≤◌, ◌++◌, IfOk, MatchResult, reverse};
-ghost use Rattle.cml_lanes.specs.Prelude.{KeepsRings, CutsAFloor, CutsFloor, NotCut, Reserves};
-ghost use Rattle.cml_room.specs.Prelude.{floor_of, KeepsSeats};
+ghost use Rattle.cml_lanes.specs.{KeepsRings, CutsAFloor, CutsFloor, NotCut, Reserves};
+ghost use Rattle.cml_room.specs.{floor_of, KeepsSeats};
 
 use super::Room;
 use cml_board::{Entry, Message, Refusal};

@@ -1,8 +1,8 @@
 //! The calls on lanes. None of them changes a seat's state. A seat that waits at a lane's target becomes due by what moves
 //! there.
 ghost use Rattle.std.specs.Prelude.{ℕ, ◌≡◌, ◌≤◌, ◌<◌, length, count_by, is_some};
-ghost use Rattle.cml_lanes.specs.Prelude.{KeepsRings, SameRing, IsOfItsRing, OpensALane, Drains, Closes, ClosesCounted, Drops, Abandons};
-ghost use Rattle.cml_room.specs.Prelude.{KeepsSeats, Stirs, MakesFewByOne, MakesNoneDue, floor_of};
+ghost use Rattle.cml_lanes.specs.{KeepsRings, SameRing, IsOfItsRing, OpensALane, Drains, Closes, ClosesCounted, Drops, Abandons};
+ghost use Rattle.cml_room.specs.{KeepsSeats, Stirs, MakesFewByOne, MakesNoneDue, floor_of};
 
 use super::Room;
 use crate::news::count_entries;

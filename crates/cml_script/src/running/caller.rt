@@ -1,8 +1,8 @@
 //! The callers that make a thread's calls.
 ghost use Rattle.std.specs.Prelude.{◌≡◌, Bool, true, Option, Some, None, IfOk, IfErr, OnOk};
 ghost use Rattle.std.specs.Option.{option_map};
-ghost use Rattle.cml_threads.specs.Prelude.{suits};
-ghost use Rattle.cml_grammar.specs.Prelude.{IsCapacity};
+ghost use Rattle.cml_threads.specs.{suits};
+ghost use Rattle.cml_grammar.specs.{IsCapacity};
 ghost use Rattle.cml_script.specs.Apart.{by_lane, by_feed};
 ghost use Rattle.cml_script.specs.Working.{Made, MayCall, with_call, with_feed, with_apart, with_closed, with_refused};
 

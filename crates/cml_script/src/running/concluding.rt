@@ -1,7 +1,7 @@
 //! What a run told, before it is reported.
 ghost use Rattle.std.specs.Prelude.{◌≡◌, ◌↔◌, ◌<◌, ℕ, length, IsTrue, IfOk, IfErr, string_bytes};
-ghost use Rattle.cml_board.specs.Prelude.{no_entries};
-ghost use Rattle.cml_script.specs.Prelude.{IsOfScript, HasLeft, IsAllDone, IsReportOf, IsTextOf, IsRefused, IsTakenAt, Leaves, MayEnd};
+ghost use Rattle.cml_board.specs.{no_entries};
+ghost use Rattle.cml_script.specs.{IsOfScript, HasLeft, IsAllDone, IsReportOf, IsTextOf, IsRefused, IsTakenAt, Leaves, MayEnd};
 
 use super::lanes::are_sent_in_order;
 use super::stalling::nobody_goes_on;

@@ -1,7 +1,7 @@
 //! The objects that a script declares.
 ghost use Rattle.std.specs.Prelude.{◌≡◌, ◌<◌, true, Some, None, length, IfSome, IfOk, IfErr, OnOk, MatchOption};
 ghost use Rattle.std.specs.Option.{option_map};
-ghost use Rattle.cml_script.specs.Prelude.{IsKnown, IsMadeOfDeclared, BeginsAt, Declares, with_refused, HasCapacity, HasMade, making};
+ghost use Rattle.cml_script.specs.{IsKnown, IsMadeOfDeclared, BeginsAt, Declares, with_refused, HasCapacity, HasMade, making};
 
 use super::caller::Caller;
 use crate::plan::Plan;

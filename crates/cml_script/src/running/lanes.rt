@@ -2,9 +2,8 @@
 ghost use Rattle.std.specs.Prelude.{◌≡◌, ◌↔◌, ◌<◌, ◌≤◌, ℕ, false, [], Some, length, drop, reverse, slice_get, IsTrue, MatchOption};
 ghost use Rattle.std.specs.Option.{option_map_or, option_and_then};
 ghost use Rattle.std.specs.List.{list_any};
-ghost use Rattle.cml_script.specs.Prelude.{IsKnown, AreSentInOrder, IsOnLine, AreOnLines, IsInOrderAt, IsInOrder, IsNextLaid, IsNotSent};
-ghost use Rattle.cml_script.specs.Prelude.{IsSent, IsAstray, IsBehind, call_to, is_laid_to, is_moved_on, is_moved_to, is_lane_of};
-ghost use Rattle.cml_script.specs.Prelude.{is_sent_to, sends_to};
+ghost use Rattle.cml_script.specs.{IsKnown, AreSentInOrder, IsOnLine, AreOnLines, IsInOrderAt, IsInOrder, IsNextLaid, IsNotSent, IsSent};
+ghost use Rattle.cml_script.specs.{IsAstray, IsBehind, call_to, is_laid_to, is_moved_on, is_moved_to, is_lane_of, is_sent_to, sends_to};
 
 use crate::calls::{is_call_on, used_by};
 use crate::plan::Plan;

@@ -1,7 +1,7 @@
 //! Whether no thread could go on when a run ends.
 ghost use Rattle.std.specs.Prelude.{◌≡◌, ◌↔◌, reverse, IsTrue, IfOk};
-ghost use Rattle.cml_board.specs.Prelude.{no_entries};
-ghost use Rattle.cml_script.specs.Prelude.{IsAllMoved, NobodyGoesOn, history_of};
+ghost use Rattle.cml_board.specs.{no_entries};
+ghost use Rattle.cml_script.specs.{IsAllMoved, NobodyGoesOn, history_of};
 
 use crate::scene::count_moved;
 use crate::tally::Tally;

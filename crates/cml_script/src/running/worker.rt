@@ -1,11 +1,10 @@
 //! What a thread does.
 ghost use Rattle.std.specs.Prelude.{◌≡◌, ◌+◌, ◌<◌, ◌^◌, ◌⊎◌, ◌&&◌, not, true, Option, Some, Ok, length, IfSome, IfOk, IfErr, OnOk};
 ghost use Rattle.std.specs.Option.{option_map};
-ghost use Rattle.cml_board.specs.Prelude.{entries_in};
-ghost use Rattle.cml_script.specs.Prelude.{History, step_call, AreBindings, Made, BeginsAt, IsOpening, IsTurn, IsUnheld, Works, waits};
-ghost use Rattle.cml_script.specs.Prelude.{with_refused, stop_of, first_of, ending_with, IsKnown, route_at, IsUnderWay, IsRefusedSo};
-ghost use Rattle.cml_script.specs.Prelude.{closed_if};
-ghost use Rattle.cml_grammar.specs.Prelude.{IsCapacity};
+ghost use Rattle.cml_board.specs.{entries_in};
+ghost use Rattle.cml_script.specs.{History, step_call, AreBindings, Made, BeginsAt, IsOpening, IsTurn, IsUnheld, Works, waits};
+ghost use Rattle.cml_script.specs.{with_refused, stop_of, first_of, ending_with, IsKnown, route_at, IsUnderWay, IsRefusedSo, closed_if};
+ghost use Rattle.cml_grammar.specs.{IsCapacity};
 
 use super::caller::Caller;
 use super::gate::Gate;

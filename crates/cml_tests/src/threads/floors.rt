@@ -1,6 +1,6 @@
 //! A floor, alone: a lane that is closed by its end, and a feed that has ended.
 ghost use Rattle.std.specs.Prelude.{◌≡◌, ◌^◌, ◌≤◌, [], IfOk, IfSome};
-ghost use Rattle.cml_lanes.specs.Prelude.{IsOfItsRing, SameFeedRing};
+ghost use Rattle.cml_lanes.specs.{IsOfItsRing, SameFeedRing};
 
 use super::scene::{tell, tell_journal};
 use cml_board::{Board, BoardLog, Call, Name};

@@ -1,9 +1,9 @@
 //! A seat's calls.
 ghost use Rattle.std.specs.Prelude.{◌≡◌, ◌≢◌, ◌+◌, ◌<◌, ◌^◌, Some, None, IfErr, OnOk};
-ghost use Rattle.cml_board.specs.Prelude.{Want, Answer};
+ghost use Rattle.cml_board.specs.{Want, Answer};
 ghost use Rattle.cml_board.specs.declared.outcome.Outcome.TheVariants.{Answered};
-ghost use Rattle.cml_room.specs.Prelude.{Turns, news_by, state_of, Moves, asked_by, withdrawn_by};
-ghost use Rattle.cml_threads.specs.Prelude.{room_of, MayAsk, MayAskAgain, Asks, Tallies};
+ghost use Rattle.cml_room.specs.{Turns, news_by, state_of, Moves, asked_by, withdrawn_by};
+ghost use Rattle.cml_threads.specs.{room_of, MayAsk, MayAskAgain, Asks, Tallies};
 
 use super::Hall;
 use crate::seat::Seat;

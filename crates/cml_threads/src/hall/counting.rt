@@ -1,7 +1,7 @@
 //! How entries of lanes and feeds are counted: in the book, for no seat.
 ghost use Rattle.std.specs.Prelude.{◌≡◌, length};
-ghost use Rattle.cml_board.specs.Prelude.{entries_in};
-ghost use Rattle.cml_threads.specs.Prelude.{IsCounted, WasCounted};
+ghost use Rattle.cml_board.specs.{entries_in};
+ghost use Rattle.cml_threads.specs.{IsCounted, WasCounted};
 
 use cml_board::Message;
 use cml_log::MessageLog;

@@ -1,8 +1,8 @@
 //! Which of the waiting seats are due.
 ghost use Rattle.std.specs.Prelude.{◌≡◌, ℕ, false, Some, length};
-ghost use Rattle.cml_board.specs.Prelude.{Want};
-ghost use Rattle.cml_room.specs.Prelude.{is_due, state_of, SleepsRightly, GivesNext};
-ghost use Rattle.cml_threads.specs.Prelude.{room_of};
+ghost use Rattle.cml_board.specs.{Want};
+ghost use Rattle.cml_room.specs.{is_due, state_of, SleepsRightly, GivesNext};
+ghost use Rattle.cml_threads.specs.{room_of};
 
 use super::Hall;
 use cml_board::Message;

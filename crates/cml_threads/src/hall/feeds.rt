@@ -1,8 +1,9 @@
 //! The calls on feeds. None of them changes a seat's state.
 ghost use Rattle.std.specs.Prelude.{ℕ, ◌≡◌, ◌≤◌, ◌<◌, length, count_by, is_some};
-ghost use Rattle.cml_lanes.specs.Prelude.{KeepsRings, SameFeedRing, OpensAFeed, Pumps, Ends};
-ghost use Rattle.cml_room.specs.Prelude.{KeepsSeats, Stirs, MakesNoneDue};
-ghost use Rattle.cml_threads.specs.Prelude.{floor_of, room_of};
+ghost use Rattle.cml_lanes.specs.{KeepsRings, SameFeedRing, OpensAFeed, Pumps};
+ghost use Rattle.cml_lanes.specs.Feeds.{Ends};
+ghost use Rattle.cml_room.specs.{KeepsSeats, Stirs, MakesNoneDue};
+ghost use Rattle.cml_threads.specs.{floor_of, room_of};
 
 use super::Hall;
 use super::counting::{count_entries, count_since};

@@ -1,8 +1,8 @@
 //! The calls on lanes. None of them changes a seat's state.
 ghost use Rattle.std.specs.Prelude.{ℕ, ◌≡◌, ◌≤◌, ◌<◌, length, count_by, is_some};
-ghost use Rattle.cml_lanes.specs.Prelude.{KeepsRings, SameRing, IsOfItsRing, OpensALane, Drains, Closes, ClosesCounted, Drops, Abandons};
-ghost use Rattle.cml_room.specs.Prelude.{KeepsSeats, Stirs, MakesFewByOne, MakesNoneDue};
-ghost use Rattle.cml_threads.specs.Prelude.{floor_of, room_of};
+ghost use Rattle.cml_lanes.specs.{KeepsRings, SameRing, IsOfItsRing, OpensALane, Drains, Closes, ClosesCounted, Drops, Abandons};
+ghost use Rattle.cml_room.specs.{KeepsSeats, Stirs, MakesFewByOne, MakesNoneDue};
+ghost use Rattle.cml_threads.specs.{floor_of, room_of};
 
 use super::Hall;
 use super::counting::{count_entries, count_since};

@@ -1,8 +1,8 @@
 //! A hall that goes on from a journal.
 ghost use Rattle.std.specs.Prelude.{ℕ, ◌≡◌, ◌+◌, ◌-◌, ◌<◌, ◌≤◌, ◌^◌, length, replicate, slice_get, Some, None, vec_len, IfOk, OnOk};
-ghost use Rattle.cml_board.specs.Prelude.{entries_in, rings_in, seats_of, lanes_of, feeds_of};
-ghost use Rattle.cml_room.specs.Prelude.{NoneDue};
-ghost use Rattle.cml_threads.specs.Prelude.{room_of, Sitting, answers_in, share_at};
+ghost use Rattle.cml_board.specs.{entries_in, rings_in, seats_of, lanes_of, feeds_of};
+ghost use Rattle.cml_room.specs.{NoneDue};
+ghost use Rattle.cml_threads.specs.{room_of, Sitting, answers_in, share_at};
 
 use super::Hall;
 use crate::seat::Left;

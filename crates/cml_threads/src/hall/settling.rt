@@ -1,7 +1,7 @@
 //! The end of a hall.
 ghost use Rattle.std.specs.Prelude.{◌≡◌, ◌≢◌, ◌+◌, ◌<◌, ◌^◌, length, vec_len, IfOk, IfErr};
-ghost use Rattle.cml_board.specs.Prelude.{entries_in, rings_in};
-ghost use Rattle.cml_threads.specs.Prelude.{Sitting, answers_in};
+ghost use Rattle.cml_board.specs.{entries_in, rings_in};
+ghost use Rattle.cml_threads.specs.{Sitting, answers_in};
 
 use super::Hall;
 use crate::seat::Left;

@@ -1,6 +1,6 @@
 //! The calls on multicast channels and their ports, by the CML manual's names. A port is received from by `recv` and
 //! `recv_poll`.
-ghost use Rattle.cml_threads.specs.Prelude.{Replies};
+ghost use Rattle.cml_threads.specs.{Replies};
 
 use super::Switchboard;
 use crate::seat::Seat;

@@ -1,7 +1,7 @@
 //! Feeds from a switchboard's ports, which their subscribers use without its lock.
 ghost use Rattle.std.specs.Prelude.{◌≡◌, ◌≤◌, [], IfOk, IfErr, IfSome};
 ghost use Rattle.cml_board.specs.declared.outcome.Refusal.TheVariants.{NoSuch};
-ghost use Rattle.cml_threads.specs.Prelude.{MayRefuseFeed, MayRefuseDrain};
+ghost use Rattle.cml_threads.specs.{MayRefuseFeed, MayRefuseDrain};
 
 use super::Switchboard;
 use cml_board::{Message, Name, Refusal};

@@ -1,7 +1,7 @@
 //! Lanes onto a switchboard, which their senders use without its lock.
 ghost use Rattle.std.specs.Prelude.{◌≡◌, ◌≤◌, ◌<◌, false, [], IfOk, IfErr};
 ghost use Rattle.cml_board.specs.declared.outcome.Refusal.TheVariants.{NoSuch};
-ghost use Rattle.cml_threads.specs.Prelude.{MayRefuseLane, MayRefuseDrain, MayRefuseClose};
+ghost use Rattle.cml_threads.specs.{MayRefuseLane, MayRefuseDrain, MayRefuseClose};
 
 use super::Switchboard;
 use cml_board::{Message, Name, Refusal};

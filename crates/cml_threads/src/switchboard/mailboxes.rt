@@ -1,5 +1,5 @@
 //! The calls on mailboxes, by the CML manual's names. Each returns the reply of its answer, and fails as `call` does.
-ghost use Rattle.cml_threads.specs.Prelude.{Replies};
+ghost use Rattle.cml_threads.specs.{Replies};
 
 use super::Switchboard;
 use crate::seat::Seat;

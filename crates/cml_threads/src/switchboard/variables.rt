@@ -1,5 +1,5 @@
 //! The calls on i-variables and m-variables, by the CML manual's names. Each fails as `call` does.
-ghost use Rattle.cml_threads.specs.Prelude.{Replies};
+ghost use Rattle.cml_threads.specs.{Replies};
 
 use super::Switchboard;
 use crate::seat::Seat;

@@ -2,7 +2,7 @@ use Rattle.std.proofs.Common.{refl, sym, ◌≡◌, ◌∙◌, List, Option, Som
 use Rattle.clap.specs.Words.{Row, Text, found_of, one_of, one_text, rows_of, subcommand_rows_of}
 use Rattle.clap.specs.declared.parser.matches.Found.{Found}
 use Rattle.clap.proofs.WalkLemmas.{one_text-rows}
-use Rattle.cml.specs.Prelude.{Finds, HasOrder, Order}
+use Rattle.cml.specs.{Finds, HasOrder, Order}
 use Rattle.cml.proofs.command_line.order_in.Goals as goal
 
 mapped_twice : {A : Type 0} (first : A → Text × List Row) (o : Option A)

@@ -1,5 +1,5 @@
 use Rattle.std.proofs.Common.{map, subst, sym}
-use Rattle.cml.specs.Prelude.{HasOrder}
+use Rattle.cml.specs.{HasOrder}
 use Rattle.cml.proofs.CommandLineLemmas.{taken, understood}
 use Rattle.cml.proofs.command_line.read.Goals as goal
 

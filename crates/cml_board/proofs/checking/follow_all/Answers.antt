@@ -1,6 +1,6 @@
 use Rattle.std.proofs.Common.{◌≡◌, ◌+◌, slice_get, Some, rules}
 use Rattle.std.proofs.lemmas.Option.{slice_get_read}
-use Rattle.cml_board.specs.Prelude.{entries_in}
+use Rattle.cml_board.specs.{entries_in}
 use Rattle.cml_board.proofs.CheckingLemmas.{stops_here}
 use Rattle.cml_board.proofs.checking.follow_all.Goals as goal
 

@@ -1,5 +1,5 @@
 use Rattle.std.proofs.Common.{◌≡◌}
-use Rattle.cml_board.specs.Prelude.{followed_by, IsClean}
+use Rattle.cml_board.specs.{followed_by, IsClean}
 use Rattle.cml_board.proofs.checking.follow_all.Given as goal
 
 abbrev pub invariant-loop-at : goal.invariant-loop-at

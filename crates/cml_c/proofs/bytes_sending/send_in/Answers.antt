@@ -2,7 +2,7 @@ use Rattle.std.proofs.Common.{◌≡◌, inl, refl, sym, ◌∙◌}
 use Rattle.std.specs.Prelude.{false}
 use Rattle.std.proofs.lemmas.Bool.{false≢true}
 use Rattle.cml_c.proofs.RefusingLemmas.{is_gone}
-use Rattle.cml_c.specs.Prelude.{named_outcome, sending_call}
+use Rattle.cml_c.specs.{named_outcome, sending_call}
 use Rattle.cml_c.proofs.bytes_sending.send_in.Goals as goal
 
 pub returns-else-may_make : goal.returns-else-may_make

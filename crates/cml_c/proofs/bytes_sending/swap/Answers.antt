@@ -3,7 +3,7 @@ use Rattle.std.specs.Prelude.{false}
 use Rattle.std.proofs.lemmas.Bool.{false≢true}
 use Rattle.cml_board.specs.declared.call.Call.TheVariants.{Swap}
 use Rattle.cml_c.proofs.RefusingLemmas.{is_gone}
-use Rattle.cml_c.specs.Prelude.{HandsOutcome}
+use Rattle.cml_c.specs.{HandsOutcome}
 use Rattle.cml_c.proofs.bytes_sending.swap.Goals as goal
 
 pub returns-else-may_make : goal.returns-else-may_make

@@ -1,7 +1,7 @@
 use Rattle.std.proofs.Common.{rules, ◌∙◌, subst, inl, Option, List, ℕ}
 use Rattle.std.specs.Prelude.{⊤}
-use Rattle.cml_board.specs.Prelude.{Entry}
-use Rattle.cml_c.specs.Prelude.{entry_with, FeedsEntry, OnBytes, OnChecker}
+use Rattle.cml_board.specs.{Entry}
+use Rattle.cml_c.specs.{entry_with, FeedsEntry, OnBytes, OnChecker}
 use Rattle.cml_c.proofs.checked_entries.seryugo_bytes_checker_feed_from.Goals as goal
 
 pub returns : goal.returns

@@ -1,5 +1,5 @@
 use Rattle.std.proofs.Common.{◌≡◌, drop, map}
-use Rattle.cml_chart.specs.Prelude.{shown_act, names_of, each_once, doer_in}
+use Rattle.cml_chart.specs.{shown_act, names_of, each_once, doer_in}
 use Rattle.cml_chart.proofs.chart.add_actors.Given as goal
 
 abbrev pub invariant-loop-act : goal.invariant-loop-act

@@ -1,5 +1,5 @@
 use Rattle.std.proofs.Common.{◌≡◌, ◌+◌, ◌++◌, drop, map}
-use Rattle.cml_chart.specs.Prelude.{shown_object, names_of, taken_from, titles_of}
+use Rattle.cml_chart.specs.{shown_object, names_of, taken_from, titles_of}
 use Rattle.cml_chart.proofs.chart.add_objects.Given as goal
 
 abbrev pub invariant-loop-at : goal.invariant-loop-at

@@ -1,5 +1,5 @@
 use Rattle.std.proofs.Common.{◌≡◌, drop, map}
-use Rattle.cml_chart.specs.Prelude.{names_of, each_once, name_in, shown_threads}
+use Rattle.cml_chart.specs.{names_of, each_once, name_in, shown_threads}
 use Rattle.cml_chart.proofs.chart.add_threads.Given as goal
 
 abbrev pub invariant-loop-thread : goal.invariant-loop-thread

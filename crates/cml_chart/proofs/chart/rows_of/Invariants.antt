@@ -1,5 +1,5 @@
 use Rattle.std.proofs.Common.{◌≡◌, ◌+◌, ◌++◌, drop, map}
-use Rattle.cml_chart.specs.Prelude.{shown_act, names_of, joined, shown_row, unknown_from}
+use Rattle.cml_chart.specs.{shown_act, names_of, joined, shown_row, unknown_from}
 use Rattle.cml_chart.proofs.chart.rows_of.Given as goal
 
 abbrev pub invariant-loop-at : goal.invariant-loop-at

@@ -3,7 +3,7 @@ use Rattle.std.specs.Option.{SomeIff}
 use Rattle.std.specs.Str.Parse.{ExplainsUnsignedError, HasUnsignedDigitsIfOk, ParsesUnsigned, digits_value, without_leading_plus}
 use Rattle.clap.specs.Words.{Text, ReadsOne, found_of}
 use Rattle.clap.proofs.WalkLemmas.{first_value-rows, one_text-rows}
-use Rattle.cml_chart.specs.Prelude.{IsFlag, IsRow, TellsNumber}
+use Rattle.cml_chart.specs.{IsFlag, IsRow, TellsNumber}
 use Rattle.cml_chart.proofs.command_line.order_in.Goals as goal
 
 -- `get_one` reads a text as the number that it tells

@@ -1,8 +1,8 @@
 use Rattle.std.proofs.Common.{List, ℕ, ◌≡◌, subst}
 use Rattle.std.specs.Option.{option_map}
-use Rattle.cml_grammar.specs.Prelude.{Lines}
+use Rattle.cml_grammar.specs.{Lines}
 use denote.Ref.{Bor}
-use Rattle.cml_chart.specs.Prelude.{told, shown_report}
+use Rattle.cml_chart.specs.{told, shown_report}
 use Rattle.cml_chart.proofs.DrawingLemmas.{drawn_of}
 use Rattle.cml_chart.proofs.drawing.picture.Goals as goal
 

@@ -1,6 +1,6 @@
 use Rattle.std.proofs.Common.{◌≡◌, ◌+◌, Some, sym, ap, ◌∙◌, arith, drop, map, length-drop}
 use Rattle.std.proofs.lemmas.List.{length-map}
-use Rattle.cml_chart.specs.Prelude.{Fault, shown_object, shown_made}
+use Rattle.cml_chart.specs.{Fault, shown_object, shown_made}
 use Rattle.cml_chart.proofs.FollowingLemmas.{uneven}
 use Rattle.cml_chart.proofs.following.compare.Goals as goal
 

@@ -1,5 +1,5 @@
 use Rattle.std.proofs.Common.{◌≡◌, ◌+◌, ◌≤◌, length, drop, map}
-use Rattle.cml_chart.specs.Prelude.{shown_object, shown_made, strange_thing}
+use Rattle.cml_chart.specs.{shown_object, shown_made, strange_thing}
 use Rattle.cml_chart.proofs.following.compare.Given as goal
 
 abbrev pub invariant-loop-at : goal.invariant-loop-at

@@ -1,5 +1,5 @@
 use Rattle.std.proofs.Common.{◌≡◌, ◌+◌, drop, map}
-use Rattle.cml_chart.specs.Prelude.{shown_act, texts, names_of, shown_threads, follow}
+use Rattle.cml_chart.specs.{shown_act, texts, names_of, shown_threads, follow}
 use Rattle.cml_chart.proofs.following.follow.Given as goal
 
 abbrev pub invariant-loop-at : goal.invariant-loop-at

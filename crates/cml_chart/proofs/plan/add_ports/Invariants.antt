@@ -1,7 +1,7 @@
 use Rattle.std.proofs.Common.{◌≡◌, ◌++◌, drop, map}
 use Rattle.std.specs.List.{filter_map}
-use Rattle.cml_grammar.specs.Prelude.{Step, source_of, SourceLine}
-use Rattle.cml_chart.specs.Prelude.{port_in, shown_made}
+use Rattle.cml_grammar.specs.{Step, source_of, SourceLine}
+use Rattle.cml_chart.specs.{port_in, shown_made}
 use Rattle.cml_chart.proofs.plan.add_ports.Given as goal
 
 abbrev pub invariant-loop-step : goal.invariant-loop-step

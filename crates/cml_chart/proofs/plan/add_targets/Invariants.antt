@@ -1,6 +1,6 @@
 use Rattle.std.proofs.Common.{◌≡◌, drop, map}
-use Rattle.cml_grammar.specs.Prelude.{source_of, Lane}
-use Rattle.cml_chart.specs.Prelude.{names_of, each_once, target_in, targets_in}
+use Rattle.cml_grammar.specs.{source_of, Lane}
+use Rattle.cml_chart.specs.{names_of, each_once, target_in, targets_in}
 use Rattle.cml_chart.proofs.plan.add_targets.Given as goal
 
 abbrev pub invariant-loop-lane : goal.invariant-loop-lane

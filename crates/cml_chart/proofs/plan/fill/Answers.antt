@@ -1,6 +1,6 @@
 use Rattle.std.proofs.Common.{◌∙◌}
-use Rattle.cml_grammar.specs.Prelude.{Declaration, source_of}
-use Rattle.cml_chart.specs.Prelude.{thread_in, feed_in, object_in}
+use Rattle.cml_grammar.specs.{Declaration, source_of}
+use Rattle.cml_chart.specs.{thread_in, feed_in, object_in}
 use Rattle.cml_chart.proofs.FollowingLemmas.{grown_at}
 use Rattle.cml_chart.proofs.plan.fill.Goals as goal
 

@@ -1,7 +1,7 @@
 use Rattle.std.proofs.Common.{◌≡◌, ◌++◌, drop, map}
 use Rattle.std.specs.List.{filter_map}
-use Rattle.cml_grammar.specs.Prelude.{Declaration, source_of}
-use Rattle.cml_chart.specs.Prelude.{texts, shown_threads, thread_in, threads_in, feed_in, feeds_in, object_in, shown_made}
+use Rattle.cml_grammar.specs.{Declaration, source_of}
+use Rattle.cml_chart.specs.{texts, shown_threads, thread_in, threads_in, feed_in, feeds_in, object_in, shown_made}
 use Rattle.cml_chart.proofs.plan.fill.Given as goal
 
 abbrev pub invariant-loop-declaration : goal.invariant-loop-declaration

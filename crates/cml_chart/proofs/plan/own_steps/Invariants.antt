@@ -1,7 +1,7 @@
 use Rattle.std.proofs.Common.{◌≡◌, ◌++◌, drop, map}
 use Rattle.std.specs.List.{filter_map}
-use Rattle.cml_grammar.specs.Prelude.{source_of, Step}
-use Rattle.cml_chart.specs.Prelude.{texts, own_in, own_steps}
+use Rattle.cml_grammar.specs.{source_of, Step}
+use Rattle.cml_chart.specs.{texts, own_in, own_steps}
 use Rattle.cml_chart.proofs.plan.own_steps.Given as goal
 
 abbrev pub invariant-loop-step : goal.invariant-loop-step

@@ -3,7 +3,7 @@ use Rattle.std.specs.List.{list_any, zip}
 use Rattle.std.proofs.lemmas.Iterator.{YieldsList-from_slice, YieldsList-from_zip}
 use Rattle.std.proofs.lemmas.Iterator.Search.{any_from_yields_List}
 use borrow.Author.Tests.{tests}
-use Rattle.cml_grammar.specs.Prelude.{texts_of, has_flaw}
+use Rattle.cml_grammar.specs.{texts_of, has_flaw}
 use Rattle.cml_grammar.proofs.ListLemmas.{list_any-zip-map}
 use Rattle.cml_grammar.proofs.checks.any_word.Goals as goal
 

@@ -1,5 +1,5 @@
 use Rattle.std.proofs.Common.{◌≡◌, drop}
-use Rattle.cml_grammar.specs.Prelude.{first_of}
+use Rattle.cml_grammar.specs.{first_of}
 use Rattle.cml_grammar.proofs.checks.first_of.Given as goal
 
 abbrev pub invariant-loop-holds : goal.invariant-loop-holds

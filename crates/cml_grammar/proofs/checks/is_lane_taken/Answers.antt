@@ -3,7 +3,7 @@ use Rattle.std.specs.Map.{keys_of}
 use Rattle.std.specs.List.{list_any}
 use Rattle.std.specs.Option.{option_map_or}
 use Rattle.std.proofs.lemmas.Map.Made.{is_some-lookup}
-use Rattle.cml_grammar.specs.Prelude.{are_same, is_lane_taken, texts_of, shown}
+use Rattle.cml_grammar.specs.{are_same, is_lane_taken, texts_of, shown}
 use Rattle.cml_grammar.proofs.checks.is_lane_taken.Goals as goal
 
 pub returns-in-Some : goal.returns-in-Some

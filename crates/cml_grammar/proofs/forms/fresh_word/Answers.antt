@@ -3,7 +3,7 @@ use Rattle.std.specs.Option.{option_map}
 use Rattle.std.proofs.lemmas.Iterator.{YieldsList-from_slice, YieldsList-from_zip}
 use Rattle.std.proofs.lemmas.Iterator.Search.{find_from_yields_List}
 use borrow.Author.Tests.{tests}
-use Rattle.cml_grammar.specs.Prelude.{Place, is_fresh}
+use Rattle.cml_grammar.specs.{Place, is_fresh}
 use Rattle.cml_grammar.proofs.MeaningLemmas.{fresh_found}
 use Rattle.cml_grammar.proofs.forms.fresh_word.Goals as goal
 

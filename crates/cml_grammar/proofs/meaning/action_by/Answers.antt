@@ -1,7 +1,7 @@
 use Rattle.std.proofs.Common.{ap}
-use Rattle.cml_calls.specs.Prelude.{given}
+use Rattle.cml_calls.specs.{given}
 use Rattle.cml_grammar.specs.declared.forms.Place.TheVariants.{Object}
-use Rattle.cml_grammar.specs.Prelude.{step_places, texts_of}
+use Rattle.cml_grammar.specs.{step_places, texts_of}
 use Rattle.cml_grammar.proofs.MeaningLemmas.{step_message}
 use Rattle.cml_grammar.proofs.meaning.action_by.Goals as goal
 

@@ -1,4 +1,4 @@
-use Rattle.cml_grammar.specs.Prelude.{texts_of}
+use Rattle.cml_grammar.specs.{texts_of}
 use Rattle.cml_grammar.proofs.RingLemmas.{feed_said}
 use Rattle.cml_grammar.proofs.meaning.feed_by.Goals as goal
 

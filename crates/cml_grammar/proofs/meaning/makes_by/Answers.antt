@@ -1,6 +1,6 @@
 use Rattle.std.proofs.Common.{subst, sym, ap, ◌∙◌}
 use Rattle.std.specs.Option.{option_map}
-use Rattle.cml_grammar.specs.Prelude.{Declares, declared_places, makes_by, texts_of, AllSuit}
+use Rattle.cml_grammar.specs.{Declares, declared_places, makes_by, texts_of, AllSuit}
 use Rattle.cml_grammar.specs.declared.forms.Declares.TheVariants.{MVar}
 use Rattle.cml_grammar.specs.declared.forms.Makes.TheVariants as makes
 use Rattle.cml_grammar.proofs.MeaningLemmas.{Words, bytes, first_message, made_with}

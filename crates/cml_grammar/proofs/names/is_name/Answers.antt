@@ -2,7 +2,7 @@ use Rattle.std.proofs.Common.{rules, sym, ◌∙◌, arith}
 use Rattle.std.proofs.lemmas.Iterator.{YieldsList-from_slice}
 use Rattle.std.proofs.lemmas.Iterator.Search.{all_from_yields_List}
 use borrow.Author.Tests.{tests}
-use Rattle.cml_grammar.specs.Prelude.{is_name_byte}
+use Rattle.cml_grammar.specs.{is_name_byte}
 use Rattle.cml_grammar.proofs.NameLemmas.{is_name_rest}
 use Rattle.cml_grammar.proofs.names.is_name.Goals as goal
 

@@ -1,7 +1,7 @@
 use Rattle.std.proofs.Common.{◌==◌, ◌∷◌, ◌+◌, take, ap, sym, ◌∙◌, arith, length-drop}
 use Rattle.std.proofs.lemmas.List.{take_rest}
 use Rattle.std.proofs.lemmas.List.Quantifiers.{position-Some}
-use Rattle.cml_grammar.specs.Prelude.{parts_of}
+use Rattle.cml_grammar.specs.{parts_of}
 use Rattle.cml_grammar.proofs.ListLemmas.{slice_split-none, slice_split-some}
 use Rattle.cml_grammar.proofs.read.cut_line.Goals as goal
 

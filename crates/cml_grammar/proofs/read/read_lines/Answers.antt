@@ -1,5 +1,5 @@
 use Rattle.std.proofs.Common.{subst, sym}
-use Rattle.cml_grammar.specs.Prelude.{IsFaultOf}
+use Rattle.cml_grammar.specs.{IsFaultOf}
 use Rattle.cml_grammar.proofs.LinesLemmas.{reads_on-line, fault-line}
 use Rattle.cml_grammar.proofs.ScriptLemmas.{fault_of_text, reads_all, script_short}
 use Rattle.cml_grammar.proofs.read.read_lines.Goals as goal

@@ -2,7 +2,7 @@ use Rattle.std.proofs.Common.{rules}
 use Rattle.std.proofs.lemmas.Iterator.{YieldsList-from_slice}
 use Rattle.std.proofs.lemmas.Iterator.Search.{any_from_yields_List}
 use borrow.Author.Tests.{tests}
-use Rattle.cml_grammar.specs.Prelude.{is_bad_byte}
+use Rattle.cml_grammar.specs.{is_bad_byte}
 use Rattle.cml_grammar.proofs.words.has_bad_byte.Goals as goal
 
 pub returns : goal.returns

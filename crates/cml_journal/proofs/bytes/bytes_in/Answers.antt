@@ -2,7 +2,7 @@ use Rattle.std.proofs.Common.{◌≡◌, ℕ, Bool, true, false, if◌then◌els
 use Rattle.std.specs.Bool.{then_some}
 use Rattle.std.specs.Global.{Vec}
 use Rattle.std.specs.Option.{option_map}
-use Rattle.cml_journal.specs.Prelude.{bytes_in}
+use Rattle.cml_journal.specs.{bytes_in}
 use Rattle.cml_journal.proofs.EscapeStepsLemmas.{goes_on, ends}
 use Rattle.cml_journal.proofs.bytes.bytes_in.Goals as goal
 

@@ -1,6 +1,6 @@
 use Rattle.std.proofs.Common.{◌≡◌, ◌++◌, length}
 use Rattle.std.specs.Option.{option_map}
-use Rattle.cml_journal.specs.Prelude.{bytes_in}
+use Rattle.cml_journal.specs.{bytes_in}
 use Rattle.cml_journal.proofs.bytes.bytes_in.Given as goal
 
 abbrev pub invariant-loop-byte : goal.invariant-loop-byte

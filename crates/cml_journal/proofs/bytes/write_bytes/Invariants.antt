@@ -1,6 +1,6 @@
 use Rattle.std.proofs.Common.{◌≡◌, ◌++◌, take, string_bytes}
 use Rattle.std.specs.List.{flat_map}
-use Rattle.cml_journal.specs.Prelude.{byte_text}
+use Rattle.cml_journal.specs.{byte_text}
 use Rattle.cml_journal.proofs.bytes.write_bytes.Given as goal
 
 abbrev pub invariant-loop-byte : goal.invariant-loop-byte

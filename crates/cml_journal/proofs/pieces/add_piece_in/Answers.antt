@@ -1,7 +1,7 @@
 use Rattle.std.proofs.Common.{ℕ, ◌+◌, List, string_bytes, ◌++◌, length, ap, ◌∙◌}
 use Rattle.std.specs.Prelude.{codes}
 use Rattle.std.specs.List.{flat_map}
-use Rattle.cml_journal.specs.Prelude.{line_of, numbered_line, with_line_end, text_of, head_lines}
+use Rattle.cml_journal.specs.{line_of, numbered_line, with_line_end, text_of, head_lines}
 use Rattle.cml_journal.proofs.PieceLemmas.{piece_text}
 use Rattle.cml_journal.proofs.PartLemmas.{on_ok}
 use Rattle.cml_journal.proofs.pieces.add_piece_in.Goals as goal

@@ -1,7 +1,7 @@
 use Rattle.std.specs.List.{flat_map}
 use Rattle.std.proofs.Common.{◌≡◌, ℕ, List, [], ◌∷◌, ◌++◌, take, string_bytes, ap, subst, ◌∙◌, append_assoc}
-use Rattle.cml_board.specs.Prelude.{Entry}
-use Rattle.cml_journal.specs.Prelude.{line_of, with_line_end, Writes}
+use Rattle.cml_board.specs.{Entry}
+use Rattle.cml_journal.specs.{line_of, with_line_end, Writes}
 use Rattle.cml_journal.proofs.PartLemmas.{writes_more, lines_more}
 use Rattle.cml_journal.proofs.pieces.write_lines.Goals as goal
 

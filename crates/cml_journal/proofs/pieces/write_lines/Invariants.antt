@@ -1,6 +1,6 @@
 use Rattle.std.proofs.Common.{◌++◌, take, string_bytes}
 use Rattle.std.specs.List.{flat_map}
-use Rattle.cml_journal.specs.Prelude.{line_of, with_line_end, Writes}
+use Rattle.cml_journal.specs.{line_of, with_line_end, Writes}
 use Rattle.cml_journal.proofs.pieces.write_lines.Given as goal
 
 abbrev pub invariant-loop-entry : goal.invariant-loop-entry

@@ -1,5 +1,5 @@
 use Rattle.std.proofs.Common.{ap, subst, ◌∙◌}
-use Rattle.cml_journal.specs.Prelude.{Gives, entry_in}
+use Rattle.cml_journal.specs.{Gives, entry_in}
 use Rattle.cml_journal.proofs.EntryLemmas.{entry_found, entry_again}
 use Rattle.cml_journal.proofs.reading.read_entry.Goals as goal
 

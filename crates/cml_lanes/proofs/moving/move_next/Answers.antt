@@ -1,6 +1,6 @@
 use Rattle.std.proofs.Common.{ap, ◌+◌, ◌∙◌, arith, length}
 use Rattle.std.proofs.Math.Nat.{min-le_right}
-use Rattle.cml_board.specs.Prelude.{entries_in}
+use Rattle.cml_board.specs.{entries_in}
 use Rattle.cml_lanes.proofs.LaningLemmas.{laned_within, same_way_call}
 use Rattle.cml_lanes.proofs.MovesLemmas.{stops_full, stops_unshared, stops_refused, one_moves}
 use Rattle.cml_lanes.proofs.moving.move_next.Goals as goal

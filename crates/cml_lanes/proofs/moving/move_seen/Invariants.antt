@@ -1,4 +1,4 @@
-use Rattle.cml_lanes.specs.Prelude.{MovesOut}
+use Rattle.cml_lanes.specs.{MovesOut}
 use Rattle.cml_lanes.proofs.moving.move_seen.Given as goal
 
 abbrev pub invariant-loop-moved : goal.invariant-loop-moved

@@ -1,4 +1,4 @@
-use Rattle.cml_lanes.specs.Prelude.{PumpsIn}
+use Rattle.cml_lanes.specs.{PumpsIn}
 use Rattle.cml_lanes.proofs.pumping.pump_free.Given as goal
 
 abbrev pub invariant-loop-pumped : goal.invariant-loop-pumped

@@ -1,5 +1,5 @@
 use Rattle.std.proofs.Common.{◌≡◌}
-use Rattle.cml_log.specs.Prelude.{least}
+use Rattle.cml_log.specs.{least}
 use Rattle.cml_log.proofs.PlainLogLemmas.{least_listed}
 use Rattle.cml_log.proofs.places.least_place.Given as goal
 

@@ -3,7 +3,7 @@ use Rattle.std.proofs.lemmas.Bool.{eqb-false}
 use Rattle.std.proofs.lemmas.Iterator.{YieldsList-from_slice}
 use Rattle.std.proofs.lemmas.Iterator.Search.{all_from_yields_List}
 use borrow.Author.Tests.{tests}
-use Rattle.cml_messages.specs.Prelude.{is_text_byte}
+use Rattle.cml_messages.specs.{is_text_byte}
 use Rattle.cml_messages.proofs.TextLemmas.{text_by_bytes}
 use Rattle.cml_messages.proofs.text.is_text.Goals as goal
 

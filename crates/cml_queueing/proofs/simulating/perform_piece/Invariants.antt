@@ -1,4 +1,4 @@
-use Rattle.cml_queueing.specs.Prelude.{KeepsDemand}
+use Rattle.cml_queueing.specs.{KeepsDemand}
 use Rattle.cml_queueing.proofs.simulating.perform_piece.Given as goal
 
 abbrev pub invariant-loop : goal.invariant-loop

@@ -1,5 +1,5 @@
 use Rattle.std.proofs.Common.{sym, subst, ◌∙◌}
-use Rattle.cml_room.specs.Prelude.{EndsTurn}
+use Rattle.cml_room.specs.{EndsTurn}
 use Rattle.cml_room.proofs.EndingLemmas.{all_watched, free_unless_waits}
 use Rattle.cml_room.proofs.IdlingLemmas.{none_waits}
 use Rattle.cml_room.proofs.ParkingLemmas.{none_freed, none_watched}

@@ -1,6 +1,6 @@
 use Rattle.std.proofs.Common.{rules, ◌≡◌, slice_get, Some, sym, ◌∙◌}
 use Rattle.cml_room.specs.declared.state.State.TheVariants.{Free}
-use Rattle.cml_room.specs.Prelude.{states_in, quieted}
+use Rattle.cml_room.specs.{states_in, quieted}
 use Rattle.cml_room.proofs.EndingLemmas.{free_place, parked_within}
 use Rattle.cml_room.proofs.ParkingLemmas.{free_begun, waits_begun, waits_unless_free}
 use Rattle.std.proofs.Common.{get_or, refl}

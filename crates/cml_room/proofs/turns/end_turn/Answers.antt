@@ -1,7 +1,7 @@
 use Rattle.std.proofs.Common.{◌≡◌, slice_get, Some, refl, sym, ap, subst, ◌∙◌}
-use Rattle.cml_board.specs.Prelude.{Shown}
+use Rattle.cml_board.specs.Shown.{Shown}
 use Rattle.cml_room.specs.declared.state.State.TheVariants.{Parked}
-use Rattle.cml_room.specs.Prelude.{states_in, RisesFew, AreAt, freed}
+use Rattle.cml_room.specs.{states_in, RisesFew, AreAt, freed}
 use Rattle.cml_room.proofs.EndingLemmas.{freed_states, may_within, handed, ended, ended_at, none_told, free_unless_waits}
 use Rattle.cml_room.proofs.EndingLemmas.{free_same, waits_parked}
 use Rattle.cml_room.proofs.RisingLemmas.{handed_few, told_few}

@@ -1,5 +1,5 @@
 use Rattle.std.proofs.Common.{subst}
-use Rattle.cml_room.specs.Prelude.{IsStalled, states_in, freed}
+use Rattle.cml_room.specs.{IsStalled, states_in, freed}
 use Rattle.cml_room.proofs.EndingLemmas.{parked_within}
 use Rattle.cml_room.proofs.ParkingLemmas.{parked_then, unparked, unparked_states}
 use Rattle.cml_room.proofs.RisingLemmas.{freed_none}

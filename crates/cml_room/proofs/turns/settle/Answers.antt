@@ -1,6 +1,7 @@
 use Rattle.std.proofs.Common.{◌≡◌, refl, sym, ap, subst, ◌∙◌}
-use Rattle.cml_board.specs.Prelude.{entries_in, HasRoom, Shown, full_at}
-use Rattle.cml_room.specs.Prelude.{states_in, AreRoused, OneEach, RisesFew, IsStalled, AreAt}
+use Rattle.cml_board.specs.{entries_in, HasRoom, full_at}
+use Rattle.cml_board.specs.Shown.{Shown}
+use Rattle.cml_room.specs.{states_in, AreRoused, OneEach, RisesFew, IsStalled, AreAt}
 use Rattle.cml_room.proofs.BringingLemmas.{was_placed}
 use Rattle.cml_room.proofs.EndingLemmas.{all_watched, settled, settled_rests, not_full}
 use Rattle.cml_room.proofs.IdlingLemmas.{none_waits}

@@ -1,8 +1,8 @@
 use Rattle.std.proofs.Common.{◌≡◌, slice_get, Some}
-use Rattle.cml_board.specs.Prelude.{Waits}
-use Rattle.cml_queues.specs.Prelude.{queue_of}
+use Rattle.cml_board.specs.{Waits}
+use Rattle.cml_queues.specs.{queue_of}
 use Rattle.cml_room.specs.declared.place.Place.TheVariants.{Waiting}
-use Rattle.cml_room.specs.Prelude.{Waiter}
+use Rattle.cml_room.specs.{Waiter}
 use Rattle.cml_room.proofs.WalkingLemmas.{Walked}
 use Rattle.cml_room.proofs.waiting.due_idle.Given as goal
 

@@ -1,6 +1,6 @@
 use Rattle.std.proofs.Common.{rules, sym, subst}
-use Rattle.cml_board.specs.Prelude.{Shown}
-use Rattle.cml_room.specs.Prelude.{states_in, AreIdle, NoneForgotten}
+use Rattle.cml_board.specs.Shown.{Shown}
+use Rattle.cml_room.specs.{states_in, AreIdle, NoneForgotten}
 use Rattle.cml_room.proofs.waiting.is_stalled.Goals as goal
 
 pub returns-then-open_lanes-eq0-clause-all : goal.returns-then-open_lanes-eq0-clause-all

@@ -2,8 +2,8 @@ use Rattle.std.proofs.Common.{Option, sym, ap, ◌∙◌, arith}
 use Rattle.std.specs.Option.{option_map}
 use Rattle.std.proofs.lemmas.Bool.{eq-eqb}
 use Rattle.std.proofs.lemmas.Option.{slice_get-map}
-use Rattle.cml_queues.specs.Prelude.{queue_of}
-use Rattle.cml_room.specs.Prelude.{Place, state_by, row_in, row_of}
+use Rattle.cml_queues.specs.{queue_of}
+use Rattle.cml_room.specs.{Place, state_by, row_in, row_of}
 use Rattle.cml_room.specs.declared.state.State.TheVariants.{Parked}
 use Rattle.cml_room.proofs.IdlingLemmas.{idle_state}
 use Rattle.cml_room.proofs.WalkingLemmas.{walk_stops, walk_ends, walk_goes}

@@ -1,6 +1,6 @@
 use Rattle.std.proofs.Common.{◌≡◌, inl, inr, arith}
 use Rattle.std.proofs.lemmas.Bool.{cases_lt}
-use Rattle.cml_room.specs.Prelude.{row_of}
+use Rattle.cml_room.specs.{row_of}
 use Rattle.cml_room.proofs.ListingLemmas.{row_within, row_itself}
 use Rattle.cml_room.proofs.waiting.waiting_idle.Goals as goal
 

@@ -1,7 +1,7 @@
 use Rattle.std.proofs.Common.{◌≡◌, ◌<◌, ℕ, slice_get, Some}
-use Rattle.cml_board.specs.Prelude.{Waits}
+use Rattle.cml_board.specs.{Waits}
 use Rattle.cml_room.specs.declared.place.Place.TheVariants.{Waiting}
-use Rattle.cml_room.specs.Prelude.{Waiter, row_of}
+use Rattle.cml_room.specs.{Waiter, row_of}
 use Rattle.cml_room.proofs.waiting.waiting_idle.Given as goal
 
 abbrev pub invariant-loop-row : goal.invariant-loop-row

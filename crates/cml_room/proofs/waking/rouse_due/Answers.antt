@@ -1,6 +1,6 @@
 use Rattle.std.proofs.Common.{Bool, slice_get, sym, ap, ◌∙◌}
 use Rattle.std.specs.Prelude.{⊤}
-use Rattle.cml_room.specs.Prelude.{place_due}
+use Rattle.cml_room.specs.{place_due}
 use Rattle.cml_room.proofs.SleepersLemmas.{roused_alike, roused_due}
 use Rattle.cml_room.proofs.WokenLemmas.{roused_keeps}
 use Rattle.cml_room.proofs.waking.rouse_due.Goals as goal

@@ -1,6 +1,6 @@
 use Rattle.std.proofs.Common.{◌≡◌, ℕ, List, ◌+◌, length, true, slice_get, Some, refl, sym, ap, subst, ◌∙◌, arith}
-use Rattle.cml_queues.specs.Prelude.{QueuesShown, queue_of, is_in}
-use Rattle.cml_room.specs.Prelude.{Place, Waiter, row_of, is_noted, reaches}
+use Rattle.cml_queues.specs.{QueuesShown, queue_of, is_in}
+use Rattle.cml_room.specs.{Place, Waiter, row_of, is_noted, reaches}
 use Rattle.cml_room.specs.declared.place.Place.TheVariants.{Waiting}
 use Rattle.cml_room.proofs.WalkingLemmas.{Walked, walk_begins, walk_ends, walk_stops, walk_goes, walk_kept}
 use Rattle.cml_room.proofs.RousingLemmas.{none_roused, roused_twice, still_noted, reaches_same, not_reached}

@@ -1,7 +1,7 @@
 use Rattle.std.proofs.Common.{◌≡◌, ◌≢◌, slice_get, Some}
-use Rattle.cml_queues.specs.Prelude.{queue_of}
+use Rattle.cml_queues.specs.{queue_of}
 use Rattle.cml_room.specs.declared.place.Place.TheVariants.{Waiting}
-use Rattle.cml_room.specs.Prelude.{Waiter, row_of}
+use Rattle.cml_room.specs.{Waiter, row_of}
 use Rattle.cml_room.proofs.WalkingLemmas.{Walked}
 use Rattle.cml_room.proofs.waking.rouse_first.Given as goal
 

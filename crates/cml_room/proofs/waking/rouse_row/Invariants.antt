@@ -1,8 +1,8 @@
 use Rattle.std.proofs.Common.{◌≡◌, slice_get, Some, true}
 use Rattle.std.specs.Prelude.{⊤}
-use Rattle.cml_queues.specs.Prelude.{queue_of}
+use Rattle.cml_queues.specs.{queue_of}
 use Rattle.cml_room.specs.declared.place.Place.TheVariants.{Waiting}
-use Rattle.cml_room.specs.Prelude.{Waiter, row_of, is_noted, AreRoused}
+use Rattle.cml_room.specs.{Waiter, row_of, is_noted, AreRoused}
 use Rattle.cml_room.proofs.WalkingLemmas.{Walked}
 use Rattle.cml_room.proofs.waking.rouse_row.Given as goal
 

@@ -1,7 +1,7 @@
 use Rattle.std.proofs.Common.{◌≡◌, inl, inr, List, subst, arith}
 use Rattle.std.specs.Prelude.{⊤}
 use Rattle.std.proofs.lemmas.Bool.{cases_lt}
-use Rattle.cml_room.specs.Prelude.{Place, row_of, IsQuiet}
+use Rattle.cml_room.specs.{Place, row_of, IsQuiet}
 use Rattle.cml_room.proofs.ListingLemmas.{row_within, row_itself}
 use Rattle.cml_room.proofs.RousingLemmas.{none_roused, roused_twice, quiet_before}
 use Rattle.cml_room.proofs.waking.rouse_waiting.Goals as goal

@@ -1,6 +1,6 @@
 use Rattle.std.proofs.Common.{ℕ, ◌<◌}
 use Rattle.std.specs.Prelude.{⊤}
-use Rattle.cml_room.specs.Prelude.{Waiter, row_of, AreRoused, IsQuiet}
+use Rattle.cml_room.specs.{Waiter, row_of, AreRoused, IsQuiet}
 use Rattle.cml_room.proofs.waking.rouse_waiting.Given as goal
 
 abbrev pub invariant-loop-row : goal.invariant-loop-row

@@ -1,6 +1,7 @@
 use Rattle.std.proofs.Common.{◌≡◌, ℕ, true, List, slice_get, Option, Some, subst, sym, ap, ◌∙◌}
-use Rattle.cml_board.specs.Prelude.{Entry}
-use Rattle.cml_room.specs.Prelude.{News, Place, Waiter, helps, Helps, IsOf, AreRoused}
+use Rattle.cml_board.specs.{Entry}
+use Rattle.cml_room.specs.declared.news.News.{News}
+use Rattle.cml_room.specs.{Place, Waiter, helps, Helps, IsOf, AreRoused}
 use Rattle.cml_room.specs.declared.news.News.TheVariants.{Multicast, Value, Closed}
 use Rattle.cml_room.specs.declared.place.Place.TheVariants.{Waiting}
 use Rattle.cml_room.proofs.HearingLemmas.{AreTold, message_told, multicast_told, closed_told, told_news, news_of, ports_are_of_channels}

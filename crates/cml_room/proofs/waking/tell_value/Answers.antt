@@ -1,10 +1,10 @@
 use Rattle.std.proofs.Common.{rules, ◌≡◌, inl, inr, true, Some, refl, sym, ap, ◌∙◌}
 use Rattle.std.proofs.lemmas.Option.{same_Some}
 use Rattle.cml_calls.specs.declared.kind.Kind.TheVariants as kind
-use Rattle.cml_board.specs.Prelude.{Want, kind_of}
+use Rattle.cml_board.specs.{Want, kind_of}
 use Rattle.cml_board.specs.declared.want.Want.TheVariants.{Get, Take, Swap}
 use Rattle.cml_room.specs.declared.news.News.TheVariants.{Value}
-use Rattle.cml_room.specs.Prelude.{Waiter, helps, AreRoused}
+use Rattle.cml_room.specs.{Waiter, helps, AreRoused}
 use Rattle.cml_room.proofs.HearingLemmas.{ports_are_of_channels, value_told, values_told}
 use Rattle.cml_room.proofs.NewsLemmas.{value_helps, want_helps}
 use Rattle.cml_room.proofs.RisingLemmas.{roused_where, twice_each}

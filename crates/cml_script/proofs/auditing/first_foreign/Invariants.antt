@@ -1,6 +1,6 @@
 use Rattle.std.proofs.Common.{◌≡◌}
-use Rattle.cml_board.specs.Prelude.{before}
-use Rattle.cml_script.specs.Prelude.{IsOfScript}
+use Rattle.cml_board.specs.{before}
+use Rattle.cml_script.specs.{IsOfScript}
 use Rattle.cml_script.proofs.auditing.first_foreign.Given as goal
 
 abbrev pub invariant-loop-k : goal.invariant-loop-k

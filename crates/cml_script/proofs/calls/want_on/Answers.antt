@@ -1,7 +1,7 @@
 use Rattle.std.proofs.Common.{ap, sym, ◌∙◌}
-use Rattle.cml_board.specs.Prelude.{want_in}
-use Rattle.cml_grammar.specs.Prelude.{Action}
-use Rattle.cml_script.specs.Prelude.{call_on}
+use Rattle.cml_board.specs.{want_in}
+use Rattle.cml_grammar.specs.{Action}
+use Rattle.cml_script.specs.{call_on}
 use Rattle.cml_script.proofs.FitLemmas.{want_is}
 use Rattle.cml_script.proofs.calls.want_on.Goals as goal
 

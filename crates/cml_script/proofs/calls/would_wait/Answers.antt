@@ -1,6 +1,6 @@
 use Rattle.std.proofs.Common.{sym}
 use Rattle.std.proofs.lemmas.Bool.{false≢true}
-use Rattle.cml_script.specs.Prelude.{call_on}
+use Rattle.cml_script.specs.{call_on}
 use Rattle.cml_script.proofs.calls.would_wait.Goals as goal
 
 pub returns-in-Some : goal.returns-in-Some

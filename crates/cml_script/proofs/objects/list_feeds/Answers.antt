@@ -1,8 +1,8 @@
 use Rattle.std.proofs.Common.{ℕ, ◌≡◌, ◌+◌, take, sym, subst, ◌∙◌}
 use Rattle.std.specs.Prelude.{Vec}
 use Rattle.std.specs.Global.{Global}
-use Rattle.cml_grammar.specs.Prelude.{source_of}
-use Rattle.cml_script.specs.Prelude.{is_feed, positions_where}
+use Rattle.cml_grammar.specs.{source_of}
+use Rattle.cml_script.specs.{is_feed, positions_where}
 use Rattle.cml_script.proofs.LineLemmas.{declaration_feed, declaration_read}
 use Rattle.cml_script.proofs.QueueLemmas.{place_added, place_kept}
 use Rattle.cml_script.proofs.objects.list_feeds.Goals as goal

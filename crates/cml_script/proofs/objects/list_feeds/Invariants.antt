@@ -1,5 +1,5 @@
 use Rattle.std.proofs.Common.{◌≡◌, take}
-use Rattle.cml_script.specs.Prelude.{is_feed, positions_where}
+use Rattle.cml_script.specs.{is_feed, positions_where}
 use Rattle.cml_script.proofs.objects.list_feeds.Given as goal
 
 abbrev pub invariant-loop-at : goal.invariant-loop-at

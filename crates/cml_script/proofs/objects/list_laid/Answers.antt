@@ -1,6 +1,6 @@
 use Rattle.std.proofs.Common.{◌<◌, eqb, sym, ap, ◌∙◌, arith}
-use Rattle.cml_grammar.specs.Prelude.{names_of, source_of, ReadsLane}
-use Rattle.cml_script.specs.Prelude.{declared_count}
+use Rattle.cml_grammar.specs.{names_of, source_of, ReadsLane}
+use Rattle.cml_script.specs.{declared_count}
 use Rattle.cml_script.proofs.ListLemmas.{read_at, mapped_at}
 use Rattle.cml_script.proofs.LineLemmas.{all_at}
 use Rattle.cml_script.proofs.ObjectLemmas.{target_declared, laid_more, lane_leads}

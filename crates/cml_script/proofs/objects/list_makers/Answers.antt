@@ -1,8 +1,8 @@
 use Rattle.std.proofs.Common.{ℕ, ◌+◌, List, sym, subst, ◌∙◌}
 use Rattle.std.specs.Prelude.{Vec}
 use Rattle.std.specs.Global.{Global}
-use Rattle.cml_grammar.specs.Prelude.{source_of}
-use Rattle.cml_board.specs.Prelude.{Who}
+use Rattle.cml_grammar.specs.{source_of}
+use Rattle.cml_board.specs.{Who}
 use Rattle.cml_script.proofs.LineLemmas.{declaration_feed, declaration_object, declaration_read}
 use Rattle.cml_script.proofs.ObjectLemmas.{AreListed, feed_listed, object_listed, none_listed}
 use Rattle.cml_script.proofs.objects.list_makers.Goals as goal

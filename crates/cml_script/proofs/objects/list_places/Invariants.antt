@@ -1,5 +1,5 @@
 use Rattle.std.proofs.Common.{◌≡◌, take}
-use Rattle.cml_script.specs.Prelude.{is_object, positions_where}
+use Rattle.cml_script.specs.{is_object, positions_where}
 use Rattle.cml_script.proofs.objects.list_places.Given as goal
 
 abbrev pub invariant-loop-at : goal.invariant-loop-at

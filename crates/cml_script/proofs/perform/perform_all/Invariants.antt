@@ -1,5 +1,5 @@
 use Rattle.std.proofs.Common.{◌≡◌, ◌+◌, length}
-use Rattle.cml_script.specs.Prelude.{declared_count}
+use Rattle.cml_script.specs.{declared_count}
 use Rattle.cml_script.proofs.perform.perform_all.Given as goal
 
 abbrev pub invariant-loop : goal.invariant-loop

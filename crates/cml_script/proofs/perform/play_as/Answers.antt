@@ -1,6 +1,8 @@
 use Rattle.std.proofs.Common.{◌≡◌, None, ◌∙◌, ap, sym, subst, string_bytes}
-use Rattle.cml_grammar.specs.Prelude.{Lines, first_ring}
-use Rattle.cml_script.specs.Prelude.{History, Schedule, Play, Tallied, text_as, IsPlayedAs, IsOfScript}
+use Rattle.cml_grammar.specs.{Lines, first_ring}
+use Rattle.cml_script.specs.{History, Tallied, text_as, IsPlayedAs, IsOfScript}
+use Rattle.cml_script.specs.Schedule.{Schedule}
+use Rattle.cml_script.specs.Stage.{Play}
 use Rattle.cml_script.proofs.GivingLemmas.{follows_own}
 use Rattle.cml_script.proofs.perform.play_as.Goals as goal
 

@@ -1,6 +1,6 @@
 use Rattle.std.proofs.Common.{ap, ◌∙◌, sym}
-use Rattle.cml_grammar.specs.Prelude.{source_of}
-use Rattle.cml_script.specs.Prelude.{is_apart, is_by_ring}
+use Rattle.cml_grammar.specs.{source_of}
+use Rattle.cml_script.specs.{is_apart, is_by_ring}
 use Rattle.cml_script.proofs.LineLemmas.{counted_more, step_read, step_route}
 use Rattle.cml_script.proofs.plan.count_apart.Goals as goal
 

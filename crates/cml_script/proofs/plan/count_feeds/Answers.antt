@@ -1,6 +1,6 @@
 use Rattle.std.proofs.Common.{◌∙◌, sym}
-use Rattle.cml_grammar.specs.Prelude.{source_of}
-use Rattle.cml_script.specs.Prelude.{is_feed}
+use Rattle.cml_grammar.specs.{source_of}
+use Rattle.cml_script.specs.{is_feed}
 use Rattle.cml_script.proofs.LineLemmas.{counted_more, declaration_feed, declaration_read}
 use Rattle.cml_script.proofs.plan.count_feeds.Goals as goal
 

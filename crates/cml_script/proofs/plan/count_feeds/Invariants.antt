@@ -1,5 +1,5 @@
 use Rattle.std.proofs.Common.{◌≡◌, ◌≤◌, take}
-use Rattle.cml_script.specs.Prelude.{how_many, is_feed}
+use Rattle.cml_script.specs.{how_many, is_feed}
 use Rattle.cml_script.proofs.plan.count_feeds.Given as goal
 
 abbrev pub invariant-loop-declaration : goal.invariant-loop-declaration

@@ -1,7 +1,7 @@
 use Rattle.std.proofs.Common.{ap, ◌∙◌, sym}
-use Rattle.cml_grammar.specs.Prelude.{source_of}
+use Rattle.cml_grammar.specs.{source_of}
 use Rattle.cml_script.specs.Left.{is_by_lane}
-use Rattle.cml_script.specs.Prelude.{is_laid}
+use Rattle.cml_script.specs.{is_laid}
 use Rattle.cml_script.proofs.LineLemmas.{counted_more, step_read, step_route}
 use Rattle.cml_script.proofs.plan.count_laid.Goals as goal
 

@@ -1,5 +1,5 @@
 use Rattle.std.proofs.Common.{◌≡◌, ◌≤◌, take}
-use Rattle.cml_script.specs.Prelude.{how_many, is_laid}
+use Rattle.cml_script.specs.{how_many, is_laid}
 use Rattle.cml_script.proofs.plan.count_laid.Given as goal
 
 abbrev pub invariant-loop-step : goal.invariant-loop-step

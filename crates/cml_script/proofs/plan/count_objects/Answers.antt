@@ -1,6 +1,6 @@
 use Rattle.std.proofs.Common.{◌∙◌, sym}
-use Rattle.cml_grammar.specs.Prelude.{source_of}
-use Rattle.cml_script.specs.Prelude.{is_object}
+use Rattle.cml_grammar.specs.{source_of}
+use Rattle.cml_script.specs.{is_object}
 use Rattle.cml_script.proofs.LineLemmas.{counted_more, declaration_object, declaration_read}
 use Rattle.cml_script.proofs.plan.count_objects.Goals as goal
 

@@ -2,7 +2,7 @@ use Rattle.std.proofs.Common.{rules}
 use Rattle.std.proofs.lemmas.Iterator.{YieldsList-from_slice}
 use Rattle.std.proofs.lemmas.Iterator.Search.{any_from_yields_List}
 use borrow.Author.Tests.{tests}
-use Rattle.cml_calls.specs.Prelude.{is_name}
+use Rattle.cml_calls.specs.{is_name}
 use Rattle.cml_script.proofs.plan.names_one.Goals as goal
 
 pub returns : goal.returns

@@ -1,7 +1,7 @@
 use Rattle.std.proofs.Common.{◌≡◌, ◌+◌, ◌++◌, ◌∷◌, [], Some, None, cond, length, ap, sym, ◌∙◌, arith}
 use Rattle.std.proofs.lemmas.List.{length_push}
-use Rattle.cml_grammar.specs.Prelude.{is_giving, names_before, source_of}
-use Rattle.cml_script.specs.Prelude.{given_by}
+use Rattle.cml_grammar.specs.{is_giving, names_before, source_of}
+use Rattle.cml_script.specs.{given_by}
 use Rattle.cml_script.proofs.ListLemmas.{each_pushed}
 use Rattle.cml_script.proofs.LineLemmas.{byte_more, then_is, step_gives, step_read, asks_for_ports}
 use Rattle.cml_script.proofs.GivingLemmas.{given_at, names_more}

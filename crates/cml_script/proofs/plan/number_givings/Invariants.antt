@@ -1,6 +1,6 @@
 use Rattle.std.proofs.Common.{◌≡◌, ℕ, ◌+◌, ◌<◌, ◌≤◌, length, slice_get, Some}
-use Rattle.cml_grammar.specs.Prelude.{names_before}
-use Rattle.cml_script.specs.Prelude.{given_by}
+use Rattle.cml_grammar.specs.{names_before}
+use Rattle.cml_script.specs.{given_by}
 use Rattle.cml_script.proofs.plan.number_givings.Given as goal
 
 abbrev pub invariant-loop-step : goal.invariant-loop-step

@@ -1,7 +1,7 @@
 use Rattle.std.proofs.Common.{◌≡◌, ◌++◌, ◌∷◌, [], length, take, ap, ◌∙◌, arith, sym}
 use Rattle.std.proofs.lemmas.List.{length_push}
-use Rattle.cml_grammar.specs.Prelude.{source_of}
-use Rattle.cml_script.specs.Prelude.{how_many, is_object}
+use Rattle.cml_grammar.specs.{source_of}
+use Rattle.cml_script.specs.{how_many, is_object}
 use Rattle.cml_script.proofs.ListLemmas.{each_pushed}
 use Rattle.cml_script.proofs.LineLemmas.{counted_more, declaration_object, declaration_read, names_objects}
 use Rattle.cml_script.proofs.plan.number_objects.Goals as goal

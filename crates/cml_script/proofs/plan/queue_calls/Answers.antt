@@ -1,8 +1,8 @@
 use Rattle.std.proofs.Common.{ℕ, ◌+◌, take, sym, subst, ap, ◌∙◌}
 use Rattle.std.specs.Prelude.{Vec}
 use Rattle.std.specs.Global.{Global}
-use Rattle.cml_grammar.specs.Prelude.{names_of, ReadsStep}
-use Rattle.cml_script.specs.Prelude.{is_called, is_by_ring, AreQueues, items_of}
+use Rattle.cml_grammar.specs.{names_of, ReadsStep}
+use Rattle.cml_script.specs.{is_called, is_by_ring, AreQueues, items_of}
 use Rattle.cml_script.proofs.ListLemmas.{read_at}
 use Rattle.cml_script.proofs.LineLemmas.{all_at, step_called, step_apart}
 use Rattle.cml_script.proofs.QueueLemmas.{queues_empty, queues_pushed, queues_kept}

@@ -1,5 +1,5 @@
 use Rattle.std.proofs.Common.{take}
-use Rattle.cml_script.specs.Prelude.{is_called, AreQueues, items_of}
+use Rattle.cml_script.specs.{is_called, AreQueues, items_of}
 use Rattle.cml_script.proofs.plan.queue_calls.Given as goal
 
 abbrev pub invariant-loop-i : goal.invariant-loop-i

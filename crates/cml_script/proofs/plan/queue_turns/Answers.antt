@@ -1,6 +1,6 @@
 use Rattle.cml_script.proofs.ListLemmas.{read_at}
-use Rattle.cml_grammar.specs.Prelude.{names_of, ReadsStep}
-use Rattle.cml_script.specs.Prelude.{is_seated}
+use Rattle.cml_grammar.specs.{names_of, ReadsStep}
+use Rattle.cml_script.specs.{is_seated}
 use Rattle.cml_script.proofs.LineLemmas.{all_at, has_seats, step_seated}
 use Rattle.cml_script.proofs.QueueLemmas.{queues_empty, queues_pushed}
 use Rattle.cml_script.proofs.plan.queue_turns.Goals as goal

@@ -1,5 +1,5 @@
 use Rattle.std.proofs.Common.{take}
-use Rattle.cml_script.specs.Prelude.{is_seated, AreQueues, items_of}
+use Rattle.cml_script.specs.{is_seated, AreQueues, items_of}
 use Rattle.cml_script.proofs.plan.queue_turns.Given as goal
 
 abbrev pub invariant-loop-i : goal.invariant-loop-i

@@ -1,6 +1,6 @@
 use Rattle.std.proofs.Common.{refl}
 use Rattle.cml_calls.specs.declared.kind.Kind.TheVariants as kind
-use Rattle.cml_calls.specs.Prelude.{is_source}
+use Rattle.cml_calls.specs.{is_source}
 use Rattle.cml_script.proofs.CountLemmas.{some_count, kind_there}
 use Rattle.cml_script.proofs.report.write_channel.Goals as goal
 

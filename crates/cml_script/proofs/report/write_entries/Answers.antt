@@ -1,7 +1,7 @@
 use Rattle.std.proofs.Common.{◌++◌, ◌+◌, ap, sym, ◌∙◌, string_bytes}
 use Rattle.std.proofs.lemmas.Bool.{false≢true}
-use Rattle.cml_board.specs.Prelude.{before}
-use Rattle.cml_script.specs.Prelude.{entry_lines, entry_line, Progress}
+use Rattle.cml_board.specs.{before}
+use Rattle.cml_script.specs.{entry_lines, entry_line, Progress}
 use Rattle.cml_script.proofs.ListLemmas.{read_at}
 use Rattle.cml_script.proofs.JournalLemmas.{before_more}
 use Rattle.cml_script.proofs.ReportLemmas.{line_more, no_line, begun_at, not_begun_at, entry_at}

@@ -1,6 +1,6 @@
 use Rattle.std.proofs.Common.{◌≡◌, string_bytes}
-use Rattle.cml_board.specs.Prelude.{before}
-use Rattle.cml_script.specs.Prelude.{entry_lines}
+use Rattle.cml_board.specs.{before}
+use Rattle.cml_script.specs.{entry_lines}
 use Rattle.cml_script.proofs.report.write_entries.Given as goal
 
 abbrev pub invariant-loop-entry : goal.invariant-loop-entry

@@ -2,8 +2,8 @@ use Rattle.std.proofs.Common.{◌+◌, ◌++◌, ◌∙◌, ap, sym, drop, strin
 use Rattle.std.specs.Global.{Global}
 use Rattle.std.specs.Prelude.{String}
 use Rattle.std.specs.Option.{option_map}
-use Rattle.cml_grammar.specs.Prelude.{Named, names_of}
-use Rattle.cml_script.specs.Prelude.{named_line, object_lines_from}
+use Rattle.cml_grammar.specs.{Named, names_of}
+use Rattle.cml_script.specs.{named_line, object_lines_from}
 use Rattle.cml_script.proofs.ListLemmas.{mapped_at}
 use Rattle.cml_script.proofs.ReportLemmas.{object_lines_more}
 use Rattle.cml_script.proofs.report.write_objects.Goals as goal

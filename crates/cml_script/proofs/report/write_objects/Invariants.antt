@@ -1,6 +1,6 @@
 use Rattle.std.proofs.Common.{◌≡◌, ◌++◌, drop, string_bytes}
-use Rattle.cml_grammar.specs.Prelude.{names_of}
-use Rattle.cml_script.specs.Prelude.{object_lines_from}
+use Rattle.cml_grammar.specs.{names_of}
+use Rattle.cml_script.specs.{object_lines_from}
 use Rattle.cml_script.proofs.report.write_objects.Given as goal
 
 abbrev pub invariant-loop-at : goal.invariant-loop-at

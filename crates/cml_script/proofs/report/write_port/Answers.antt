@@ -1,6 +1,6 @@
 use Rattle.std.proofs.Common.{refl}
 use Rattle.cml_calls.specs.declared.kind.Kind.TheVariants as kind
-use Rattle.cml_calls.specs.Prelude.{is_receiver}
+use Rattle.cml_calls.specs.{is_receiver}
 use Rattle.cml_script.proofs.CountLemmas.{some_count, some_start, kind_there}
 use Rattle.cml_script.proofs.report.write_port.Goals as goal
 

@@ -1,5 +1,5 @@
 use Rattle.std.proofs.Common.{List, ℕ, subst}
-use Rattle.cml_grammar.specs.Prelude.{IsScript}
+use Rattle.cml_grammar.specs.{IsScript}
 use Rattle.cml_script.proofs.ReplayLemmas.{read_run, untold_ends}
 use Rattle.cml_script.proofs.GatesLemmas.{kept_unheld}
 use Rattle.cml_script.proofs.running.run_read.Goals as goal

@@ -1,6 +1,6 @@
 use Rattle.std.proofs.Common.{◌≡◌, ◌≤◌}
-use Rattle.cml_board.specs.Prelude.{before}
-use Rattle.cml_script.specs.Prelude.{how_many, is_step_entry}
+use Rattle.cml_board.specs.{before}
+use Rattle.cml_script.specs.{how_many, is_step_entry}
 use Rattle.cml_script.proofs.scene.count_calls.Given as goal
 
 abbrev pub invariant-loop-entry : goal.invariant-loop-entry

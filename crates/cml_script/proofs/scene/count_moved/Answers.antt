@@ -1,6 +1,6 @@
 use Rattle.std.proofs.Common.{◌+◌, ap, arith}
-use Rattle.cml_board.specs.Prelude.{before}
-use Rattle.cml_script.specs.Prelude.{how_many, is_lane, is_moved}
+use Rattle.cml_board.specs.{before}
+use Rattle.cml_script.specs.{how_many, is_lane, is_moved}
 use Rattle.cml_script.proofs.ListLemmas.{read_at}
 use Rattle.cml_script.proofs.JournalLemmas.{before_more}
 use Rattle.cml_script.proofs.LineLemmas.{byte_more}

@@ -1,5 +1,5 @@
 use Rattle.std.proofs.Common.{◌+◌, arith}
-use Rattle.cml_script.specs.Prelude.{is_by}
+use Rattle.cml_script.specs.{is_by}
 use Rattle.cml_script.proofs.ListLemmas.{how_many-le}
 use Rattle.cml_script.proofs.StandLemmas.{count_at}
 use Rattle.cml_script.proofs.trail.count.Goals as goal

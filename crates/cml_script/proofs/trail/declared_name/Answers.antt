@@ -2,8 +2,8 @@ use Rattle.std.proofs.Common.{sym, subst, ap, ◌<◌, length, ◌∙◌, IfSome
 use Rattle.std.specs.Global.{Global}
 use Rattle.std.specs.Prelude.{String}
 use Rattle.std.specs.Option.{option_map, option_and_then}
-use Rattle.cml_grammar.specs.Prelude.{Named, names_of}
-use Rattle.cml_script.specs.Prelude.{given_word}
+use Rattle.cml_grammar.specs.{Named, names_of}
+use Rattle.cml_script.specs.{given_word}
 use Rattle.std.specs.Prelude.{slice_get}
 use Rattle.cml_script.proofs.ListLemmas.{mapped_at}
 use Rattle.cml_script.proofs.LineLemmas.{stands}

@@ -1,7 +1,7 @@
 //! A script's first thread, behind the declared objects.
 ghost use Rattle.std.specs.Prelude.{◌≡◌, ◌≤◌, ◌^◌, Ok, IfOk};
-ghost use Rattle.cml_script.specs.Prelude.{Declares};
-ghost use Rattle.cml_tests.specs.Prelude.{IsPerformed};
+ghost use Rattle.cml_script.specs.{Declares};
+ghost use Rattle.cml_tests.specs.{IsPerformed};
 
 use super::teller::Teller;
 use cml_board::Refusal;

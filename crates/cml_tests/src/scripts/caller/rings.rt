@@ -1,8 +1,8 @@
 //! A floor of one caller, and the ends of its rings that threads would have.
 ghost use Rattle.std.specs.Prelude.{◌≡◌, ◌^◌, ◌<◌, ◌≤◌, true, [], length, OnOk, OnErr, IfOk, IfSome};
-ghost use Rattle.cml_tests.specs.Prelude.{asked, with_call, with_feed, IsUnasked};
-ghost use Rattle.cml_threads.specs.Prelude.{suits};
-ghost use Rattle.cml_grammar.specs.Prelude.{IsCapacity};
+ghost use Rattle.cml_tests.specs.{asked, with_call, with_feed, IsUnasked};
+ghost use Rattle.cml_threads.specs.{suits};
+ghost use Rattle.cml_grammar.specs.{IsCapacity};
 
 use cml_board::{Answer, Board, BoardLog, Call, Name, Outcome, Refusal, Text};
 use cml_lanes::{Feed, Floor, Lane, LaneFull};

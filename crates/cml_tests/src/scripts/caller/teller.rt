@@ -1,6 +1,6 @@
 //! A caller alone on a floor.
 ghost use Rattle.std.specs.Prelude.{◌≡◌, ◌≤◌, ◌^◌, true, Some, IfOk};
-ghost use Rattle.cml_tests.specs.Prelude.{asked, unmade, EndsWith};
+ghost use Rattle.cml_tests.specs.{asked, unmade, EndsWith};
 
 use super::rings::Rings;
 use cml_board::{Answer, Board, BoardLog, Call, Name, Refusal, Text};

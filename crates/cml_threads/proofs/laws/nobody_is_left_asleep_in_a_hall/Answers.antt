@@ -1,5 +1,5 @@
 use Rattle.cml_room.proofs.RunningLemmas.{nobody_forgotten}
-use Rattle.cml_threads.specs.Prelude.{room_of}
+use Rattle.cml_threads.specs.{room_of}
 use Rattle.cml_threads.proofs.laws.nobody_is_left_asleep_in_a_hall.Goals as goal
 
 pub returns : goal.returns

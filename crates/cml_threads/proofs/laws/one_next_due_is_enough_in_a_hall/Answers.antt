@@ -1,4 +1,4 @@
-use Rattle.cml_threads.specs.Prelude.{room_of}
+use Rattle.cml_threads.specs.{room_of}
 use Rattle.cml_room.proofs.RunningLemmas.{all_would_wait}
 use Rattle.cml_threads.proofs.laws.one_next_due_is_enough_in_a_hall.Goals as goal
 

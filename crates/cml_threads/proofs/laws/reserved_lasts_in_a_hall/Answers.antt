@@ -1,4 +1,4 @@
-use Rattle.cml_threads.specs.Prelude.{MayAsk, MayAskAgain}
+use Rattle.cml_threads.specs.{MayAsk, MayAskAgain}
 use Rattle.cml_threads.proofs.ReservedLemmas.{hall_lasts, asks_served, hall_lanes_served, hall_feeds_served}
 use Rattle.cml_threads.proofs.laws.reserved_lasts_in_a_hall.Goals as goal
 

@@ -1,8 +1,8 @@
 use Rattle.std.proofs.Common.{rules, arith, ◌<◌, length, ◌++◌, [], ℕ, List, sym, subst, append-nil}
 use Rattle.std.proofs.lemmas.Result.{err_from_is_err_and}
 use Rattle.std.proofs.KnownBytes.{Consumes-nil, Consumes-trans}
-use Rattle.cml_journal.specs.Prelude.{IsSoFar}
-use Rattle.cml.specs.Prelude.{ending_of}
+use Rattle.cml_journal.specs.{IsSoFar}
+use Rattle.cml.specs.{ending_of}
 use Rattle.cml.proofs.EndingsLemmas.{concludes_in_front, concludes_without, concludes_short, concludes_early, concludes_at_end, so_on}
 use Rattle.cml.proofs.check.checking.check_all.Goals as goal
 

@@ -1,6 +1,6 @@
 use Rattle.std.proofs.Common.{◌≡◌, ◌++◌, ℕ, List, length}
 use Rattle.std.specs.Io.KnownBytes.{Consumes}
-use Rattle.cml_journal.specs.Prelude.{IsSoFar}
+use Rattle.cml_journal.specs.{IsSoFar}
 use Rattle.cml.proofs.check.checking.check_all.Given as goal
 
 -- the bytes that were read are checked behind the front

@@ -1,5 +1,5 @@
 use Rattle.std.proofs.Common.{rules, subst, sym}
-use Rattle.cml_journal.specs.Prelude.{IsLawfulJournal}
+use Rattle.cml_journal.specs.{IsLawfulJournal}
 use Rattle.cml.proofs.EndingsLemmas.{told_lawful}
 use Rattle.cml.proofs.check.checking.end_of.Goals as goal
 

@@ -4,7 +4,7 @@ use Rattle.std.specs.Io.KnownBytes.{Consumes}
 use Rattle.std.proofs.KnownBytes.{Consumes-trans}
 use Rattle.std.proofs.lemmas.Result.{err_from_is_err_and, IfErr-weaker}
 use Rattle.cml.specs.declared.check.ending.Ending.TheVariants.{BehindCut}
-use Rattle.cml.specs.Prelude.{EndsInFront, is_behind_cut}
+use Rattle.cml.specs.{EndsInFront, is_behind_cut}
 use Rattle.cml.proofs.EndingsLemmas.{cut_in_front, read_on_from, silent_in_front}
 use Rattle.cml.proofs.check.checking.read_front.Goals as goal
 

@@ -1,7 +1,7 @@
 use Rattle.std.proofs.Common.{rules, ◌≡◌, ◌∙◌, ap, subst, sym, List, ℕ, string_bytes}
 use Rattle.std.proofs.lemmas.Result.{IfOk-weaker}
-use Rattle.cml_board.specs.Prelude.{Shown}
-use Rattle.cml.specs.Prelude.{IsStateOf, state_lines}
+use Rattle.cml_board.specs.Shown.{Shown}
+use Rattle.cml.specs.{IsStateOf, state_lines}
 use Rattle.cml.proofs.EndingsLemmas.{state_restored}
 use Rattle.cml.proofs.check.checking.state_of.Goals as goal
 

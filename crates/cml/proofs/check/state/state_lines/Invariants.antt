@@ -1,5 +1,5 @@
 use Rattle.std.proofs.Common.{◌≡◌, string_bytes}
-use Rattle.cml.specs.Prelude.{object_lines}
+use Rattle.cml.specs.{object_lines}
 use Rattle.cml.proofs.check.state.state_lines.Given as goal
 
 abbrev pub invariant-loop-number : goal.invariant-loop-number

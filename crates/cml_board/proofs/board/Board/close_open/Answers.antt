@@ -1,8 +1,9 @@
 use Rattle.std.proofs.Common.{refl, ◌≡◌, arith, reverse, Some, slice_get, ◌++◌}
 use Rattle.cml_board.specs.declared.call.Call.TheVariants.{ClosePort}
 use Rattle.cml_board.specs.declared.entry.Reply.TheVariants.{Done}
-use Rattle.cml_calls.specs.Prelude.{is_port}
-use Rattle.cml_board.specs.Prelude.{seen_all, open_port, Shown}
+use Rattle.cml_calls.specs.{is_port}
+use Rattle.cml_board.specs.{seen_all, open_port}
+use Rattle.cml_board.specs.Shown.{Shown}
 use Rattle.cml_board.proofs.NotingLemmas.{keeps_at, keeps_call, inside, adds_entry}
 use Rattle.cml_board.proofs.AnsweringLemmas.{fits_by, answer_shut}
 use Rattle.cml_board.proofs.SourcesLemmas.{open_port_told}

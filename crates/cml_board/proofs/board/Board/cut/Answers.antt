@@ -1,5 +1,6 @@
 use Rattle.std.proofs.Common.{◌≡◌, ◌++◌, ap, sym, subst, ◌∙◌}
-use Rattle.cml_board.specs.Prelude.{Lawful, base_of, Shown}
+use Rattle.cml_board.specs.{Lawful, base_of}
+use Rattle.cml_board.specs.Shown.{Shown}
 use Rattle.cml_board.proofs.RenewingLemmas.{next_told}
 use Rattle.cml_board.proofs.board.Board.cut.Goals as goal
 

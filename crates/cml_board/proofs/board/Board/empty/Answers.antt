@@ -1,7 +1,8 @@
 use Rattle.std.proofs.Common.{refl, sym, ap, ◌∙◌, ◌≡◌, reverse, Some, None, arith, ◌++◌}
 use Rattle.std.proofs.lemmas.Option.{same_Some}
 use Rattle.cml_board.specs.declared.entry.Reply.TheVariants.{Got}
-use Rattle.cml_board.specs.Prelude.{asked_call, held, seen_all, HasVariable, Shown}
+use Rattle.cml_board.specs.{asked_call, held, seen_all, HasVariable}
+use Rattle.cml_board.specs.Shown.{Shown}
 use Rattle.cml_board.proofs.NotingLemmas.{keeps_at, keeps_call, inside, adds_entry}
 use Rattle.cml_board.proofs.HoldingLemmas.{look_variable, answer_read, variable_stands, was_held}
 use Rattle.cml_board.proofs.LeavingLemmas.{taken_sets}

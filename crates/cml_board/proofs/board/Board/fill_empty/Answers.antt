@@ -1,7 +1,8 @@
 use Rattle.std.proofs.Common.{refl, ap, subst, reverse, Some, ◌++◌}
 use Rattle.cml_board.specs.declared.call.Call.TheVariants.{Put}
 use Rattle.cml_board.specs.declared.entry.Reply.TheVariants.{Done}
-use Rattle.cml_board.specs.Prelude.{seen_all, HasVariable, SetsHeld, Shown}
+use Rattle.cml_board.specs.{seen_all, HasVariable, SetsHeld}
+use Rattle.cml_board.specs.Shown.{Shown}
 use Rattle.cml_board.proofs.NotingLemmas.{keeps_at, keeps_call, inside}
 use Rattle.cml_board.proofs.HoldingLemmas.{put_variable, answer_filled, variable_stands}
 use Rattle.cml_board.proofs.LeavingLemmas.{filled_sets}

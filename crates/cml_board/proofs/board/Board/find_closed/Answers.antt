@@ -1,6 +1,6 @@
 use Rattle.std.proofs.Common.{refl, arith, reverse, ◌++◌}
 use Rattle.cml_board.specs.declared.entry.Reply.TheVariants.{Closed}
-use Rattle.cml_board.specs.Prelude.{asked_call, seen_all}
+use Rattle.cml_board.specs.{asked_call, seen_all}
 use Rattle.cml_board.proofs.NotingLemmas.{keeps_call, adds_entry}
 use Rattle.cml_board.proofs.AnsweringLemmas.{answer_closed}
 use Rattle.cml_board.proofs.SteppingLemmas.{step_asking}

@@ -1,7 +1,7 @@
 use Rattle.std.proofs.Common.{refl, ap, reverse, ◌++◌}
 use Rattle.cml_board.specs.declared.call.Call.TheVariants as call
 use Rattle.cml_board.specs.declared.entry.Reply.TheVariants.{Put}
-use Rattle.cml_board.specs.Prelude.{seen_all}
+use Rattle.cml_board.specs.{seen_all}
 use Rattle.cml_board.proofs.NotingLemmas.{keeps_call}
 use Rattle.cml_board.proofs.HoldingLemmas.{answer_full}
 use Rattle.cml_board.proofs.LeavingLemmas.{full_spares}

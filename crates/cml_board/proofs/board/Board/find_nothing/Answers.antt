@@ -2,7 +2,7 @@ use Rattle.std.proofs.Common.{refl, reverse, ◌++◌}
 use Rattle.cml_board.specs.declared.call.Call.TheVariants.{Poll}
 use Rattle.cml_board.specs.declared.entry.Reply.TheVariants.{Nothing}
 use Rattle.cml_calls.specs.declared.table.Ask.TheVariants as ask
-use Rattle.cml_board.specs.Prelude.{seen_all}
+use Rattle.cml_board.specs.{seen_all}
 use Rattle.cml_board.proofs.NotingLemmas.{keeps_call}
 use Rattle.cml_board.proofs.AnsweringLemmas.{answer_nothing, fits_taking}
 use Rattle.cml_board.proofs.SteppingLemmas.{step_nothing}

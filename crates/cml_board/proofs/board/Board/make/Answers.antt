@@ -1,7 +1,8 @@
 use Rattle.std.proofs.Common.{◌-◌, refl, ap, ◌∙◌, arith, Some, vec_len, vec_capacity}
 use Rattle.std.proofs.lemmas.List.{length-map}
 use Rattle.cml_board.specs.declared.entry.Reply.TheVariants.{Made}
-use Rattle.cml_board.specs.Prelude.{making_call, map_log, seen_all, Shown, CanMake, HasSource}
+use Rattle.cml_board.specs.{making_call, map_log, seen_all, CanMake, HasSource}
+use Rattle.cml_board.specs.Shown.{Shown}
 use Rattle.cml_board.proofs.NotingLemmas.{board_of, keeps_at, keeps_call, made_name, inside, adds_entry, keeps_same}
 use Rattle.cml_board.proofs.MakingLemmas.{fits_made, answer_made, has_source, step_made}
 use Rattle.cml_board.proofs.board.Board.make.Goals as goal

@@ -2,7 +2,7 @@ use Rattle.std.proofs.Common.{refl, ap, arith, reverse, Some, ◌++◌}
 use Rattle.std.proofs.lemmas.List.{length-map}
 use Rattle.cml_board.specs.declared.call.Call.TheVariants.{MVarInit}
 use Rattle.cml_board.specs.declared.entry.Reply.TheVariants.{Made}
-use Rattle.cml_board.specs.Prelude.{map_log, seen_all}
+use Rattle.cml_board.specs.{map_log, seen_all}
 use Rattle.cml_board.proofs.NotingLemmas.{keeps_call, made_name, keeps_same}
 use Rattle.cml_board.proofs.SettingLemmas.{step_full}
 use Rattle.cml_board.proofs.board.Board.make_full.Goals as goal

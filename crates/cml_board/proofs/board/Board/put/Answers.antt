@@ -1,7 +1,8 @@
 use Rattle.std.proofs.Common.{refl, sym, ap, ◌∙◌, reverse, arith, ◌++◌}
 use Rattle.std.proofs.lemmas.Option.{none-some}
 use Rattle.cml_board.specs.declared.entry.Reply.TheVariants.{Done}
-use Rattle.cml_board.specs.Prelude.{given_call, seen_all, HasRoomAt, HasLog, Shown}
+use Rattle.cml_board.specs.{given_call, seen_all, HasRoomAt, HasLog}
+use Rattle.cml_board.specs.Shown.{Shown}
 use Rattle.cml_board.proofs.NotingLemmas.{keeps_at, keeps_call, keeps_same, as_before, inside, adds_entry}
 use Rattle.cml_board.proofs.AnsweringLemmas.{answer_put}
 use Rattle.cml_board.proofs.SourcesLemmas.{put_stands}

@@ -1,6 +1,6 @@
 use Rattle.std.proofs.Common.{refl, sym, ap, ◌∙◌, reverse, Some, arith, ◌++◌}
 use Rattle.cml_board.specs.declared.entry.Reply.TheVariants.{Got}
-use Rattle.cml_board.specs.Prelude.{asked_call, seen_all}
+use Rattle.cml_board.specs.{asked_call, seen_all}
 use Rattle.cml_board.proofs.NotingLemmas.{keeps_call, as_before, adds_entry, denied}
 use Rattle.cml_board.proofs.HoldingLemmas.{look_variable, answer_read}
 use Rattle.cml_board.proofs.LeavingLemmas.{read_spares, read_leaves}

@@ -2,7 +2,8 @@ use Rattle.std.proofs.Common.{refl, sym, ap, subst, ◌∙◌, ◌≡◌, revers
 use Rattle.std.proofs.lemmas.Option.{same_Some}
 use Rattle.cml_board.specs.declared.call.Call.TheVariants.{Swap}
 use Rattle.cml_board.specs.declared.entry.Reply.TheVariants.{Got}
-use Rattle.cml_board.specs.Prelude.{held, seen_all, HasVariable, SetsHeld, Shown}
+use Rattle.cml_board.specs.{held, seen_all, HasVariable, SetsHeld}
+use Rattle.cml_board.specs.Shown.{Shown}
 use Rattle.cml_board.proofs.NotingLemmas.{keeps_at, keeps_call, inside, adds_entry}
 use Rattle.cml_board.proofs.HoldingLemmas.{swap_variable, answer_swapped, variable_stands, was_held}
 use Rattle.cml_board.proofs.LeavingLemmas.{swapped_sets}

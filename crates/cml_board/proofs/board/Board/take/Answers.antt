@@ -1,6 +1,7 @@
 use Rattle.std.proofs.Common.{refl, sym, ap, ◌∙◌, reverse, Some, arith, ◌++◌}
 use Rattle.cml_board.specs.declared.entry.Reply.TheVariants.{Got}
-use Rattle.cml_board.specs.Prelude.{asked_call, owed, HasOwed, seen_all, ReadsAt, Shown}
+use Rattle.cml_board.specs.{asked_call, owed, HasOwed, seen_all, ReadsAt}
+use Rattle.cml_board.specs.Shown.{Shown}
 use Rattle.cml_board.proofs.NotingLemmas.{keeps_call, as_before, inside, adds_entry, unchanged, denied}
 use Rattle.cml_board.proofs.AnsweringLemmas.{answer_taken, some_owed, fits_taking}
 use Rattle.cml_board.proofs.LookingLemmas.{reads_owed, first_owed}

@@ -1,5 +1,5 @@
 use Rattle.std.proofs.Common.{◌≡◌, sym, subst}
-use Rattle.cml_board.specs.Prelude.{Shown}
+use Rattle.cml_board.specs.Shown.{Shown}
 use Rattle.cml_board.proofs.LimitingLemmas.{keeps_limit}
 use Rattle.cml_board.proofs.board.Board.with_limit.Goals as goal
 

@@ -1,6 +1,6 @@
 use Rattle.std.proofs.Common.{◌<◌, length, ap, subst, ◌∙◌, arith}
-use Rattle.cml_log.specs.Prelude.{place_of}
-use Rattle.cml_board.specs.Prelude.{seen_all, AddsPort}
+use Rattle.cml_log.specs.{place_of}
+use Rattle.cml_board.specs.{seen_all, AddsPort}
 use Rattle.cml_board.proofs.ListLemmas.{on_err_given}
 use Rattle.cml_board.proofs.PlacingLemmas.{seen_kept, adds_port, log_within}
 use Rattle.cml_board.proofs.board.objects.add_copy.Goals as goal

@@ -1,4 +1,4 @@
-use Rattle.cml_board.specs.Prelude.{advanced}
+use Rattle.cml_board.specs.{advanced}
 use Rattle.cml_board.proofs.PlacingLemmas.{seen_set, log_within}
 use Rattle.cml_board.proofs.board.objects.advance_at.Goals as goal
 

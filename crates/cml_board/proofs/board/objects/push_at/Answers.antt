@@ -1,5 +1,5 @@
 use Rattle.std.proofs.lemmas.Result.{on_ok_weaker, on_err_weaker}
-use Rattle.cml_board.specs.Prelude.{pushed}
+use Rattle.cml_board.specs.{pushed}
 use Rattle.cml_board.proofs.PlacingLemmas.{seen_set, seen_kept, log_within}
 use Rattle.cml_board.proofs.board.objects.push_at.Goals as goal
 

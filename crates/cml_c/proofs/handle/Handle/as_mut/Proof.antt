@@ -14,7 +14,7 @@ use denote.Memory.{part_of}
 use denote.Follow.{follows, lends_Part}
 use Rattle.std.specs.contracts.alloc.Global.{the_row as Heap}
 use Rattle.std.specs.contracts.impls.GlobalAllocator.TheImpl.{ghosts}
-use Rattle.cml_c.specs.Prelude.{Kept, with_kept}
+use Rattle.cml_c.specs.{Kept, with_kept}
 use Rattle.std_alloc.proofs.BoxSteps.Form as box
 use Rattle.std_alloc.proofs.BoxSteps.Steps.{box_out, box_in}
 use Rattle.cml_c.specs.contracts.handle.Handle.{the_row}

@@ -3,7 +3,7 @@ use Rattle.std.specs.Str.{bytes_eq}
 use Rattle.std.proofs.lemmas.Iterator.{YieldsList-from_slice}
 use Rattle.std.proofs.lemmas.Iterator.Search.{find_from_yields_List}
 use borrow.Author.Tests.{tests}
-use Rattle.cml_calls.specs.Prelude.{Ask, asked, asks}
+use Rattle.cml_calls.specs.{Ask, asked, asks}
 use Rattle.cml_calls.proofs.table.Ask.of_word.Goals as goal
 
 pub returns : goal.returns

@@ -2,7 +2,7 @@ use Rattle.std.proofs.Common.{rules, ◌∙◌, ◌==◌}
 use Rattle.std.proofs.lemmas.Iterator.{YieldsList-from_slice}
 use Rattle.std.proofs.lemmas.Iterator.Search.{find_from_yields_List}
 use borrow.Author.Tests.{tests}
-use Rattle.cml_calls.specs.Prelude.{Make, made, makes}
+use Rattle.cml_calls.specs.{Make, made, makes}
 use Rattle.cml_calls.proofs.table.Make.of_number.Goals as goal
 
 pub returns : goal.returns

@@ -3,8 +3,8 @@ use Rattle.std.specs.List.{list_any}
 use Rattle.std.proofs.lemmas.Iterator.{YieldsList-from_slice}
 use Rattle.std.proofs.lemmas.Iterator.Search.{any_from_yields_List}
 use borrow.Author.Tests.{tests}
-use Rattle.cml_calls.specs.Prelude.{ReplyKind}
-use Rattle.cml_chart.specs.Prelude.{says}
+use Rattle.cml_calls.specs.{ReplyKind}
+use Rattle.cml_chart.specs.{says}
 use Rattle.cml_chart.proofs.report.lines.may_answer.Goals as goal
 
 pub returns : goal.returns

@@ -1,5 +1,5 @@
 use Rattle.std.proofs.Common.{subst, sym, arith}
-use Rattle.cml_chart.specs.Prelude.{so_far, IsFaultOf}
+use Rattle.cml_chart.specs.{so_far, IsFaultOf}
 use Rattle.cml_chart.proofs.ReadingLemmas.{reads_on, stops}
 use Rattle.cml_chart.proofs.report.reading.read_report.Goals as goal
 

@@ -1,6 +1,6 @@
 use Rattle.std.proofs.Common.{◌≡◌, ◌≤◌, ◌+◌, length}
-use Rattle.cml_grammar.specs.Prelude.{parts_of}
-use Rattle.cml_chart.specs.Prelude.{told, told_from, so_far, line_count}
+use Rattle.cml_grammar.specs.{parts_of}
+use Rattle.cml_chart.specs.{told, told_from, so_far, line_count}
 use Rattle.cml_chart.proofs.report.reading.read_report.Given as goal
 
 abbrev pub invariant-loop-line : goal.invariant-loop-line

@@ -1,5 +1,5 @@
 use Rattle.std.proofs.Common.{List, [], ◌∷◌, ◌++◌, ap, ◌∙◌}
-use Rattle.cml_grammar.specs.Prelude.{Declaration, declaration, named_by}
+use Rattle.cml_grammar.specs.{Declaration, declaration, named_by}
 use Rattle.cml_grammar.proofs.ReadingLemmas.{kept_suits}
 use Rattle.cml_grammar.proofs.ClosingLemmas.{declared_closes, declared_scopes}
 use Rattle.cml_grammar.proofs.reading.Reading.declare.Goals as goal

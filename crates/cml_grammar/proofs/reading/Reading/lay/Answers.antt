@@ -1,5 +1,5 @@
 use Rattle.std.proofs.Common.{ℕ, List, [], ◌∷◌, ◌++◌, map, Bor, string_bytes, sym, ap, ◌∙◌, subst}
-use Rattle.cml_grammar.specs.Prelude.{Line, Lane, words_of, lane, after_words, scope_of}
+use Rattle.cml_grammar.specs.{Line, Lane, words_of, lane, after_words, scope_of}
 use Rattle.cml_grammar.proofs.ReadingLemmas.{ReadFrom, kept_suits}
 use Rattle.cml_grammar.proofs.DeclaredLaneLemmas.{laid_closes, laid_scopes}
 use Rattle.cml_grammar.proofs.reading.Reading.lay.Goals.{After-lane_by-lane}

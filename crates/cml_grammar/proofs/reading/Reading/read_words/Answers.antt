@@ -1,6 +1,6 @@
 use Rattle.std.proofs.Common.{◌≡◌, ℕ, ◌==◌, not, List, map, Bor, inr, refl, sym, ap, ◌∙◌}
 use Rattle.std.specs.Map.{keys_of}
-use Rattle.cml_grammar.specs.Prelude.{words_of, has_empty_word, form_of, fault_in_words, scope_of, texts_of, shown}
+use Rattle.cml_grammar.specs.{words_of, has_empty_word, form_of, fault_in_words, scope_of, texts_of, shown}
 use Rattle.cml_grammar.proofs.ReadingLemmas.{fault_found, nothing_left, whichever}
 use Rattle.cml_grammar.proofs.reading.Reading.read_words.Goals.{After-fault_in_form}
 use Rattle.cml_grammar.proofs.reading.Reading.read_words.Goals as goal

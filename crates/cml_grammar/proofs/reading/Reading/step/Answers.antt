@@ -1,6 +1,6 @@
 use Rattle.std.proofs.Common.{ℕ, List, [], ◌∷◌, ◌++◌, Bor, sym, ap, ◌∙◌}
 use Rattle.std.specs.Option.{option_map}
-use Rattle.cml_grammar.specs.Prelude.{Step, step}
+use Rattle.cml_grammar.specs.{Step, step}
 use Rattle.cml_grammar.proofs.ReadingLemmas.{kept_suits}
 use Rattle.cml_grammar.proofs.ClosingLemmas.{asked_closes, giving_closes, asked_scopes}
 use Rattle.cml_grammar.proofs.reading.Reading.step.Goals as goal

@@ -3,7 +3,7 @@ use Rattle.std.specs.Option.{option_map}
 use Rattle.std.proofs.lemmas.Iterator.{YieldsList-from_slice}
 use Rattle.std.proofs.lemmas.Iterator.Search.{find_from_yields_List}
 use borrow.Author.Tests.{tests}
-use Rattle.cml_grammar.specs.Prelude.{Declaration, makes_feed, first_feed}
+use Rattle.cml_grammar.specs.{Declaration, makes_feed, first_feed}
 use Rattle.cml_grammar.proofs.RingLemmas.{behind, feed_number}
 use Rattle.cml_grammar.proofs.script.Script.first_feed.Goals.{After-find}
 use Rattle.cml_grammar.proofs.script.Script.first_feed.Goals as goal

@@ -1,7 +1,7 @@
 use Rattle.std.proofs.Common.{sym, ap, ◌∙◌, subst, Option, ℕ}
 use Rattle.std.specs.Map.{lookup}
 use Rattle.std.specs.Option.{IfSome}
-use Rattle.cml_grammar.specs.Prelude.{Ends, are_same, Lines, names_of, capacity_of, IsCapacity}
+use Rattle.cml_grammar.specs.{Ends, are_same, Lines, names_of, capacity_of, IsCapacity}
 use Rattle.cml_grammar.proofs.GrowingLemmas.{capacity_kept}
 use Rattle.cml_grammar.proofs.RingLemmas.{kept_fits}
 use Rattle.cml_grammar.proofs.script.Script.lane_of.Goals as goal

@@ -1,5 +1,5 @@
 use Rattle.std.proofs.Common.{All, sym, subst}
-use Rattle.cml_grammar.specs.Prelude.{Lines, names_of, ReadsLane}
+use Rattle.cml_grammar.specs.{Lines, names_of, ReadsLane}
 use Rattle.cml_grammar.proofs.script.Script.lanes.Goals as goal
 
 pub returns-clause-said : goal.returns-clause-said

@@ -1,5 +1,5 @@
 use Rattle.std.proofs.Common.{All, sym, subst}
-use Rattle.cml_grammar.specs.Prelude.{Lines, names_of, ReadsStep}
+use Rattle.cml_grammar.specs.{Lines, names_of, ReadsStep}
 use Rattle.cml_grammar.proofs.script.Script.steps.Goals as goal
 
 pub returns-clause-asked : goal.returns-clause-asked

@@ -1,5 +1,5 @@
 use Rattle.std.proofs.Common.{slice_get, subst, sym, Some}
-use Rattle.cml_journal.specs.Prelude.{Progress, HaltsIn}
+use Rattle.cml_journal.specs.{Progress, HaltsIn}
 use Rattle.cml_journal.proofs.CheckLemmas.{halts_on}
 use Rattle.cml_journal.proofs.check.Check.advance.Goals as goal
 

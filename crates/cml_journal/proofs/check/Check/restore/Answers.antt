@@ -1,5 +1,5 @@
 use Rattle.std.proofs.Common.{slice_get, rules}
-use Rattle.cml_journal.specs.Prelude.{Progress}
+use Rattle.cml_journal.specs.{Progress}
 use Rattle.cml_journal.proofs.CheckLemmas.{anew, nothing_so_far}
 use Rattle.cml_journal.proofs.check.Check.restore.Goals as goal
 

@@ -1,7 +1,7 @@
 use Rattle.std.proofs.Common.{◌≡◌, ℕ, ◌+◌, ◌%◌, ◌^◌, [], Option, OnSome, slice_get, ap, subst, ◌∙◌, refl}
-use Rattle.cml_board.specs.Prelude.{Entry}
+use Rattle.cml_board.specs.{Entry}
 use Rattle.std.proofs.lemmas.Result.{err_from_is_err_and}
-use Rattle.cml_journal.specs.Prelude.{Progress}
+use Rattle.cml_journal.specs.{Progress}
 use Rattle.cml_journal.proofs.CheckLemmas.{goes_past_line, goes_past_entry_to, halts_at_fault, halts_at_entry, lists_found}
 use Rattle.cml_journal.proofs.check.Check.take_line.Goals as goal
 

@@ -1,5 +1,5 @@
 use Rattle.std.proofs.Common.{◌≡◌, ◌++◌, ℕ, List, length}
-use Rattle.cml_journal.specs.Prelude.{Goes}
+use Rattle.cml_journal.specs.{Goes}
 use Rattle.cml_journal.proofs.check.Check.take_lines.Given as goal
 
 abbrev pub invariant-loop-rest : goal.invariant-loop-rest

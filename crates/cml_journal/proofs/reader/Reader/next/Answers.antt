@@ -1,6 +1,6 @@
 use Rattle.std.proofs.Common.{ℕ, ◌∷◌, ◌++◌, [], List, ap, sym, subst, ◌∙◌, append_assoc}
 use Rattle.std.proofs.lemmas.Result.{err_from_is_err_and}
-use Rattle.cml_journal.specs.Prelude.{Meets}
+use Rattle.cml_journal.specs.{Meets}
 use Rattle.cml_journal.proofs.FeedLemmas.{reading-held, alone, fault_held, fault_front, fault_turned, taken_line}
 use Rattle.cml_journal.proofs.LineEndsLemmas.{nothing_left}
 use Rattle.cml_journal.proofs.reader.Reader.next.Goals as goal

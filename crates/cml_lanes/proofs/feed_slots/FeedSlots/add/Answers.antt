@@ -1,7 +1,7 @@
 use Rattle.std.proofs.Common.{ap, ◌∙◌, sym, not, cond, [], ◌∷◌, ◌++◌, Some}
 use Rattle.cml_board.proofs.ListLemmas.{on_ok}
-use Rattle.cml_board.specs.Prelude.{Name}
-use Rattle.cml_lanes.specs.Prelude.{SlotsShown, is_feeds_port}
+use Rattle.cml_board.specs.{Name}
+use Rattle.cml_lanes.specs.{SlotsShown, is_feeds_port}
 use Rattle.cml_lanes.proofs.FeedPlacesLemmas.{add_ports}
 use Rattle.cml_lanes.proofs.feed_slots.FeedSlots.add.Goals as goal
 

@@ -1,5 +1,5 @@
 use Rattle.std.proofs.Common.{ap, ◌∙◌}
-use Rattle.cml_lanes.specs.Prelude.{SlotsShown, is_barred}
+use Rattle.cml_lanes.specs.{SlotsShown, is_barred}
 use Rattle.cml_lanes.proofs.PortsLemmas.{none_barred}
 use Rattle.cml_lanes.proofs.feed_slots.FeedSlots.bars.Goals as goal
 

@@ -1,5 +1,5 @@
 use Rattle.std.proofs.Common.{ap}
-use Rattle.cml_lanes.specs.Prelude.{SlotsShown}
+use Rattle.cml_lanes.specs.{SlotsShown}
 use Rattle.cml_lanes.proofs.FeedPlacesLemmas.{end_ports, end_given}
 use Rattle.cml_lanes.proofs.feed_slots.FeedSlots.end.Goals as goal
 

@@ -1,5 +1,5 @@
 use Rattle.std.proofs.Common.{ap}
-use Rattle.cml_lanes.specs.Prelude.{SlotsShown}
+use Rattle.cml_lanes.specs.{SlotsShown}
 use Rattle.cml_lanes.proofs.OneSlotLemmas.{slot_here, side_here, on_place}
 use Rattle.cml_lanes.proofs.FeedPlacesLemmas.{pump_ports}
 use Rattle.cml_lanes.proofs.feed_slots.FeedSlots.pump.Goals as goal

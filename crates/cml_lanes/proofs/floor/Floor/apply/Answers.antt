@@ -1,5 +1,5 @@
 use Rattle.std.proofs.Common.{ap, sym, ◌∙◌}
-use Rattle.cml_lanes.specs.Prelude.{FloorShown}
+use Rattle.cml_lanes.specs.{FloorShown}
 use Rattle.cml_lanes.proofs.KeptLanesLemmas.{applied_keeps}
 use Rattle.cml_lanes.proofs.KeptFeedsLemmas.{applied_keeps_feeds}
 use Rattle.cml_lanes.proofs.EachRingLemmas.{same_rings}

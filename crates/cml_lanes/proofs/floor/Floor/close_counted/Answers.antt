@@ -1,5 +1,5 @@
 use Rattle.std.proofs.Common.{ap, is_some, sym, ◌∙◌, length}
-use Rattle.cml_lanes.specs.Prelude.{laned, FloorShown}
+use Rattle.cml_lanes.specs.{laned, FloorShown}
 use Rattle.cml_lanes.proofs.OneLaneLemmas.{until_none, empties_off}
 use Rattle.cml_lanes.proofs.floor.Floor.close_counted.Goals as goal
 

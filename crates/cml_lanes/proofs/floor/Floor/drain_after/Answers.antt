@@ -1,5 +1,5 @@
 use Rattle.std.proofs.Common.{slice_get, sym, ap, ◌∙◌}
-use Rattle.cml_lanes.specs.Prelude.{FloorShown, is_open_lane, stays, DrainsUntil}
+use Rattle.cml_lanes.specs.{FloorShown, is_open_lane, stays, DrainsUntil}
 use Rattle.cml_lanes.proofs.OneLaneLemmas.{floor_drained, on_lane, drained_rings, gives_all}
 use Rattle.cml_lanes.proofs.floor.Floor.drain_after.Goals as goal
 

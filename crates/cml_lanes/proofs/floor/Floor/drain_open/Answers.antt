@@ -1,5 +1,5 @@
 use Rattle.std.proofs.Common.{ap, ◌∙◌}
-use Rattle.cml_lanes.specs.Prelude.{FloorShown, is_open_lane, stays, DrainsUntil}
+use Rattle.cml_lanes.specs.{FloorShown, is_open_lane, stays, DrainsUntil}
 use Rattle.cml_lanes.proofs.OneLaneLemmas.{floor_drained, on_lane, drained_rings}
 use Rattle.cml_lanes.proofs.floor.Floor.drain_open.Goals as goal
 

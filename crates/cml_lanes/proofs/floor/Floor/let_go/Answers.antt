@@ -1,5 +1,5 @@
 use Rattle.std.proofs.Common.{subst, sym, ap, ◌∙◌}
-use Rattle.cml_lanes.specs.Prelude.{FloorShown, is_open_lane, KeepsLanes}
+use Rattle.cml_lanes.specs.{FloorShown, is_open_lane, KeepsLanes}
 use Rattle.cml_lanes.proofs.KeptLanesLemmas.{let_go_keeps}
 use Rattle.cml_lanes.proofs.OneLaneLemmas.{gone_rings}
 use Rattle.cml_lanes.proofs.floor.Floor.let_go.Goals as goal

@@ -1,5 +1,5 @@
 use Rattle.std.proofs.Common.{length, sym, ap, ◌∙◌}
-use Rattle.cml_lanes.specs.Prelude.{laned, FloorShown, is_open_lane}
+use Rattle.cml_lanes.specs.{laned, FloorShown, is_open_lane}
 use Rattle.cml_lanes.proofs.SlotsLemmas.{taken_slot}
 use Rattle.cml_lanes.proofs.floor.Floor.moved_count.Goals as goal
 

@@ -1,5 +1,5 @@
 use Rattle.std.proofs.Common.{rules, ap, ◌∙◌}
-use Rattle.cml_lanes.specs.Prelude.{FeedSide, is_feeds_port}
+use Rattle.cml_lanes.specs.{FeedSide, is_feeds_port}
 use Rattle.cml_lanes.proofs.FeedOpensLemmas.{own_new_port, feed_opened_keeps, feed_opened_rings}
 use Rattle.cml_lanes.proofs.floor.Floor.open_feed.Goals as goal
 

@@ -1,7 +1,7 @@
 use Rattle.std.proofs.Common.{sym, ap, ◌∙◌, Some}
-use Rattle.cml_board.specs.Prelude.{kind_of}
+use Rattle.cml_board.specs.{kind_of}
 use Rattle.cml_board.proofs.ListLemmas.{on_ok}
-use Rattle.cml_lanes.specs.Prelude.{LaneSide, way_kind}
+use Rattle.cml_lanes.specs.{LaneSide, way_kind}
 use Rattle.cml_lanes.proofs.OpensLemmas.{opened_keeps, opened_rings}
 use Rattle.cml_lanes.proofs.floor.Floor.open_lane.Goals as goal
 

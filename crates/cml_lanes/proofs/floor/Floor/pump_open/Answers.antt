@@ -1,4 +1,4 @@
-use Rattle.cml_lanes.specs.Prelude.{stays, PumpsUntil}
+use Rattle.cml_lanes.specs.{stays, PumpsUntil}
 use Rattle.cml_lanes.proofs.OneFeedLemmas.{open_feed_slot, floor_pumped, on_feed, pumped_rings}
 use Rattle.cml_lanes.proofs.floor.Floor.pump_open.Goals as goal
 

@@ -1,5 +1,5 @@
 use Rattle.std.proofs.Common.{ap}
-use Rattle.cml_lanes.specs.Prelude.{FloorShown}
+use Rattle.cml_lanes.specs.{FloorShown}
 use Rattle.cml_lanes.proofs.EachRingLemmas.{same_rings}
 use Rattle.cml_lanes.proofs.floor.Floor.take_journal.Goals as goal
 

@@ -1,5 +1,5 @@
 use Rattle.std.proofs.Common.{◌≡◌, IfSome, subst, sym}
-use Rattle.cml_lanes.specs.Prelude.{LaneSide, LeavesAll}
+use Rattle.cml_lanes.specs.{LaneSide, LeavesAll}
 use Rattle.cml_lanes.proofs.OneSlotLemmas.{slot_here, side_here, on_place, as_many_placed, placed_holds}
 use Rattle.cml_lanes.proofs.lane_slots.LaneSlots.drain_after.Goals as goal
 

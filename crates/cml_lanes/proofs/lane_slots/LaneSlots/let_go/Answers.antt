@@ -1,5 +1,5 @@
 use Rattle.std.proofs.Common.{ap, ◌∙◌, arith, List, Option, slice_get}
-use Rattle.cml_lanes.specs.Prelude.{LaneSide, is_taken}
+use Rattle.cml_lanes.specs.{LaneSide, is_taken}
 use Rattle.cml_lanes.proofs.SlotsLemmas.{taken_slot, one_taken_less}
 use Rattle.cml_lanes.proofs.lane_slots.LaneSlots.let_go.Goals as goal
 

@@ -1,6 +1,6 @@
 use Rattle.std.proofs.Common.{◌≡◌, length, sym, ap, ◌∙◌}
 use Rattle.std.proofs.lemmas.Option.{same_Some}
-use Rattle.cml_lanes.specs.Prelude.{LaneSide}
+use Rattle.cml_lanes.specs.{LaneSide}
 use Rattle.cml_lanes.proofs.OneSlotLemmas.{side_here}
 use Rattle.cml_lanes.proofs.lane_slots.LaneSlots.moved_count.Goals as goal
 

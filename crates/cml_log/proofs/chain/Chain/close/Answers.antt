@@ -1,6 +1,6 @@
 use Rattle.std.proofs.Common.{◌≤◌, ◌/◌, sym, subst, arith}
 use Rattle.std.proofs.lemmas.Bool.{ltb-false}
-use Rattle.cml_log.specs.Prelude.{IsBare, end_of}
+use Rattle.cml_log.specs.{IsBare, end_of}
 use Rattle.cml_log.proofs.BlockLemmas.{IsBare-gone}
 use Rattle.cml_log.proofs.ChainLemmas.{end_shown, gone_with_head}
 use Rattle.cml_log.proofs.chain.Chain.close.Goals as goal

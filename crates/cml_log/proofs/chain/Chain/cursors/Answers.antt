@@ -1,5 +1,5 @@
 use Rattle.std.proofs.Common.{sym, ap, subst, ◌∙◌, arith}
-use Rattle.cml_log.specs.Prelude.{LiesAt, count_of, count_at}
+use Rattle.cml_log.specs.{LiesAt, count_of, count_at}
 use Rattle.cml_log.proofs.BlockLemmas.{kept_where_lies, cell_shows}
 use Rattle.cml_log.proofs.chain.Chain.cursors.Goals as goal
 

@@ -1,6 +1,6 @@
 use Rattle.std.proofs.Common.{◌+◌, ◌/◌, sym, ap, ◌∙◌, arith}
 use Rattle.std.proofs.lemmas.Bool.{ltb-true}
-use Rattle.cml_log.specs.Prelude.{end_of}
+use Rattle.cml_log.specs.{end_of}
 use Rattle.cml_log.proofs.PassedLemmas.{end_of-passed}
 use Rattle.cml_log.proofs.chain.Chain.drop.Goals as goal
 

@@ -1,5 +1,5 @@
 use Rattle.std.proofs.Common.{◌-◌, ◌/◌}
-use Rattle.cml_log.specs.Prelude.{end_of}
+use Rattle.cml_log.specs.{end_of}
 use Rattle.cml_log.proofs.chain.Chain.drop.Given as goal
 
 abbrev pub invariant-loop-chain : goal.invariant-loop-chain

@@ -1,5 +1,5 @@
 use Rattle.std.proofs.Common.{subst}
-use Rattle.cml_log.specs.Prelude.{LiesAt}
+use Rattle.cml_log.specs.{LiesAt}
 use Rattle.cml_log.proofs.BlockLemmas.{lies_where_kept}
 use Rattle.cml_log.proofs.chain.Chain.end.Goals as goal
 

@@ -1,5 +1,5 @@
 use Rattle.std.proofs.Common.{◌<◌, ◌/◌, map, unwrap_or, sym, ap, subst, ◌∙◌, arith}
-use Rattle.cml_log.specs.Prelude.{cell_of, LiesAt, end_of}
+use Rattle.cml_log.specs.{cell_of, LiesAt, end_of}
 use Rattle.cml_log.proofs.BlockLemmas.{kept_where_lies}
 use Rattle.cml_log.proofs.ChainLemmas.{end_shown, link_leads}
 use Rattle.cml_log.proofs.chain.Chain.follow.Goals as goal

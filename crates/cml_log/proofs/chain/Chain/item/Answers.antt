@@ -1,6 +1,6 @@
 use Rattle.std.proofs.Common.{◌-◌, ◌*◌, drop, sym, ap, subst, ◌∙◌, arith}
 use Rattle.std.specs.List.{slice_get}
-use Rattle.cml_log.specs.Prelude.{LiesAt}
+use Rattle.cml_log.specs.{LiesAt}
 use Rattle.cml_log.proofs.BlockLemmas.{kept_where_lies}
 use Rattle.cml_log.proofs.ChainLemmas.{item_shown}
 use Rattle.cml_log.proofs.chain.Chain.item.Goals as goal

@@ -1,5 +1,5 @@
 use Rattle.std.proofs.Common.{◌+◌, ◌++◌, ◌∷◌, [], Some, None, map, ap, ◌∙◌, arith}
-use Rattle.cml_log.specs.Prelude.{items_of, cell_of}
+use Rattle.cml_log.specs.{items_of, cell_of}
 use Rattle.cml_log.proofs.ChainLemmas.{IsChain-one}
 use Rattle.cml_log.proofs.chain.Chain.new.Goals as goal
 

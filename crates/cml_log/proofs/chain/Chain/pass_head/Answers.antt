@@ -1,5 +1,5 @@
 use Rattle.std.proofs.Common.{◌≡◌, ◌<◌, ◌/◌, sym, ap, subst, ◌∙◌, arith}
-use Rattle.cml_log.specs.Prelude.{LiesAt, end_of}
+use Rattle.cml_log.specs.{LiesAt, end_of}
 use Rattle.cml_log.proofs.BlockLemmas.{lies_where_kept}
 use Rattle.cml_log.proofs.chain.Chain.pass_head.Goals as goal
 

@@ -1,5 +1,5 @@
 use Rattle.std.proofs.Common.{◌<◌, ◌/◌, refl, sym, ap, subst, ◌∙◌, arith}
-use Rattle.cml_log.specs.Prelude.{IsChain, LiesAt, end_of, passed}
+use Rattle.cml_log.specs.{IsChain, LiesAt, end_of, passed}
 use Rattle.cml_log.proofs.BlockLemmas.{kept_where_lies}
 use Rattle.cml_log.proofs.ChainLemmas.{shown, shown-at, IsChain-at, end_shown, IsChain-without, shown-without}
 use Rattle.cml_log.proofs.chain.Chain.pass_head_to.Goals as goal

@@ -1,5 +1,5 @@
 use Rattle.std.proofs.Common.{◌≡◌, ◌+◌, ◌/◌, true, sym, ap, subst, ◌∙◌, arith}
-use Rattle.cml_log.specs.Prelude.{end_of, is_idle, Passed}
+use Rattle.cml_log.specs.{end_of, is_idle, Passed}
 use Rattle.cml_log.proofs.PassedLemmas.{idle_before, end_of-passed, Passed-more}
 use Rattle.cml_log.proofs.chain.Chain.pass_idle.Goals as goal
 

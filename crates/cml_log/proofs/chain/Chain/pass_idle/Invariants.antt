@@ -1,5 +1,5 @@
 use Rattle.std.proofs.Common.{◌-◌, ◌/◌}
-use Rattle.cml_log.specs.Prelude.{end_of, Passed}
+use Rattle.cml_log.specs.{end_of, Passed}
 use Rattle.cml_log.proofs.chain.Chain.pass_idle.Given as goal
 
 abbrev pub invariant-loop-self : goal.invariant-loop-self

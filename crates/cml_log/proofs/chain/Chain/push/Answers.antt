@@ -1,5 +1,5 @@
 use Rattle.std.proofs.Common.{◌<◌, [], refl, sym, ap, subst, ◌∙◌, arith}
-use Rattle.cml_log.specs.Prelude.{end_of, Pushed}
+use Rattle.cml_log.specs.{end_of, Pushed}
 use Rattle.cml_log.proofs.ChainLemmas.{shown, shown-at, IsChain-at, end_shown, slot_is, within, IsChain-pushed, Pushed-within}
 use Rattle.cml_log.proofs.ChainLemmas.{tail_grown, slot_grown, tail_written, IsChain-grown, Pushed-grown}
 use Rattle.cml_log.proofs.chain.Chain.push.Goals as goal

@@ -1,5 +1,5 @@
 use Rattle.std.proofs.Common.{sym, ap, subst, ◌∙◌, arith}
-use Rattle.cml_log.specs.Prelude.{LiesAt, with_count}
+use Rattle.cml_log.specs.{LiesAt, with_count}
 use Rattle.cml_log.proofs.BlockLemmas.{kept_where_lies}
 use Rattle.cml_log.proofs.ChainLemmas.{IsChain-at, shown-at, IsChain-recounted, shown-recounted}
 use Rattle.cml_log.proofs.chain.Chain.set_cursors.Goals as goal

@@ -1,6 +1,5 @@
 use Rattle.std.proofs.Common.{◌≡◌, ◌+◌, ◌-◌, ◌<◌, ◌≤◌, Some, length, true, sym, ap, subst, ◌∙◌, arith}
-use Rattle.cml_log.specs.Prelude.{IsOpen, owed_items, place_of, trimmed, with_place, LiesAt, count_at, end_of, is_idle, with_count, IsTrim}
-use Rattle.cml_log.specs.Prelude.{log_of}
+use Rattle.cml_log.specs.{IsOpen, owed_items, place_of, trimmed, with_place, LiesAt, count_at, end_of, is_idle, with_count, IsTrim, log_of}
 use Rattle.cml_log.proofs.LogLemmas.{place_of-owed}
 use Rattle.cml_log.proofs.CursorsLemmas.{chunk_of-within, entered, IsTidy-shown, place_shown, lies-recounted}
 use Rattle.cml_log.proofs.ChunkLogLemmas.{before_end, room_next, moved_trim, moved_log, next_after, stood_trim, stood_log}

@@ -1,5 +1,5 @@
 use Rattle.std.proofs.Common.{None, sym, ap, ◌∙◌, arith}
-use Rattle.cml_log.specs.Prelude.{trimmed, with_place, log_of}
+use Rattle.cml_log.specs.{trimmed, with_place, log_of}
 use Rattle.cml_log.proofs.CursorsLemmas.{chunk_of-within, entered}
 use Rattle.cml_log.proofs.ChunkLogLemmas.{closed_trim, closed_log}
 use Rattle.cml_log.proofs.chunk_log.ChunkLogMessageLog.close_cursor.Goals as goal

@@ -1,5 +1,5 @@
 use Rattle.std.proofs.Common.{◌≡◌, ◌+◌, ◌≤◌, count_by, is_some, sym, ap, subst, ◌∙◌, arith}
-use Rattle.cml_log.specs.Prelude.{place_of, Opens, cursor_at, log_of}
+use Rattle.cml_log.specs.{place_of, Opens, cursor_at, log_of}
 use Rattle.cml_log.proofs.StandingLemmas.{standing-le}
 use Rattle.cml_log.proofs.CursorsLemmas.{place_shown}
 use Rattle.cml_log.proofs.ChunkLogLemmas.{opened_trim, opened_log}

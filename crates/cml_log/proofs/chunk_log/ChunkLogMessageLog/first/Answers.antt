@@ -1,5 +1,5 @@
 use Rattle.std.proofs.Common.{sym, ap, ◌∙◌}
-use Rattle.cml_log.specs.Prelude.{chunk_start}
+use Rattle.cml_log.specs.{chunk_start}
 use Rattle.cml_log.proofs.CursorsLemmas.{chunk_of-within, trim_first}
 use Rattle.cml_log.proofs.chunk_log.ChunkLogMessageLog.first.Goals as goal
 

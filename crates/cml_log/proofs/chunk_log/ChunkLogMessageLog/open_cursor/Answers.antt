@@ -1,5 +1,5 @@
 use Rattle.std.proofs.Common.{◌≡◌, ◌+◌, ◌≤◌, count_by, is_some, sym, ap, subst, ◌∙◌, arith}
-use Rattle.cml_log.specs.Prelude.{next_of, Opens, cursor_at, log_of}
+use Rattle.cml_log.specs.{next_of, Opens, cursor_at, log_of}
 use Rattle.cml_log.proofs.StandingLemmas.{standing-le}
 use Rattle.cml_log.proofs.ChunkLogLemmas.{end_held, opened_trim, opened_log}
 use Rattle.cml_log.proofs.chunk_log.ChunkLogMessageLog.open_cursor.Goals as goal

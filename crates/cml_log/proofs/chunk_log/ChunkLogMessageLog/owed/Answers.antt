@@ -1,5 +1,5 @@
 use Rattle.std.proofs.Common.{◌≡◌, ◌-◌, length, sym, ap, subst, ◌∙◌, arith}
-use Rattle.cml_log.specs.Prelude.{IsOpen, owed_items, place_of, log_of}
+use Rattle.cml_log.specs.{IsOpen, owed_items, place_of, log_of}
 use Rattle.cml_log.proofs.LogLemmas.{length-owed_items}
 use Rattle.cml_log.proofs.CursorsLemmas.{IsTidy-shown, place_shown}
 use Rattle.cml_log.proofs.chunk_log.ChunkLogMessageLog.owed.Goals as goal

@@ -1,6 +1,6 @@
 use Rattle.std.proofs.Common.{◌≡◌, ◌-◌, ◌*◌, drop, sym, ap, ◌∙◌}
 use Rattle.std.specs.List.{slice_get}
-use Rattle.cml_log.specs.Prelude.{owed_items, place_of, log_of}
+use Rattle.cml_log.specs.{owed_items, place_of, log_of}
 use Rattle.cml_log.proofs.CursorsLemmas.{place_shown, peeked}
 use Rattle.cml_log.proofs.chunk_log.ChunkLogMessageLog.peek.Goals as goal
 

@@ -1,5 +1,5 @@
 use Rattle.std.proofs.Common.{◌<◌, sym, ap, subst, ◌∙◌}
-use Rattle.cml_log.specs.Prelude.{trimmed, with_item, next_of}
+use Rattle.cml_log.specs.{trimmed, with_item, next_of}
 use Rattle.cml_log.proofs.CursorsLemmas.{chunk_of-within}
 use Rattle.cml_log.proofs.ChunkLogLemmas.{pushed_trim, pushed_log}
 use Rattle.cml_log.proofs.chunk_log.ChunkLogMessageLog.push.Goals as goal

@@ -1,5 +1,6 @@
 use Rattle.std.proofs.Common.{◌≡◌, ◌-◌, ◌*◌, ◌/◌, ◌≤◌, drop, sym, subst, arith}
-use Rattle.cml_log.specs.Prelude.{Log, next_of, chunk_of}
+use Rattle.cml_log.specs.Log.{Log}
+use Rattle.cml_log.specs.{next_of, chunk_of}
 use Rattle.cml_log.proofs.LeastLemmas.{least-le_end}
 use Rattle.cml_log.proofs.PlainLogLemmas.{FindsLeast, finds_least, ready_to_advance, kept_before, IsSound-by_trim}
 use Rattle.cml_log.proofs.plain_log.PlainLogMessageLog.advance.Goals.{After-least_place-least}

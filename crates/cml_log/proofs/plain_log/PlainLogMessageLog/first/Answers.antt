@@ -1,5 +1,5 @@
 use Rattle.std.proofs.Common.{ap, ◌∙◌}
-use Rattle.cml_log.specs.Prelude.{chunk_start, chunk_of}
+use Rattle.cml_log.specs.{chunk_start, chunk_of}
 use Rattle.cml_log.proofs.plain_log.PlainLogMessageLog.first.Goals as goal
 
 pub returns-clause-starts_chunk : goal.returns-clause-starts_chunk

@@ -1,5 +1,6 @@
 use Rattle.std.proofs.Common.{ap}
-use Rattle.cml_log.specs.Prelude.{Log, chunk_of}
+use Rattle.cml_log.specs.Log.{Log}
+use Rattle.cml_log.specs.{chunk_of}
 use Rattle.cml_log.proofs.PlainLogLemmas.{IsSound-open_cursor}
 use Rattle.cml_log.proofs.plain_log.PlainLogMessageLog.open_cursor.Goals as goal
 

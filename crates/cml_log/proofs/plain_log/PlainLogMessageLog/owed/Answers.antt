@@ -1,5 +1,5 @@
 use Rattle.cml_log.proofs.LogLemmas.{first-le_place}
-use Rattle.cml_log.specs.Prelude.{chunk_of}
+use Rattle.cml_log.specs.{chunk_of}
 use Rattle.cml_log.proofs.plain_log.PlainLogMessageLog.owed.Goals as goal
 
 pub overflow_sub-passed : goal.overflow_sub-passed

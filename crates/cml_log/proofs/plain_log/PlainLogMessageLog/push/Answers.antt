@@ -1,7 +1,8 @@
 use Rattle.std.proofs.Common.{◌≡◌, ◌+◌, ◌-◌, ◌*◌, ◌/◌, ◌%◌, OnOk, drop, ◌<◌, ◌≤◌, [], ◌∷◌, ◌++◌, length, false, is_err}
 use Rattle.std.proofs.Common.{sym, ap, subst, ◌∙◌, arith}
 use Rattle.std.specs.VecDeque.{deque_len, deque_capacity}
-use Rattle.cml_log.specs.Prelude.{Log, next_of, trimmed, with_item, chunk_of, IsSound}
+use Rattle.cml_log.specs.Log.{Log}
+use Rattle.cml_log.specs.{next_of, trimmed, with_item, chunk_of, IsSound}
 use Rattle.cml_log.proofs.PlainLogLemmas.{kept_before_end, taken_room, some_from_test, none_from_test, IsSound-with_item}
 use Rattle.cml_log.proofs.PlainLogLemmas.{IsSound-pushed_open, pushed_open, pushed_closed}
 use Rattle.cml_log.proofs.plain_log.PlainLogMessageLog.push.Goals.{After-push_back_reserved, After-trim}

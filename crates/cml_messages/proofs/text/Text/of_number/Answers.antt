@@ -1,6 +1,6 @@
 use Rattle.std.proofs.Common.{◌≡◌, ◌∙◌, ap, subst, IfOk, length, arith}
 use Rattle.std.proofs.lemmas.Fmt.{length-decimal-le}
-use Rattle.cml_messages.specs.Prelude.{is_text}
+use Rattle.cml_messages.specs.{is_text}
 use Rattle.cml_messages.proofs.TextLemmas.{number_is_text}
 use Rattle.cml_messages.proofs.text.Text.of_number.Goals as goal
 

@@ -1,5 +1,5 @@
 use Rattle.std.proofs.Common.{rules, subst}
-use Rattle.cml_queueing.specs.Prelude.{Place, ServesInOrder}
+use Rattle.cml_queueing.specs.{Place, ServesInOrder}
 use Rattle.cml_queueing.proofs.StationLemmas.{served_in_order}
 use Rattle.cml_queueing.proofs.station.Station.served.Goals as goal
 

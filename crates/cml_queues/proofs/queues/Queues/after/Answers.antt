@@ -1,6 +1,6 @@
 use Rattle.std.proofs.Common.{◌≡◌, ◌<◌, ◌≤◌, ℕ, refl, length, slice_get, Some, sym, ap, subst, ◌∙◌, arith, IfSome}
 use Rattle.std.proofs.lemmas.Option.{slice_get_within, slice_get_read}
-use Rattle.cml_queues.specs.Prelude.{next_in}
+use Rattle.cml_queues.specs.{next_in}
 use Rattle.cml_queues.proofs.ShownLemmas.{link_of_member, head_is, bound_is}
 use Rattle.cml_queues.proofs.queues.Queues.after.Goals as goal
 

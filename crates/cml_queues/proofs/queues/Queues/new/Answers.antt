@@ -1,5 +1,5 @@
 use Rattle.std.proofs.Common.{◌≡◌, List, [], subst, sym}
-use Rattle.cml_queues.specs.Prelude.{Link, queue_of, shown_by}
+use Rattle.cml_queues.specs.{Link, queue_of, shown_by}
 use Rattle.cml_queues.proofs.ShownLemmas.{new_linked, all_empty}
 use Rattle.cml_queues.proofs.queues.Queues.new.Goals as goal
 

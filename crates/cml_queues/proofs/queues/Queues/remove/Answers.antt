@@ -1,5 +1,5 @@
 use Rattle.std.proofs.Common.{◌<◌, ℕ, List, length, subst, sym, ap, ◌∙◌}
-use Rattle.cml_queues.specs.Prelude.{Link, has}
+use Rattle.cml_queues.specs.{Link, has}
 use Rattle.cml_queues.proofs.ChangesLemmas.{parted, still}
 use Rattle.cml_queues.proofs.RowsLemmas.{linked}
 use Rattle.cml_queues.proofs.ShownLemmas.{is_row, left_nowhere, member_within, removes, unlink_previous, here_is, others_are}

@@ -1,5 +1,5 @@
 use Rattle.std.proofs.Common.{rules}
-use Rattle.cml_room.specs.Prelude.{MayAsk, news_by}
+use Rattle.cml_room.specs.{MayAsk, news_by}
 use Rattle.std.specs.Prelude.{⊤}
 use Rattle.cml_room.proofs.FramesLemmas.{turns_heard}
 use Rattle.cml_room.proofs.TurningLemmas.{may_ask}

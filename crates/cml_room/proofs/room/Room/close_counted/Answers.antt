@@ -1,6 +1,6 @@
 use Rattle.std.proofs.Common.{subst}
-use Rattle.cml_lanes.specs.Prelude.{ClosesCounted}
-use Rattle.cml_room.specs.Prelude.{RoomShown, floor_of}
+use Rattle.cml_lanes.specs.{ClosesCounted}
+use Rattle.cml_room.specs.{RoomShown, floor_of}
 use Rattle.cml_lanes.proofs.DeedsLemmas.{closes_counted}
 use Rattle.cml_room.proofs.BringingLemmas.{was_watched_at}
 use Rattle.cml_room.proofs.FramesLemmas.{stirs_few}

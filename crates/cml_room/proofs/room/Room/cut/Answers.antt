@@ -1,7 +1,7 @@
 use Rattle.std.proofs.Common.{◌≡◌, ◌++◌, reverse, subst}
-use Rattle.cml_board.specs.Prelude.{Shown}
-use Rattle.cml_lanes.specs.Prelude.{KeepsRings}
-use Rattle.cml_room.specs.Prelude.{RoomShown, floor_of}
+use Rattle.cml_board.specs.Shown.{Shown}
+use Rattle.cml_lanes.specs.{KeepsRings}
+use Rattle.cml_room.specs.{RoomShown, floor_of}
 use Rattle.cml_room.proofs.UnmovedLemmas.{cuts_watched}
 use Rattle.cml_room.proofs.FramesLemmas.{keeps}
 use Rattle.cml_room.proofs.room.Room.cut.Goals as goal

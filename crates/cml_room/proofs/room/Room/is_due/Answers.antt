@@ -1,5 +1,5 @@
 use Rattle.std.proofs.Common.{sym, ap, subst, ◌∙◌}
-use Rattle.cml_room.specs.Prelude.{RoomShown, is_due, state_of, SleepsRightly}
+use Rattle.cml_room.specs.{RoomShown, is_due, state_of, SleepsRightly}
 use Rattle.cml_room.proofs.SleepersLemmas.{due_is, sleeps}
 use Rattle.cml_room.proofs.room.Room.is_due.Goals as goal
 

@@ -1,8 +1,8 @@
 use Rattle.std.proofs.Common.{rules, ◌≡◌, ◌≢◌, ℕ, inl, inr, List, Some, slice_get, slice_set, refl, sym, ap, subst, ◌∙◌}
 use Rattle.std.proofs.lemmas.List.{map-set}
-use Rattle.cml_lanes.specs.Prelude.{FloorShown}
-use Rattle.cml_room.specs.Prelude.{Place, state_by, states_in, notices_in, MakesNoneDue, RoomShown, MayAsk, with_state, IsMade, KeepsWoken}
-use Rattle.cml_room.specs.Prelude.{Other, SeatsShown, free_in, IsWatched}
+use Rattle.cml_lanes.specs.{FloorShown}
+use Rattle.cml_room.specs.{Place, state_by, states_in, notices_in, MakesNoneDue, RoomShown, MayAsk, with_state, IsMade, KeepsWoken, Other}
+use Rattle.cml_room.specs.{SeatsShown, free_in, IsWatched}
 use Rattle.cml_room.specs.declared.place.Place.TheVariants.{Free, Left}
 use Rattle.cml_room.specs.declared.state.State.TheVariants as state
 use Rattle.cml_room.proofs.FramesLemmas.{with_seats}

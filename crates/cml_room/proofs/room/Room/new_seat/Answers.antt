@@ -1,5 +1,5 @@
 use Rattle.std.proofs.Common.{rules, ◌≡◌, ◌++◌, [], ◌∷◌, Bool, List, sym, subst}
-use Rattle.cml_room.specs.Prelude.{Place, IsWatched, HasRisen, notices_in, RoomShown, KeepsWoken}
+use Rattle.cml_room.specs.{Place, IsWatched, HasRisen, notices_in, RoomShown, KeepsWoken}
 use Rattle.cml_room.specs.declared.place.Place.TheVariants.{Free}
 use Rattle.cml_room.proofs.SleepersLemmas.{added_watched}
 use Rattle.cml_room.proofs.RisingLemmas.{added_none, none_due}

@@ -1,5 +1,5 @@
 use Rattle.std.proofs.Common.{false, refl, subst, ◌∙◌}
-use Rattle.cml_room.specs.Prelude.{notices_in, RoomShown, states_in, GivesNext}
+use Rattle.cml_room.specs.{notices_in, RoomShown, states_in, GivesNext}
 use Rattle.cml_room.proofs.SleepersLemmas.{wakes_alike, alike_watched, next_given, next_all, next_same}
 use Rattle.cml_room.proofs.TurningLemmas.{room_of}
 use Rattle.cml_room.proofs.WokenLemmas.{gives_next, wakes_only}

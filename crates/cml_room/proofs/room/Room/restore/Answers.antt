@@ -1,5 +1,5 @@
 use Rattle.std.proofs.Common.{ap, ◌∙◌, replicate}
-use Rattle.cml_board.specs.Prelude.{Makers}
+use Rattle.cml_board.specs.declared.restored.Makers.{Makers}
 use Rattle.cml_room.specs.declared.place.Place.TheVariants as place
 use Rattle.cml_room.proofs.RestoringLemmas.{watched_left, states_left, none_due}
 use Rattle.cml_room.proofs.WokenLemmas.{left_quiet}

@@ -1,6 +1,6 @@
 use Rattle.std.proofs.Common.{reverse, subst}
-use Rattle.cml_lanes.specs.Prelude.{KeepsRings}
-use Rattle.cml_room.specs.Prelude.{RoomShown, floor_of}
+use Rattle.cml_lanes.specs.{KeepsRings}
+use Rattle.cml_room.specs.{RoomShown, floor_of}
 use Rattle.cml_room.proofs.UnmovedLemmas.{taken_watched}
 use Rattle.cml_room.proofs.FramesLemmas.{keeps}
 use Rattle.cml_room.proofs.room.Room.take_journal.Goals as goal

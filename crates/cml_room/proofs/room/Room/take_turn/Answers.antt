@@ -1,7 +1,7 @@
 use Rattle.std.proofs.Common.{slice_get, None, refl, sym, ap, subst, ◌∙◌}
 use Rattle.cml_board.specs.declared.entry.Who.TheVariants.{Seat}
-use Rattle.cml_board.specs.Prelude.{want_in}
-use Rattle.cml_room.specs.Prelude.{states_in, notices_in, Turns, AskOf, RoomShown}
+use Rattle.cml_board.specs.{want_in}
+use Rattle.cml_room.specs.{states_in, notices_in, Turns, AskOf, RoomShown}
 use Rattle.cml_room.proofs.TurningLemmas.{answered_asks, parked_asks, stalled_asks, refused_asks, answered_reaches}
 use Rattle.cml_room.proofs.TurningLemmas.{waiting_reaches, room_of}
 use Rattle.cml_room.proofs.UnmovedLemmas.{room_kept}

@@ -1,6 +1,6 @@
 use Rattle.std.proofs.Common.{◌≡◌, ◌+◌, slice_get, Some, sym, subst, ◌∙◌}
-use Rattle.cml_queues.specs.Prelude.{queue_of}
-use Rattle.cml_room.specs.Prelude.{SeatsShown}
+use Rattle.cml_queues.specs.{queue_of}
+use Rattle.cml_room.specs.{SeatsShown}
 use Rattle.cml_room.proofs.ListingLemmas.{split_at}
 use Rattle.cml_room.proofs.seats.Seats.after.Goals as goal
 

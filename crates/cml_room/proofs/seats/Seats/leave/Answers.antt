@@ -1,6 +1,6 @@
 use Rattle.std.proofs.Common.{◌≡◌, slice_get, Some, refl, sym, subst, arith}
 use Rattle.cml_room.specs.declared.place.Place.TheVariants as place
-use Rattle.cml_room.specs.Prelude.{row_in, noted_in, SeatsShown}
+use Rattle.cml_room.specs.{row_in, noted_in, SeatsShown}
 use Rattle.cml_room.proofs.ListingLemmas.{listed_same, kept_set, one_free}
 use Rattle.cml_room.proofs.seats.Seats.leave.Goals as goal
 

@@ -1,6 +1,6 @@
 use Rattle.std.proofs.Common.{◌<◌, length, refl, sym, subst}
 use Rattle.cml_room.specs.declared.place.Place.TheVariants as place
-use Rattle.cml_room.specs.Prelude.{row_in, noted_in, SeatsShown}
+use Rattle.cml_room.specs.{row_in, noted_in, SeatsShown}
 use Rattle.cml_room.proofs.ListingLemmas.{listed_same, listed_remove, seen_at, kept_set}
 use Rattle.cml_room.proofs.seats.Seats.quiet.Goals as goal
 

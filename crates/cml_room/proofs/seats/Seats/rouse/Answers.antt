@@ -1,6 +1,6 @@
 use Rattle.std.proofs.Common.{◌<◌, length, refl, sym, ap, subst}
 use Rattle.cml_room.specs.declared.place.Place.TheVariants as place
-use Rattle.cml_room.specs.Prelude.{noted_as, row_in, noted_in, SeatsShown}
+use Rattle.cml_room.specs.{noted_as, row_in, noted_in, SeatsShown}
 use Rattle.cml_room.proofs.ListingLemmas.{listed_same, listed_push, seen_at, kept_set}
 use Rattle.cml_room.proofs.seats.Seats.rouse.Goals as goal
 

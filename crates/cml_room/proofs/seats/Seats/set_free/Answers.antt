@@ -1,6 +1,6 @@
 use Rattle.std.proofs.Common.{◌≡◌, ℕ, ◌<◌, length, get_or, slice_get, slice_set, refl, sym, ap, ◌∙◌, arith}
 use Rattle.cml_room.specs.declared.place.Place.TheVariants as place
-use Rattle.cml_room.specs.Prelude.{noted_as, row_in, noted_in, quieted, SeatsShown}
+use Rattle.cml_room.specs.{noted_as, row_in, noted_in, quieted, SeatsShown}
 use Rattle.std.specs.Prelude.{◌==◌}
 use Rattle.std.proofs.lemmas.List.{length-set, set-set}
 use Rattle.cml_room.proofs.ListingLemmas.{set_here, quieted_nothing, freed_waiter, listed_same, listed_remove, seen_at}

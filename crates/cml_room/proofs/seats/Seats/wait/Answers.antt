@@ -1,7 +1,7 @@
 use Rattle.std.proofs.Common.{◌≡◌, ℕ, slice_get, Some, refl, sym, ap, subst, arith}
 use Rattle.std.specs.Prelude.{◌==◌}
 use Rattle.cml_room.specs.declared.place.Place.TheVariants as place
-use Rattle.cml_room.specs.Prelude.{row_in, noted_in, SeatsShown}
+use Rattle.cml_room.specs.{row_in, noted_in, SeatsShown}
 use Rattle.cml_room.proofs.ListingLemmas.{listed_same, listed_push, kept_set, one_free, waiting_within}
 use Rattle.cml_room.proofs.seats.Seats.wait.Goals as goal
 

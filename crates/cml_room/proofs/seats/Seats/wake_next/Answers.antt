@@ -2,10 +2,10 @@ use Rattle.std.proofs.Common.{◌≡◌, ◌<◌, true, length, slice_get, slice
 use Rattle.std.proofs.lemmas.Option.{slice_get_within, slice_get-get_or, same_Some}
 use Rattle.std.proofs.lemmas.List.{set-set}
 use Rattle.cml_board.proofs.ListLemmas.{slice_get-set_same}
-use Rattle.cml_room.specs.Prelude.{Waiter, noted_as, row_in, noted_in, notice_in, AreListed, SeatsShown, WakesNext}
+use Rattle.cml_room.specs.{Waiter, noted_as, row_in, noted_in, notice_in, AreListed, SeatsShown, WakesNext}
 use Rattle.cml_room.specs.declared.notice.Notice.TheVariants as notice
 use Rattle.cml_room.specs.declared.place.Place.TheVariants as place
-use Rattle.cml_queues.specs.Prelude.{queue_of, is_in}
+use Rattle.cml_queues.specs.{queue_of, is_in}
 use Rattle.cml_room.proofs.ListingLemmas.{listed_same, listed_push, listed_remove, has_at, unwoken_waits, not_due, seen_at, kept_set}
 use Rattle.cml_room.proofs.seats.Seats.wake_next.Goals.{In_ok-number, In-Waiting}
 use Rattle.cml_room.proofs.seats.Seats.wake_next.Goals as goal

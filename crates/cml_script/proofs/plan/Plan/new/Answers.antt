@@ -2,7 +2,7 @@ use Rattle.std.proofs.Common.{ap, arith, length}
 use Rattle.std.proofs.lemmas.List.{length-map}
 use Rattle.std.specs.Prelude.{String, string_bytes}
 use Rattle.std.specs.Global.{Global}
-use Rattle.cml_grammar.specs.Prelude.{Named, Given}
+use Rattle.cml_grammar.specs.{Named, Given}
 use Rattle.cml_script.proofs.plan.Plan.new.Goals as goal
 
 pub returns-clause-known : goal.returns-clause-known

@@ -2,9 +2,9 @@ use Rattle.std.proofs.Common.{ℕ, ◌<◌, ◌≤◌, ◌∙◌, sym, ap, lengt
 use Rattle.std.specs.Option.{option_map}
 use Rattle.std.proofs.lemmas.List.{length-map}
 use Rattle.std.proofs.lemmas.Option.{same_Some, slice_get-get_or}
-use Rattle.cml_board.specs.Prelude.{Name}
-use Rattle.cml_grammar.specs.Prelude.{Declaration, source_of, Lines}
-use Rattle.cml_script.specs.Prelude.{Binding, object_among, port_bound}
+use Rattle.cml_board.specs.{Name}
+use Rattle.cml_grammar.specs.{Declaration, source_of, Lines}
+use Rattle.cml_script.specs.{Binding, object_among, port_bound}
 use Rattle.cml_script.specs.declared.binding.Binding.TheVariants as binding
 use Rattle.cml_script.proofs.StandLemmas.{object_declared, object_given}
 use Rattle.cml_script.proofs.plan.Plan.object.Goals as goal

@@ -1,6 +1,6 @@
 use Rattle.std.proofs.Common.{◌+◌, slice_get, ap, ◌∙◌}
-use Rattle.cml_grammar.specs.Prelude.{Lines}
-use Rattle.cml_script.specs.Prelude.{is_seated, positions_where}
+use Rattle.cml_grammar.specs.{Lines}
+use Rattle.cml_script.specs.{is_seated, positions_where}
 use Rattle.cml_script.proofs.QueueLemmas.{queue_is, get_is}
 use Rattle.cml_script.proofs.plan.Plan.turn.Goals as goal
 

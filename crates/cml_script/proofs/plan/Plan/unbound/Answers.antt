@@ -2,8 +2,8 @@ use Rattle.std.proofs.Common.{◌∙◌, [], refl, sym, subst, ap, length}
 use Rattle.std.specs.Global.{Global}
 use Rattle.std.specs.Prelude.{Vec}
 use Rattle.std.proofs.lemmas.Result.{IfOk-weaker}
-use Rattle.cml_grammar.specs.Prelude.{Lines, names_of}
-use Rattle.cml_script.specs.Prelude.{Binding, AreBindings}
+use Rattle.cml_grammar.specs.{Lines, names_of}
+use Rattle.cml_script.specs.{Binding, AreBindings}
 use Rattle.cml_script.proofs.StandLemmas.{unbound}
 use Rattle.cml_script.proofs.plan.Plan.unbound.Goals as goal
 

@@ -1,6 +1,6 @@
 use Rattle.std.proofs.Common.{ap, sym, ◌∙◌, rules}
 use Rattle.std.specs.Prelude.{unwrap_or}
-use Rattle.cml_script.specs.Prelude.{object_among}
+use Rattle.cml_script.specs.{object_among}
 use Rattle.cml_script.proofs.ConcludingLemmas.{named_object, taken_iff}
 use Rattle.cml_script.proofs.running.concluding.is_taken.Goals as goal
 

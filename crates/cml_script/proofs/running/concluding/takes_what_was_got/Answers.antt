@@ -1,8 +1,8 @@
 use Rattle.std.proofs.Common.{◌<◌, length, refl, ap, arith}
 use Rattle.std.proofs.lemmas.Bool.{false≢true}
 use Rattle.std.proofs.lemmas.List.{length-map}
-use Rattle.cml_grammar.specs.Prelude.{Declaration, source_of}
-use Rattle.cml_script.specs.Prelude.{IsTakenAt}
+use Rattle.cml_grammar.specs.{Declaration, source_of}
+use Rattle.cml_script.specs.{IsTakenAt}
 use Rattle.cml_script.proofs.StallingLemmas.{one_more}
 use Rattle.cml_script.proofs.running.concluding.takes_what_was_got.Goals as goal
 

@@ -1,5 +1,5 @@
 use Rattle.std.proofs.Common.{ℕ, ◌<◌}
-use Rattle.cml_script.specs.Prelude.{IsTakenAt}
+use Rattle.cml_script.specs.{IsTakenAt}
 use Rattle.cml_script.proofs.running.concluding.takes_what_was_got.Given as goal
 
 abbrev pub invariant-loop-at : goal.invariant-loop-at

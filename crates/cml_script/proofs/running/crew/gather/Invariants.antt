@@ -1,5 +1,5 @@
 use Rattle.std.proofs.Common.{◌≡◌, true}
-use Rattle.cml_script.specs.Prelude.{IsUnheld}
+use Rattle.cml_script.specs.{IsUnheld}
 use Rattle.cml_script.proofs.running.crew.gather.Given as goal
 
 abbrev pub invariant-loop-worked : goal.invariant-loop-worked

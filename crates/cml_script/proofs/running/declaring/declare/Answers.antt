@@ -1,6 +1,6 @@
 use Rattle.std.proofs.Common.{length, ap, arith}
 use Rattle.std.proofs.lemmas.List.{length-map}
-use Rattle.cml_grammar.specs.Prelude.{Declaration, names_of, source_of}
+use Rattle.cml_grammar.specs.{Declaration, names_of, source_of}
 use Rattle.cml_script.proofs.ListLemmas.{read_at}
 use Rattle.cml_script.proofs.LineLemmas.{declaration_read}
 use Rattle.cml_script.proofs.DeclareLemmas.{nothing_declared, made_more, well_declared, well_fitted, declares, refuses}

@@ -1,8 +1,8 @@
 use Rattle.std.proofs.Common.{reverse, refl}
 use Rattle.std.proofs.lemmas.Bool.{false≢true}
 use Rattle.std.proofs.lemmas.Option.{slice_get_within}
-use Rattle.cml_grammar.specs.Prelude.{names_of, source_of, ReadsLane}
-use Rattle.cml_script.specs.Prelude.{IsInOrderAt}
+use Rattle.cml_grammar.specs.{names_of, source_of, ReadsLane}
+use Rattle.cml_script.specs.{IsInOrderAt}
 use Rattle.cml_script.proofs.ListLemmas.{read_at, mapped_at}
 use Rattle.cml_script.proofs.LineLemmas.{all_at}
 use Rattle.cml_script.proofs.ObjectLemmas.{target_declared}

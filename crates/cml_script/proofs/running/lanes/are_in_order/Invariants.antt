@@ -1,5 +1,5 @@
 use Rattle.std.proofs.Common.{ℕ, ◌<◌, reverse}
-use Rattle.cml_script.specs.Prelude.{IsInOrderAt}
+use Rattle.cml_script.specs.{IsInOrderAt}
 use Rattle.cml_script.proofs.running.lanes.are_in_order.Given as goal
 
 abbrev pub invariant-loop-lane : goal.invariant-loop-lane

@@ -1,6 +1,6 @@
 use Rattle.std.proofs.Common.{refl, sym, subst}
 use Rattle.std.proofs.lemmas.Bool.{false≢true}
-use Rattle.cml_script.specs.Prelude.{AreOnLines}
+use Rattle.cml_script.specs.{AreOnLines}
 use Rattle.cml_script.proofs.ListLemmas.{read_at}
 use Rattle.cml_script.proofs.JournalLemmas.{before_more}
 use Rattle.cml_script.proofs.MovedLemmas.{on_line_at}

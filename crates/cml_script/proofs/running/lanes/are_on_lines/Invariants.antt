@@ -1,5 +1,5 @@
-use Rattle.cml_board.specs.Prelude.{before}
-use Rattle.cml_script.specs.Prelude.{AreOnLines}
+use Rattle.cml_board.specs.{before}
+use Rattle.cml_script.specs.{AreOnLines}
 use Rattle.cml_script.proofs.running.lanes.are_on_lines.Given as goal
 
 abbrev pub invariant-loop-entry : goal.invariant-loop-entry

@@ -3,8 +3,8 @@ use Rattle.std.specs.Option.{option_and_then}
 use Rattle.std.specs.Prelude.{slice_get}
 use Rattle.std.proofs.lemmas.List.{length-map}
 use Rattle.std.proofs.lemmas.Option.{same_Some, slice_get-get_or}
-use Rattle.cml_grammar.specs.Prelude.{Step, names_of, source_of, ReadsStep}
-use Rattle.cml_script.specs.Prelude.{call_on, call_to}
+use Rattle.cml_grammar.specs.{Step, names_of, source_of, ReadsStep}
+use Rattle.cml_script.specs.{call_on, call_to}
 use Rattle.cml_script.proofs.ListLemmas.{mapped_at}
 use Rattle.cml_script.proofs.LineLemmas.{all_at}
 use Rattle.cml_script.proofs.MovedLemmas.{call_is}

@@ -1,6 +1,6 @@
 use Rattle.std.proofs.Common.{◌≡◌, false, take}
 use Rattle.std.specs.List.{list_any}
-use Rattle.cml_script.specs.Prelude.{is_moved_on}
+use Rattle.cml_script.specs.{is_moved_on}
 use Rattle.cml_script.proofs.running.lanes.is_on_line.Given as goal
 
 abbrev pub invariant-loop-lane : goal.invariant-loop-lane

@@ -1,8 +1,8 @@
 use Rattle.std.proofs.Common.{◌≡◌, ◌<◌, false, true, length, ap, sym, ◌∙◌, arith}
 use Rattle.std.specs.Option.{option_map_or}
 use Rattle.std.proofs.lemmas.List.{length-map}
-use Rattle.cml_grammar.specs.Prelude.{Step, source_of}
-use Rattle.cml_script.specs.Prelude.{is_laid_to}
+use Rattle.cml_grammar.specs.{Step, source_of}
+use Rattle.cml_script.specs.{is_laid_to}
 use Rattle.cml_script.proofs.LineLemmas.{stands}
 use Rattle.cml_script.proofs.MovedLemmas.{sends_here, sends_past}
 use Rattle.cml_script.proofs.running.lanes.next_sent.Goals as goal

@@ -1,5 +1,5 @@
 use Rattle.std.proofs.Common.{◌≡◌, drop}
-use Rattle.cml_script.specs.Prelude.{sends_to}
+use Rattle.cml_script.specs.{sends_to}
 use Rattle.cml_script.proofs.running.lanes.next_sent.Given as goal
 
 abbrev pub invariant-loop-i : goal.invariant-loop-i

@@ -1,6 +1,6 @@
 use Rattle.std.proofs.Common.{reverse, ap, refl, ◌∙◌, arith}
 use Rattle.std.proofs.lemmas.List.{reverse-reverse}
-use Rattle.cml_script.specs.Prelude.{history_of}
+use Rattle.cml_script.specs.{history_of}
 use Rattle.cml_script.proofs.StallingLemmas.{stuck_iff}
 use Rattle.cml_script.proofs.running.stalling.nobody_goes_on.Goals as goal
 

@@ -2,9 +2,9 @@ use Rattle.std.proofs.Common.{◌<◌, ◌+◌, ◌∙◌, get_or, Some, IsSome,
 use Rattle.std.specs.Option.{option_map}
 use Rattle.std.proofs.lemmas.List.{length-map}
 use Rattle.std.proofs.lemmas.Option.{slice_get-get_or}
-use Rattle.cml_grammar.specs.Prelude.{Step, source_of}
+use Rattle.cml_grammar.specs.{Step, source_of}
 use Rattle.cml_script.specs.declared.route.Route.TheVariants as route
-use Rattle.cml_script.specs.Prelude.{call_on, is_by_ring, AreBindings}
+use Rattle.cml_script.specs.{call_on, is_by_ring, AreBindings}
 use Rattle.cml_script.proofs.TrailLemmas.{step_calls, used_within}
 use Rattle.cml_script.proofs.WorkLemmas.{an_opening, is_opening, so_far, entries_are, next_called, call_known, turn_within}
 use Rattle.cml_script.proofs.WorkLemmas.{turn_goes, turn_called, some_mapped}

@@ -1,6 +1,6 @@
 use Rattle.std.proofs.Common.{◌+◌, refl, ap, sym}
 use Rattle.cml_script.specs.declared.route.Route.TheVariants as route
-use Rattle.cml_script.specs.Prelude.{by_feed, is_by_ring}
+use Rattle.cml_script.specs.{by_feed, is_by_ring}
 use Rattle.cml_script.proofs.SendLemmas.{feed_acts}
 use Rattle.cml_script.proofs.WorkLemmas.{on_ok, turn_goes, more_gone}
 use Rattle.cml_script.proofs.running.worker.perform.Goals as goal

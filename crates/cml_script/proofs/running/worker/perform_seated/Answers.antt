@@ -1,6 +1,7 @@
 use Rattle.std.proofs.Common.{◌≡◌, ◌+◌, ◌++◌, ◌∙◌, refl, ap, ap₂, sym, subst, arith}
 use Rattle.cml_script.specs.declared.route.Route.TheVariants as route
-use Rattle.cml_script.specs.Prelude.{Course, bound_by, is_by_ring, AreBindings, with_binding, IsUnderWay}
+use Rattle.cml_script.specs.declared.running.worker.Course.{Course}
+use Rattle.cml_script.specs.{bound_by, is_by_ring, AreBindings, with_binding, IsUnderWay}
 use Rattle.cml_script.proofs.StandLemmas.{bind_within}
 use Rattle.cml_script.proofs.WorkLemmas.{an_opening, is_opening, closed_before, may_call, turn_within, turn_goes, more_made}
 use Rattle.cml_script.proofs.running.worker.perform_seated.Goals as goal

@@ -1,8 +1,8 @@
 use Rattle.std.proofs.Common.{◌≡◌, ◌<◌, ◌+◌, ◌∙◌, Some, length, refl, ap, sym, arith}
 use Rattle.std.proofs.lemmas.List.{length-map}
-use Rattle.cml_grammar.specs.Prelude.{Step, source_of}
+use Rattle.cml_grammar.specs.{Step, source_of}
 use Rattle.cml_script.specs.declared.route.Route.TheVariants as route
-use Rattle.cml_script.specs.Prelude.{by_lane, act_of_line, is_by_ring}
+use Rattle.cml_script.specs.{by_lane, act_of_line, is_by_ring}
 use Rattle.cml_script.proofs.WorkLemmas.{on_ok, turn_within, turn_goes, more_gone}
 use Rattle.cml_script.proofs.SendLemmas.{lane_gives, lane_target, lane_acts}
 use Rattle.cml_script.proofs.running.worker.send_apart.Goals as goal

@@ -1,8 +1,8 @@
 use Rattle.std.proofs.Common.{◌+◌, ◌∙◌, refl, ap, sym, subst, length, arith}
 use Rattle.std.proofs.lemmas.List.{length-map}
-use Rattle.cml_grammar.specs.Prelude.{Step, source_of}
+use Rattle.cml_grammar.specs.{Step, source_of}
 use Rattle.cml_script.specs.declared.stop.Stop.TheVariants.{Done, Held}
-use Rattle.cml_script.specs.Prelude.{IsUnheld}
+use Rattle.cml_script.specs.{IsUnheld}
 use Rattle.cml_script.proofs.GatesLemmas.{stop_unheld}
 use Rattle.cml_script.proofs.WorkLemmas.{begins, under_way_few, closes_with, refused_at}
 use Rattle.cml_script.proofs.TurnLemmas.{turn_at, turns_before, one_taken, under_way_at, past_turns, past_steps, none_past}

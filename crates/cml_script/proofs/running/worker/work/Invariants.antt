@@ -1,5 +1,5 @@
 use Rattle.std.proofs.Common.{◌≡◌, ◌+◌, true}
-use Rattle.cml_script.specs.Prelude.{HasTaken}
+use Rattle.cml_script.specs.{HasTaken}
 use Rattle.cml_script.proofs.running.worker.work.Given as goal
 
 abbrev pub invariant-loop-nth : goal.invariant-loop-nth

@@ -1,8 +1,8 @@
 use Rattle.std.proofs.Common.{◌≡◌, None, Some, MatchOption, IfSome, subst}
-use Rattle.cml_calls.specs.Prelude.{Kind}
-use Rattle.cml_board.specs.Prelude.{kind_of}
-use Rattle.cml_grammar.specs.Prelude.{names_of}
-use Rattle.cml_script.specs.Prelude.{History, made_of, IsObjectAt, Told}
+use Rattle.cml_calls.specs.{Kind}
+use Rattle.cml_board.specs.{kind_of}
+use Rattle.cml_grammar.specs.{names_of}
+use Rattle.cml_script.specs.{History, made_of, IsObjectAt, Told}
 use Rattle.cml_script.proofs.UseLemmas.{made_kind}
 use Rattle.cml_script.proofs.scene.Scene.object.Goals as goal
 

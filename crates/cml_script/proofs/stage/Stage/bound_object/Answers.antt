@@ -1,6 +1,6 @@
 use Rattle.std.proofs.Common.{◌∙◌, sym, ap}
 use Rattle.std.proofs.lemmas.Option.{same_Some}
-use Rattle.cml_board.specs.Prelude.{Name, kind_of}
+use Rattle.cml_board.specs.{Name, kind_of}
 use Rattle.cml_script.proofs.UseLemmas.{bound_is}
 use Rattle.cml_script.proofs.stage.Stage.bound_object.Goals as goal
 

@@ -1,9 +1,9 @@
 use Rattle.std.proofs.Common.{ℕ, ◌≡◌, Some, ◌∙◌, sym, ap, subst}
 use Rattle.std.specs.Option.{option_map}
-use Rattle.cml_board.specs.Prelude.{kind_of, Fits}
-use Rattle.cml_calls.specs.Prelude.{Kind}
-use Rattle.cml_grammar.specs.Prelude.{names_of}
-use Rattle.cml_script.specs.Prelude.{call_on, object_of, IsObjectAt}
+use Rattle.cml_board.specs.{kind_of, Fits}
+use Rattle.cml_calls.specs.{Kind}
+use Rattle.cml_grammar.specs.{names_of}
+use Rattle.cml_script.specs.{call_on, object_of, IsObjectAt}
 use Rattle.cml_script.proofs.FitLemmas.{fits_use}
 use Rattle.cml_script.proofs.stage.Stage.call_for.Goals as goal
 

@@ -1,7 +1,8 @@
 use Rattle.std.proofs.Common.{◌≡◌, None, Some, slice_get, ◌+◌, ◌∙◌, sym, ap, subst, take, length}
 use Rattle.std.proofs.lemmas.Bool.{MatchBool-at_true}
-use Rattle.cml_grammar.specs.Prelude.{Lines, names_of, source_of, ReadsDeclaration, IsMadeWell, first_ring}
-use Rattle.cml_script.specs.Prelude.{how_many, one_if, is_object, NamesObjects, Play}
+use Rattle.cml_grammar.specs.{Lines, names_of, source_of, ReadsDeclaration, IsMadeWell, first_ring}
+use Rattle.cml_script.specs.{how_many, one_if, is_object, NamesObjects}
+use Rattle.cml_script.specs.Stage.{Play}
 use Rattle.cml_script.proofs.ListLemmas.{read_at, count_taken}
 use Rattle.cml_script.proofs.LineLemmas.{declaration_object, declaration_feed, declaration_read}
 use Rattle.cml_script.proofs.PlainLemmas.{plain_feed}

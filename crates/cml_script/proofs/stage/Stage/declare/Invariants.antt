@@ -1,5 +1,5 @@
 use Rattle.std.proofs.Common.{◌≡◌, length, take}
-use Rattle.cml_script.specs.Prelude.{how_many, is_object}
+use Rattle.cml_script.specs.{how_many, is_object}
 use Rattle.cml_script.proofs.stage.Stage.declare.Given as goal
 
 abbrev pub invariant-loop-declaration : goal.invariant-loop-declaration

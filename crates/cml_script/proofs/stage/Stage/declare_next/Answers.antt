@@ -2,8 +2,8 @@ use Rattle.std.proofs.Common.{refl, subst}
 use Rattle.cml_board.specs.declared.call.Call.TheVariants.{NewPort}
 use Rattle.cml_calls.specs.declared.kind.Kind.TheVariants as kind
 use Rattle.cml_grammar.specs.declared.forms.Makes.TheVariants as makes
-use Rattle.cml_grammar.specs.Prelude.{names_of}
-use Rattle.cml_script.specs.Prelude.{IsNext}
+use Rattle.cml_grammar.specs.{names_of}
+use Rattle.cml_script.specs.{IsNext}
 use Rattle.cml_script.proofs.FitLemmas.{fits_kind, channel_at}
 use Rattle.cml_script.proofs.stage.Stage.declare_next.Goals as goal
 

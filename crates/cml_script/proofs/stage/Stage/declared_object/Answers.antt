@@ -1,5 +1,6 @@
 use Rattle.std.proofs.Common.{◌∙◌, ap, take}
-use Rattle.cml_script.specs.Prelude.{how_many, is_object, Play}
+use Rattle.cml_script.specs.{how_many, is_object}
+use Rattle.cml_script.specs.Stage.{Play}
 use Rattle.cml_script.proofs.StandLemmas.{stands_at, declared_kind, declared_is}
 use Rattle.cml_script.proofs.GivingLemmas.{follows_own}
 use Rattle.cml_script.proofs.stage.Stage.declared_object.Goals as goal

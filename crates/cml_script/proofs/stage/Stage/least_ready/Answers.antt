@@ -1,5 +1,5 @@
 use Rattle.std.proofs.Common.{◌+◌, subst, sym, arith}
-use Rattle.cml_script.specs.Prelude.{IsLeastBelow}
+use Rattle.cml_script.specs.{IsLeastBelow}
 use Rattle.cml_script.proofs.StandLemmas.{stands_at}
 use Rattle.cml_script.proofs.ReadyLemmas.{least_at_first, least_more, least_of_all}
 use Rattle.cml_script.proofs.stage.Stage.least_ready.Goals as goal

@@ -1,4 +1,4 @@
-use Rattle.cml_script.specs.Prelude.{IsLeastBelow}
+use Rattle.cml_script.specs.{IsLeastBelow}
 use Rattle.cml_script.proofs.stage.Stage.least_ready.Given as goal
 
 abbrev pub invariant-loop-thread : goal.invariant-loop-thread

@@ -1,7 +1,8 @@
 use Rattle.std.proofs.Common.{ap, ◌∙◌, ℕ, List}
 use Rattle.cml_board.specs.declared.entry.Who.TheVariants.{Seat}
-use Rattle.cml_board.specs.Prelude.{Entry}
-use Rattle.cml_script.specs.Prelude.{Play, with_entry}
+use Rattle.cml_board.specs.{Entry}
+use Rattle.cml_script.specs.Stage.{Play}
+use Rattle.cml_script.specs.{with_entry}
 use Rattle.cml_script.proofs.WholeLemmas.{whole_below}
 use Rattle.cml_script.proofs.StandLemmas.{new_play, stands_declared}
 use Rattle.cml_script.proofs.stage.Stage.make.Goals as goal

@@ -1,7 +1,7 @@
 use Rattle.std.proofs.Common.{◌≡◌, None, sym, subst, ap, length, arith}
-use Rattle.cml_board.specs.Prelude.{Lawful}
-use Rattle.cml_grammar.specs.Prelude.{Lines, first_ring}
-use Rattle.cml_script.specs.Prelude.{Follows, AreBindings}
+use Rattle.cml_board.specs.{Lawful}
+use Rattle.cml_grammar.specs.{Lines, first_ring}
+use Rattle.cml_script.specs.{Follows, AreBindings}
 use Rattle.cml_script.proofs.StandLemmas.{counted_none}
 use Rattle.cml_script.proofs.stage.Stage.new.Goals as goal
 

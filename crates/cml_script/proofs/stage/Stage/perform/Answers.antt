@@ -1,7 +1,8 @@
 use Rattle.std.proofs.Common.{ℕ, ◌+◌, ◌-◌, List, length, get_or, slice_set, refl, sym, ap, subst, ◌∙◌, arith}
 use Rattle.std.proofs.lemmas.Option.{slice_get_within}
-use Rattle.cml_board.specs.Prelude.{Call, Reply, Entry}
-use Rattle.cml_script.specs.Prelude.{Binding, bound_by, with_binding, Play, Stands}
+use Rattle.cml_board.specs.{Call, Reply, Entry}
+use Rattle.cml_script.specs.{Binding, bound_by, with_binding, Stands}
+use Rattle.cml_script.specs.Stage.{Play}
 use Rattle.cml_board.specs.declared.entry.Who.TheVariants.{Seat}
 use Rattle.cml_script.proofs.WholeLemmas.{whole_below}
 use Rattle.cml_script.proofs.StandLemmas.{new_play, is_performed, performs, stands_performed, count_fits, bind_within}

@@ -1,9 +1,10 @@
 use Rattle.std.proofs.Common.{ℕ, ◌≡◌, Some, None, ◌∙◌, sym, ap, subst}
 use Rattle.std.specs.Option.{option_map}
-use Rattle.cml_calls.specs.Prelude.{Kind}
-use Rattle.cml_board.specs.Prelude.{kind_of, Fits, answer}
-use Rattle.cml_grammar.specs.Prelude.{names_of}
-use Rattle.cml_script.specs.Prelude.{call_on, object_of, IsObjectAt, Play}
+use Rattle.cml_calls.specs.{Kind}
+use Rattle.cml_board.specs.{kind_of, Fits, answer}
+use Rattle.cml_grammar.specs.{names_of}
+use Rattle.cml_script.specs.{call_on, object_of, IsObjectAt}
+use Rattle.cml_script.specs.Stage.{Play}
 use Rattle.cml_script.proofs.FitLemmas.{fits_use}
 use Rattle.cml_script.proofs.stage.Stage.waits_for.Goals as goal
 

@@ -1,5 +1,5 @@
 use Rattle.std.proofs.Common.{◌+◌, refl, arith}
-use Rattle.cml_script.specs.Prelude.{WaitsOrIsDone, history_of}
+use Rattle.cml_script.specs.{WaitsOrIsDone, history_of}
 use Rattle.cml_script.proofs.TrailLemmas.{followed_at}
 use Rattle.cml_script.proofs.StallingLemmas.{one_more, all_threads}
 use Rattle.cml_script.proofs.trail.Trail.all_wait.Goals as goal

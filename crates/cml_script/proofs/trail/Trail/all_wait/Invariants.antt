@@ -1,5 +1,5 @@
 use Rattle.std.proofs.Common.{ℕ, ◌+◌, ◌<◌}
-use Rattle.cml_script.specs.Prelude.{WaitsOrIsDone, history_of}
+use Rattle.cml_script.specs.{WaitsOrIsDone, history_of}
 use Rattle.cml_script.proofs.trail.Trail.all_wait.Given as goal
 
 abbrev pub invariant-loop-thread : goal.invariant-loop-thread

@@ -1,7 +1,7 @@
 use Rattle.std.proofs.Common.{ℕ, ◌<◌, length, slice_get, Option, IfSome, ap, sym, subst, ◌∙◌}
 use Rattle.std.specs.Option.{option_and_then}
-use Rattle.cml_grammar.specs.Prelude.{Lines}
-use Rattle.cml_script.specs.Prelude.{is_feed, given_word, Progress}
+use Rattle.cml_grammar.specs.{Lines}
+use Rattle.cml_script.specs.{is_feed, given_word, Progress}
 use Rattle.cml_script.proofs.ReportLemmas.{placed_line, placed_within}
 use Rattle.cml_script.proofs.TrailLemmas.{followed_at}
 use Rattle.cml_script.proofs.trail.Trail.feed_name.Goals as goal

@@ -1,6 +1,6 @@
 use Rattle.std.proofs.Common.{◌<◌, get_or, ap, subst, sym, length, arith, IfSome}
 use Rattle.std.proofs.lemmas.Option.{slice_get-get_or}
-use Rattle.cml_script.specs.Prelude.{next_position, Progress, history_of}
+use Rattle.cml_script.specs.{next_position, Progress, history_of}
 use Rattle.cml_script.proofs.JournalLemmas.{before_length}
 use Rattle.cml_script.proofs.TrailLemmas.{followed_at, next_given_within, follows_more}
 use Rattle.cml_script.proofs.trail.Trail.follow.Goals as goal

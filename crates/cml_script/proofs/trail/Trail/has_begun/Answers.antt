@@ -1,6 +1,6 @@
 use Rattle.std.proofs.Common.{ap, arith}
 use Rattle.std.proofs.lemmas.Bool.{leb-true, le-leb}
-use Rattle.cml_script.specs.Prelude.{Progress}
+use Rattle.cml_script.specs.{Progress}
 use Rattle.cml_script.proofs.JournalLemmas.{before_length}
 use Rattle.cml_script.proofs.TrailLemmas.{followed_at, places_length}
 use Rattle.cml_script.proofs.trail.Trail.has_begun.Goals as goal

@@ -1,10 +1,11 @@
 use Rattle.std.proofs.Common.{◌≡◌, ℕ, ◌<◌, List, length, slice_get, Some, get_or, refl, ap, sym, subst, ◌∙◌, arith}
 use Rattle.std.proofs.lemmas.List.{length-map}
 use Rattle.std.proofs.lemmas.Option.{slice_get_read, slice_get-get_or}
-use Rattle.cml_board.specs.Prelude.{entries_in}
-use Rattle.cml_grammar.specs.Prelude.{Declaration, names_of, source_of, ReadsDeclaration}
-use Rattle.cml_script.specs.Prelude.{Objects, Binding, declared_count, declared_object, making_call, IsMadeOfDeclared, Progress, IsFollowed}
-use Rattle.cml_script.specs.Prelude.{history_of, declared_call}
+use Rattle.cml_board.specs.{entries_in}
+use Rattle.cml_grammar.specs.{Declaration, names_of, source_of, ReadsDeclaration}
+use Rattle.cml_script.specs.declared.objects.Objects.{Objects}
+use Rattle.cml_script.specs.{Binding, declared_count, declared_object, making_call, IsMadeOfDeclared, Progress, IsFollowed, history_of}
+use Rattle.cml_script.specs.{declared_call}
 use Rattle.cml_script.proofs.ListLemmas.{mapped_at}
 use Rattle.cml_script.proofs.LineLemmas.{all_at}
 use Rattle.cml_script.proofs.DeclareLemmas.{well_declared}

@@ -1,6 +1,6 @@
 use Rattle.std.proofs.Common.{ℕ, slice_get, ap, sym, ◌∙◌}
 use Rattle.cml_board.specs.declared.call.Call.TheVariants as call
-use Rattle.cml_script.specs.Prelude.{number_of, Progress}
+use Rattle.cml_script.specs.{number_of, Progress}
 use Rattle.std.proofs.lemmas.Bool.{false≢true}
 use Rattle.cml_script.proofs.TrailLemmas.{followed_at, feed_within, of_feed, feed_of, no_feed_there}
 use Rattle.cml_script.proofs.trail.Trail.is_of_feed.Goals as goal

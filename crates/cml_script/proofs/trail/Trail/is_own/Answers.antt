@@ -1,6 +1,6 @@
 use Rattle.std.proofs.Common.{◌<◌, length, sym, ◌∙◌, inl, inr}
 use Rattle.std.proofs.lemmas.Bool.{cases_lt, false≢true}
-use Rattle.cml_script.specs.Prelude.{declared_count, history_of}
+use Rattle.cml_script.specs.{declared_count, history_of}
 use Rattle.cml_script.proofs.TrailLemmas.{late_own, own_late, early_own, own_early}
 use Rattle.cml_script.proofs.trail.Trail.is_own.Goals as goal
 

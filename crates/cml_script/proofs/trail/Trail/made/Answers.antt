@@ -1,6 +1,6 @@
 use Rattle.std.proofs.Common.{◌<◌, ◌≤◌, ◌∙◌, length, ap, sym, arith}
-use Rattle.cml_grammar.specs.Prelude.{names_of}
-use Rattle.cml_script.specs.Prelude.{port_made, Progress, history_of}
+use Rattle.cml_grammar.specs.{names_of}
+use Rattle.cml_script.specs.{port_made, Progress, history_of}
 use Rattle.cml_script.proofs.StandLemmas.{binding_at, made_declared, made_given}
 use Rattle.cml_script.proofs.TrailLemmas.{followed_at}
 use Rattle.cml_script.proofs.UseLemmas.{declared_length, made_option, object_within}

@@ -1,5 +1,5 @@
 use Rattle.std.proofs.Common.{ap, sym, length, arith}
-use Rattle.cml_script.specs.Prelude.{Progress, history_of}
+use Rattle.cml_script.specs.{Progress, history_of}
 use Rattle.cml_script.proofs.TrailLemmas.{followed_at, thread_seat}
 use Rattle.cml_script.proofs.trail.Trail.next_given.Goals as goal
 

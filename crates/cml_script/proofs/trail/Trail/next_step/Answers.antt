@@ -1,6 +1,6 @@
 use Rattle.std.proofs.Common.{◌+◌, ◌∙◌, ap, sym, slice_get}
 use Rattle.cml_board.specs.declared.entry.Who.TheVariants.{Seat}
-use Rattle.cml_script.specs.Prelude.{positions_from, next_position, Progress, history_of}
+use Rattle.cml_script.specs.{positions_from, next_position, Progress, history_of}
 use Rattle.cml_script.proofs.StandLemmas.{count_at}
 use Rattle.cml_script.proofs.TrailLemmas.{followed_at, none_next}
 use Rattle.cml_script.proofs.trail.Trail.next_step.Goals as goal

@@ -1,6 +1,6 @@
 use Rattle.std.proofs.Common.{ap, sym, ◌∙◌, arith}
 use Rattle.std.proofs.lemmas.Option.{slice_get-get_or}
-use Rattle.cml_script.specs.Prelude.{Progress, history_of}
+use Rattle.cml_script.specs.{Progress, history_of}
 use Rattle.cml_script.proofs.ReportLemmas.{text_at}
 use Rattle.cml_script.proofs.TrailLemmas.{step_within}
 use Rattle.cml_script.proofs.trail.Trail.next_text.Goals as goal

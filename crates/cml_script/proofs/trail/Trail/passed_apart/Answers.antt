@@ -1,5 +1,5 @@
 use Rattle.std.proofs.Common.{◌&&◌, ◌+◌, take, ap, ◌∙◌, arith}
-use Rattle.cml_script.specs.Prelude.{how_many, is_apart, positions_where, is_passed, history_of}
+use Rattle.cml_script.specs.{how_many, is_apart, positions_where, is_passed, history_of}
 use Rattle.cml_script.proofs.LineLemmas.{byte_more, stands}
 use Rattle.cml_script.proofs.StallingLemmas.{kept_within, passed_more, apart_at}
 use Rattle.cml_script.proofs.trail.Trail.passed_apart.Goals as goal

@@ -1,5 +1,5 @@
 use Rattle.std.proofs.Common.{◌≡◌, ◌≤◌, take}
-use Rattle.cml_script.specs.Prelude.{how_many, is_apart, positions_where, is_passed, history_of}
+use Rattle.cml_script.specs.{how_many, is_apart, positions_where, is_passed, history_of}
 use Rattle.cml_script.proofs.trail.Trail.passed_apart.Given as goal
 
 abbrev pub invariant-loop-i : goal.invariant-loop-i

@@ -1,5 +1,5 @@
 use Rattle.std.proofs.Common.{◌≡◌, ◌≤◌, take}
-use Rattle.cml_script.specs.Prelude.{how_many, positions_where, is_laid, is_passed, history_of}
+use Rattle.cml_script.specs.{how_many, positions_where, is_laid, is_passed, history_of}
 use Rattle.cml_script.proofs.trail.Trail.passed_laid.Given as goal
 
 abbrev pub invariant-loop-i : goal.invariant-loop-i

@@ -2,7 +2,7 @@ use Rattle.std.proofs.Common.{◌+◌, Some, None, sym, arith}
 use Rattle.std.proofs.lemmas.Option.{slice_get-get_or}
 use Rattle.std.proofs.lemmas.Bool.{false≢true}
 use Rattle.cml_board.specs.declared.entry.Who.TheVariants.{Seat}
-use Rattle.cml_script.specs.Prelude.{history_of}
+use Rattle.cml_script.specs.{history_of}
 use Rattle.cml_script.proofs.TrailLemmas.{step_within, used_at, called_at}
 use Rattle.cml_script.proofs.StallingLemmas.{waits_iff, no_call_waits}
 use Rattle.cml_script.proofs.trail.Trail.waits.Goals as goal

@@ -1,4 +1,4 @@
-use Rattle.cml_room.specs.Prelude.{MayAsk}
+use Rattle.cml_room.specs.{MayAsk}
 use Rattle.cml_threads.proofs.TallyingLemmas.{told_asks, told_turns}
 use Rattle.cml_threads.proofs.hall.Hall.ask.Goals as goal
 

@@ -1,4 +1,4 @@
-use Rattle.cml_room.specs.Prelude.{MayAskAgain}
+use Rattle.cml_room.specs.{MayAskAgain}
 use Rattle.cml_threads.proofs.TallyingLemmas.{told_asks, told_turns}
 use Rattle.cml_threads.proofs.hall.Hall.ask_again.Goals as goal
 

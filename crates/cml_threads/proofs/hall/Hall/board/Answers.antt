@@ -1,6 +1,7 @@
 use Rattle.std.proofs.Common.{ap, subst}
-use Rattle.cml_board.specs.Prelude.{Shown, IsSound}
-use Rattle.cml_threads.specs.Prelude.{Hosted}
+use Rattle.cml_board.specs.Shown.{Shown}
+use Rattle.cml_board.specs.{IsSound}
+use Rattle.cml_threads.specs.{Hosted}
 use Rattle.cml_threads.proofs.hall.Hall.board.Goals as goal
 
 pub returns-clause-sound : goal.returns-clause-sound

@@ -1,8 +1,8 @@
 use Rattle.std.proofs.Common.{subst}
-use Rattle.cml_lanes.specs.Prelude.{KeepsRings}
+use Rattle.cml_lanes.specs.{KeepsRings}
 use Rattle.cml_lanes.proofs.DeedsLemmas.{drains}
 use Rattle.cml_room.specs.Room as room
-use Rattle.cml_threads.specs.Prelude.{Hosted, floor_of}
+use Rattle.cml_threads.specs.{Hosted, floor_of}
 use Rattle.cml_threads.proofs.AddedEntriesLemmas.{was_counted}
 use Rattle.cml_threads.proofs.hall.Hall.drain.Goals as goal
 

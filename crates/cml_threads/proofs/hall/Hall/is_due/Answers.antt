@@ -1,6 +1,6 @@
 use Rattle.std.proofs.Common.{ap, subst, ◌∙◌}
-use Rattle.cml_room.specs.Prelude.{state_of, SleepsRightly}
-use Rattle.cml_threads.specs.Prelude.{Hosted, room_of}
+use Rattle.cml_room.specs.{state_of, SleepsRightly}
+use Rattle.cml_threads.specs.{Hosted, room_of}
 use Rattle.cml_threads.proofs.hall.Hall.is_due.Goals as goal
 
 pub returns-clause-asleep : goal.returns-clause-asleep

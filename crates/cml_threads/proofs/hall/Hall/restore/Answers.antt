@@ -1,6 +1,7 @@
 use Rattle.std.proofs.Common.{◌≡◌, ◌∙◌, ap, arith}
-use Rattle.cml_board.specs.Prelude.{entries_in, rings_in, seats_of, Shown}
-use Rattle.cml_threads.specs.Prelude.{share_at}
+use Rattle.cml_board.specs.{entries_in, rings_in, seats_of}
+use Rattle.cml_board.specs.Shown.{Shown}
+use Rattle.cml_threads.specs.{share_at}
 use Rattle.cml_threads.proofs.RestoringLemmas.{rings_within, all_rings}
 use Rattle.cml_threads.proofs.hall.Hall.restore.Goals as goal
 

@@ -1,5 +1,6 @@
 use Rattle.std.proofs.Common.{◌≡◌, ap, arith}
-use Rattle.cml_board.specs.Prelude.{entries_in, rings_in, Shown}
+use Rattle.cml_board.specs.{entries_in, rings_in}
+use Rattle.cml_board.specs.Shown.{Shown}
 use Rattle.cml_threads.proofs.hall.Hall.settle.Goals as goal
 
 -- the rest has all parts again, so that its amount is the book's total

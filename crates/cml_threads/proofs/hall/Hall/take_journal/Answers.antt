@@ -1,7 +1,7 @@
 use Rattle.std.proofs.Common.{subst}
-use Rattle.cml_lanes.specs.Prelude.{KeepsRings}
+use Rattle.cml_lanes.specs.{KeepsRings}
 use Rattle.cml_room.specs.Room as room
-use Rattle.cml_threads.specs.Prelude.{Hosted, floor_of}
+use Rattle.cml_threads.specs.{Hosted, floor_of}
 use Rattle.cml_threads.proofs.hall.Hall.take_journal.Goals as goal
 
 pub returns-clause-rings : goal.returns-clause-rings

@@ -1,5 +1,5 @@
 use Rattle.std.proofs.Common.{◌∷◌, [], refl, ap, ◌∙◌, arith, length, length-append}
-use Rattle.cml_threads.specs.Prelude.{Sitting}
+use Rattle.cml_threads.specs.{Sitting}
 use Rattle.cml_threads.proofs.RestoringLemmas.{numbers_more, shares_more, next_share, answers_more}
 use Rattle.cml_threads.proofs.hall.restoring.lefts_of.Goals as goal
 

@@ -1,5 +1,5 @@
 use Rattle.std.proofs.Common.{ℕ, ◌≡◌, ◌+◌, ◌<◌, ◌≤◌, length, slice_get, Some, vec_len, vec_capacity}
-use Rattle.cml_threads.specs.Prelude.{Sitting, answers_in, share_at}
+use Rattle.cml_threads.specs.{Sitting, answers_in, share_at}
 use Rattle.cml_threads.proofs.hall.restoring.lefts_of.Given as goal
 
 abbrev pub invariant-loop-number : goal.invariant-loop-number

@@ -1,5 +1,5 @@
 use Rattle.std.proofs.Common.{◌≡◌, ◌+◌, vec_len}
-use Rattle.cml_threads.specs.Prelude.{answers_in}
+use Rattle.cml_threads.specs.{answers_in}
 use Rattle.cml_threads.proofs.hall.settling.gather.Given as goal
 
 abbrev pub invariant-loop-left : goal.invariant-loop-left

@@ -1,4 +1,4 @@
-use Rattle.cml_threads.specs.Prelude.{Tells}
+use Rattle.cml_threads.specs.{Tells}
 use Rattle.cml_threads.proofs.switchboard.Switchboard.call.Given as goal
 
 -- the outcome is as of a first call, however often the call was made again

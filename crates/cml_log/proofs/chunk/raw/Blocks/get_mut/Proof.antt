@@ -13,7 +13,7 @@ use Prim.Native.Nat.{ℕ}
 use seplogic.Ra.Ura.{Ura}
 use denote.Memory.{part_of}
 use denote.Follow.{follows, lends_Part}
-use Rattle.cml_log.specs.Prelude.{with_content}
+use Rattle.cml_log.specs.{with_content}
 use Rattle.cml_log.proofs.BlockMemoryLemmas.{block_cut, block_glue}
 use Rattle.cml_log.proofs.BlockValuesLemmas.{Marking}
 use Rattle.cml_log.proofs.chunk.raw.Address.TheLaws as address_laws

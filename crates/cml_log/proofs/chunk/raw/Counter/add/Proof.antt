@@ -3,7 +3,7 @@ use Rattle.cml_log.proofs.WalksLemmas.{List, [], ◌∷◌, ◌+◌, ◌≡◌, 
 use Rattle.cml_log.proofs.WalksLemmas.{fjoin, fjoin3, feq_i, use0, use1, id⊢, emp, ftrue, flft, fact, fact_i, named, Val, vunit, vptr, owns}
 use Rattle.cml_log.proofs.WalksLemmas.{enter, alloc_all, pass_all, free_all, look_at, sets, of_opd, unit_lit, returns, nothing, opens}
 use Rattle.cml_log.proofs.WalksLemmas.{closes, tables, proved, leaves, Stays, stay_ref, plain, Goes-ref, mut_vals, mut_Tells, types_at}
-use Rattle.cml_log.specs.Prelude.{Counter}
+use Rattle.cml_log.specs.{Counter}
 use Rattle.cml_log.specs.contracts.chunk.raw.Counter.{the_row}
 use Rattle.cml_log.specs.contracts.chunk.raw.Counter.add as f
 use Rattle.cml_log.proofs.chunk.raw.Counter.add.Statement.{statement}

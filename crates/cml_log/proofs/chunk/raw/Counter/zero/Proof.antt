@@ -4,7 +4,7 @@ use Rattle.cml_log.proofs.WalksLemmas.{enter, alloc_all, pass_all, free_all, loo
 use Rattle.cml_log.proofs.WalksLemmas.{returns, nothing, tables, proved, leaves, ◌≡◌}
 use Rattle.cml_log.proofs.BlockValuesLemmas.{mark, count_made, Counting}
 use denote.Triple.Entry.{on_entry}
-use Rattle.cml_log.specs.Prelude.{Counter}
+use Rattle.cml_log.specs.{Counter}
 use Rattle.cml_log.specs.contracts.chunk.raw.Counter.zero as f
 use Rattle.cml_log.proofs.chunk.raw.Counter.zero.Statement.{statement}
 use Rattle.cml_log.proofs.chunk.raw.Counter.zero.Code as code

@@ -1,5 +1,5 @@
 use Rattle.std.proofs.Common.{◌≡◌, ◌≤◌, length, vec_len}
-use Rattle.cml_tests.specs.Prelude.{asked}
+use Rattle.cml_tests.specs.{asked}
 use Rattle.cml_tests.proofs.scripts.caller.rings.Rings.close_lanes.Given as goal
 
 abbrev pub invariant-loop-open : goal.invariant-loop-open
