@@ -3,19 +3,19 @@ ghost use Rattle.cml_grammar.specs.{ScriptsHaveNoFault, TextsAreOneScript, Fault
 ghost use Rattle.cml_grammar.specs.{PrintedNumbersAreRead, WordsMakeLines, NumbersAreTexts};
 
 /// A text that is a script has no fault.
-#[tactic(auto, using(crate::proofs::ScriptLaws::script_without_fault))]
+#[tactic(auto, using(crate::proofs::ScriptLemmas::script_without_fault))]
 pub fn scripts_have_no_fault()
     ensures { ScriptsHaveNoFault }
 {}
 
 /// A text is at most one script.
-#[tactic(auto, using(crate::proofs::ScriptLaws::one_script))]
+#[tactic(auto, using(crate::proofs::ScriptLemmas::one_script))]
 pub fn texts_are_one_script()
     ensures { TextsAreOneScript }
 {}
 
 /// A text without fault is a script.
-#[tactic(auto, using(crate::proofs::ScriptLaws::faultless_script))]
+#[tactic(auto, using(crate::proofs::ScriptLemmas::faultless_script))]
 pub fn faultless_texts_are_scripts()
     ensures { FaultlessTextsAreScripts }
 {}

@@ -32,7 +32,7 @@ const CUT_BYTES: &[u8] = b"journal 2\nfrom ";
 const FRONT: usize = 15;
 
 /// Checks the journal that the reader gives, up to its end or to what is wrong with it. It waits for the reader.
-#[tactic(auto, using(crate::proofs::Telling::verdict_behind))]
+#[tactic(auto, using(crate::proofs::EndingsLemmas::verdict_behind))]
 pub fn check_stream<S: Wait, R: Read>(
     system: &S,
     alloc: Global,

@@ -9,7 +9,7 @@ use cml_journal::Written;
 use std::alloc::{AllocError, Global};
 
 /// A line for each object, as a report has it, with its number for its name.
-#[tactic(auto, using(crate::proofs::Telling::lines_more))]
+#[tactic(auto, using(crate::proofs::EndingsLemmas::lines_more))]
 pub(crate) fn state_lines<M: Message + Written>(
     alloc: Global,
     board: &Board<M, BoardLog<M>>,
