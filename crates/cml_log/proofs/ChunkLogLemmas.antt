@@ -1,66 +1,76 @@
 -- Lemmas on what each call leaves of a log in chunks.
-use Rattle.std.proofs.Common.{◌≡◌, ◌≢◌, ℕ, ◌+◌, ◌-◌, ◌*◌, ◌/◌, ◌%◌, ◌<◌, ◌≤◌, true, false, List, set, count_by, is_some}
-use Rattle.std.proofs.Common.{Option, Some, None, sym, ap, subst, ◌∙◌, arith}
+use Rattle.std.proofs.Common.{◌≡◌, ◌≢◌, ℕ, ◌+◌, ◌-◌, ◌*◌, ◌/◌, ◌%◌, ◌<◌, ◌≤◌, true, false, List, set, count_by, is_some, Option, Some, None}
+use Rattle.std.proofs.Common.{sym, ap, subst, ◌∙◌, arith}
 use Rattle.std.proofs.Math.Nat.{div-mul-le_self}
 use Rattle.std.proofs.lemmas.Nat.{le-div}
-use Rattle.cml_log.specs.{Address, Cursor, trimmed, with_item, with_place, Opens, Chunks, count_at, LiesAt, end_of, is_idle, passed}
-use Rattle.cml_log.specs.{with_count, Pushed, Passed, cursor_at, HoldsChunk, IsHeld, IsTrim, log_of}
+use Rattle.cml_log.specs.Log.{Log}
+use Rattle.cml_log.specs.{chunk_of, Address, Cursor, trimmed, with_item, with_place, Opens, Chunks, count_at, LiesAt, end_of, is_idle}
+use Rattle.cml_log.specs.{passed, with_count, Pushed, Passed, cursor_at, HoldsChunk, IsHeld, IsTrim, log_of}
 use Rattle.cml_log.proofs.LogLemmas.{trimmed-tidy}
 use Rattle.cml_log.proofs.PassedLemmas.{idle_before}
 use Rattle.cml_log.proofs.StandingLemmas.{standing-lt, weight-elsewhere}
-use Rattle.cml_log.proofs.CursorsLemmas.{lies-recounted, count-other, given-le_end, IsTidy-shown, IsHeld-passed, IsHeld-pushed}
-use Rattle.cml_log.proofs.CursorsLemmas.{shown-pushed, IsHeld-closed, shown-passed, shown-set}
+use Rattle.cml_log.proofs.CursorsLemmas.{chunk_of-within, lies-recounted, count-other, given-le_end, IsTidy-shown, IsHeld-passed}
+use Rattle.cml_log.proofs.CursorsLemmas.{IsHeld-pushed, shown-pushed, IsHeld-closed, shown-passed, shown-set}
 use Rattle.cml_log.proofs.MovedLemmas.{next_begins, lies_left, idle_left, IsTrim-moved, left, stood, given_on, IsHeld-stepped}
 use Rattle.cml_log.proofs.MovedLemmas.{Passed-stepped, IsTrim-given, IsTrim-opened, Opens-shown}
+
+module _ {T : Type 0} where
+  -- the chunks are trimmed, and show this log trimmed
+  pub record TrimsTo (n : ℕ) (c : Chunks T) (slots : List (Option Cursor)) (l : Log T) : Type 0 where
+    pub trim : IsTrim n c slots
+    pub log : log_of n c slots ≡ trimmed (chunk_of n) l
+
+  trims_to : (n : ℕ) (c : Chunks T) (slots : List (Option Cursor)) (l : Log T) → IsTrim n c slots → log_of n c slots ≡ trimmed n l
+      → TrimsTo n c slots l
+  trims_to n c slots l trim log =
+      let within = chunk_of-within n trim.is_held.holds_one trim.is_held.small in
+      record { trim = trim; log = log ∙ ap (λ m. trimmed m l) (sym within) }
+
+  -- trimmed chunks show a trimmed log
+  trims_itself : (n : ℕ) (c : Chunks T) (slots : List (Option Cursor)) (l : Log T) → IsTrim n c slots → log_of n c slots ≡ l
+      → TrimsTo n c slots l
+  trims_itself n c slots l trim log =
+      let tidy = IsTidy-shown n c slots trim.is_held trim.trim in
+      trims_to n c slots l trim (sym (trimmed-tidy n (log_of n c slots) tidy.first) ∙ ap (trimmed n) log)
+
+  -- a cursor has come into the chunk at `next`: where the head isn't idle, the chunks are trimmed; where it is, it is the chunk
+  -- before, and they are once it is given back
+  pub record StandsIn (n : ℕ) (next : Address) (c : Chunks T) (slots : List (Option Cursor)) (l : Log T) : Type 0 where
+    pub busy : is_idle n c ≡ false → TrimsTo n c slots l
+    pub head : is_idle n c ≡ true → (c.given < end_of n c / n) × (next.number ≡ c.given + 1) × LiesAt c.cells next.number next.at
+    pub gone : is_idle n c ≡ true → TrimsTo n (passed n c) slots l
 
 module _ {T : Type 0} (n : ℕ) (c : Chunks T) (slots : List (Option Cursor)) (trim : IsTrim n c slots) where
   -- a push, after which idle chunks are given back
   module _ (after final : Chunks T) (item : T) (pushed : Pushed n c after item) (below : end_of n c < 18446744073709551614)
       (went : Passed n after final) (busy : is_idle n final ≡ false) where
-    pub pushed_trim : IsTrim n final slots
-    pushed_trim =
-        record {
-          is_held = IsHeld-passed n after slots (IsHeld-pushed n c slots trim.is_held after item pushed below) final went;
-          trim = busy;
-        }
-
-    pub pushed_log : log_of n final slots ≡ trimmed n (with_item (log_of n c slots) item)
-    pushed_log =
-        shown-passed n after final slots pushed_trim.is_held busy went
-        ∙ ap (trimmed n) (shown-pushed n c slots trim.is_held after item pushed)
+    pub pushed_trims : TrimsTo n final slots (with_item (log_of n c slots) item)
+    pushed_trims =
+        let held = IsHeld-passed n after slots (IsHeld-pushed n c slots trim.is_held after item pushed below) final went in
+        trims_to n final slots _ (record { is_held = held; trim = busy }) (shown-passed n after final slots held busy went
+        ∙ ap (trimmed n) (shown-pushed n c slots trim.is_held after item pushed))
 
   -- a close, after which idle chunks are given back
   module _ (key : ℕ) (cursor : Cursor) (found : cursor_at slots key ≡ Some cursor) (after final : Chunks T) (others : List (Option Cursor))
       (leaves : after ≡ with_count c cursor.at.number cursor.at.at (count_at c.cells cursor.at.number - 1))
       (closes : others ≡ set slots key None) (went : Passed n after final) (busy : is_idle n final ≡ false) where
-    closed_held : IsHeld n after others
-    closed_held =
-        subst (IsHeld n after) (sym closes)
-        (subst (λ m. IsHeld n m (set slots key None)) (sym leaves) (IsHeld-closed n c slots trim.is_held key cursor found))
-
-    pub closed_trim : IsTrim n final others
-    closed_trim = record { is_held = IsHeld-passed n after others closed_held final went; trim = busy }
-
-    pub closed_log : log_of n final others ≡ trimmed n (with_place (log_of n c slots) key None)
-    closed_log =
-        shown-passed n after final others closed_trim.is_held busy went
+    pub closed_trims : TrimsTo n final others (with_place (log_of n c slots) key None)
+    closed_trims =
+        let closed = subst (λ m. IsHeld n m (set slots key None)) (sym leaves) (IsHeld-closed n c slots trim.is_held key cursor found) in
+        let held = IsHeld-passed n after others (subst (IsHeld n after) (sym closes) closed) final went in
+        trims_to n final others _ (record { is_held = held; trim = busy }) (shown-passed n after final others held busy went
         ∙ ap (λ m. trimmed n (log_of n m others)) leaves
         ∙ ap (λ s. trimmed n (log_of n c s)) closes
-        ∙ ap (trimmed n) (shown-set n c slots key None)
+        ∙ ap (trimmed n) (shown-set n c slots key None))
 
   -- a cursor that moves within its chunk
   module _ (key : ℕ) (cursor : Cursor) (found : cursor_at slots key ≡ Some cursor) (below : cursor.place + 1 ≤ end_of n c) where
     module _ (others : List (Option Cursor)) (inside : (cursor.place + 1) % n ≢ 0)
         (moves : others ≡ set slots key (Some (record { at = cursor.at; place = cursor.place + 1 }))) where
-      pub moved_trim : IsTrim n c others
-      moved_trim = subst (IsTrim n c) (sym moves) (IsTrim-moved n c slots trim key cursor found below inside)
-
-      pub moved_log : log_of n c others ≡ trimmed n (with_place (log_of n c slots) key (Some (cursor.place + 1)))
-      moved_log =
-          let tidy = IsTidy-shown n c others moved_trim.is_held moved_trim.trim in
-          sym (trimmed-tidy n (log_of n c others) tidy.first)
-          ∙ ap (λ s. trimmed n (log_of n c s)) moves
-          ∙ ap (trimmed n) (shown-set n c slots key (Some (record { at = cursor.at; place = cursor.place + 1 })))
+      pub moved_trims : TrimsTo n c others (with_place (log_of n c slots) key (Some (cursor.place + 1)))
+      moved_trims =
+          trims_itself n c others _ (subst (IsTrim n c) (sym moves) (IsTrim-moved n c slots trim key cursor found below inside))
+          (ap (log_of n c) moves ∙ shown-set n c slots key (Some (record { at = cursor.at; place = cursor.place + 1 })))
 
     -- the chunk of a cursor whose next place begins one isn't the last
     pub before_end : (cursor.place + 1) % n ≡ 0 → cursor.at.number < end_of n c / n
@@ -86,65 +96,41 @@ module _ {T : Type 0} (n : ℕ) (c : Chunks T) (slots : List (Option Cursor)) (t
         (numbered : next.number ≡ cursor.at.number + 1) (lies : LiesAt c.cells next.number next.at)
         (moves : others ≡ set slots key (Some (record { at = next; place = cursor.place + 1 })))
         (steps : after ≡ stood n c slots trim key cursor found below next begins numbered lies) where
-      held_stood : IsHeld n after others
-      held_stood =
-          subst (IsHeld n after) (sym moves)
-          (subst (λ m. IsHeld n m (set slots key (Some (record { at = next; place = cursor.place + 1 })))) (sym steps)
-          (IsHeld-stepped n c slots trim key cursor found below next begins numbered lies))
+      abbrev l : Chunks T
+      l = left n c slots trim key cursor found below next begins numbered lies
 
-      shown_stood : log_of n after others ≡ with_place (log_of n c slots) key (Some (cursor.place + 1))
-      shown_stood =
-          ap (λ m. log_of n m others) steps ∙ ap (λ s. log_of n c s) moves
-          ∙ shown-set n c slots key (Some (record { at = next; place = cursor.place + 1 }))
+      abbrev stands : Chunks T
+      stands = stood n c slots trim key cursor found below next begins numbered lies
 
-      -- where the head is idle, it is the chunk before the next
-      pub next_after : is_idle n after ≡ true → (after.given < end_of n after / n) × (next.number ≡ after.given + 1)
-          × LiesAt after.cells next.number next.at
-      next_after idle =
-          let at_stood = ap (is_idle n) (sym steps) ∙ idle in
-          let head = idle_left n c slots trim key cursor found below next begins numbered lies at_stood in
-          let there = lies_left n c slots trim key cursor found below next begins numbered lies in
-          let lies_there = lies-recounted (left n c slots trim key cursor found below next begins numbered lies).cells next.number next.at
-          (count_at (left n c slots trim key cursor found below next begins numbered lies).cells next.number + 1)
-          there next.number next.at there in (
-            idle_before n after idle,
-            omega (arith, numbered, head, ap (λ m. m.given) steps),
-            subst (λ m. LiesAt m.cells next.number next.at) (sym steps) lies_there,
-          )
+      abbrev moved : List (Option Cursor)
+      moved = set slots key (Some (record { at = next; place = cursor.place + 1 }))
 
-      -- where the head isn't idle
-      pub stood_trim : is_idle n after ≡ false → IsTrim n after others
-      stood_trim busy = record { is_held = held_stood; trim = busy }
+      pub stands_in : StandsIn n next after others (with_place (log_of n c slots) key (Some (cursor.place + 1)))
+      stands_in =
+          subst (λ m. StandsIn n next m others (with_place (log_of n c slots) key (Some (cursor.place + 1)))) (sym steps)
+          (subst (λ s. StandsIn n next stands s (with_place (log_of n c slots) key (Some (cursor.place + 1)))) (sym moves) (record {
+            busy = λ busy. trims_itself n stands moved _ (record { is_held = held; trim = busy }) shown;
+            head = λ idle. (
+              idle_before n stands idle,
+              omega (arith, numbered, idle_left n c slots trim key cursor found below next begins numbered lies idle),
+              lies-recounted l.cells next.number next.at (count_at l.cells next.number + 1) there next.number next.at there,
+            );
+            gone = λ idle.
+                let went = Passed-stepped n c slots trim key cursor found below next begins numbered lies idle in
+                let whole = IsTrim-given n c slots trim key cursor found below next begins numbered lies idle in
+                let back = given_on n c slots trim key cursor found below next begins numbered lies in
+                trims_to n (passed n stands) moved _ whole
+                (shown-passed n stands back moved (IsHeld-passed n stands moved held back went) whole.trim went ∙ ap (trimmed n) shown);
+          }))
+        where
+          held : IsHeld n stands moved
+          held = IsHeld-stepped n c slots trim key cursor found below next begins numbered lies
 
-      pub stood_log : is_idle n after ≡ false
-          → log_of n after others ≡ trimmed n (with_place (log_of n c slots) key (Some (cursor.place + 1)))
-      stood_log busy =
-          let tidy = IsTidy-shown n after others held_stood busy in
-          sym (trimmed-tidy n (log_of n after others) tidy.first) ∙ ap (trimmed n) shown_stood
+          there : LiesAt l.cells next.number next.at
+          there = lies_left n c slots trim key cursor found below next begins numbered lies
 
-      -- where it is, and is given back
-      pub gone_trim : is_idle n after ≡ true → IsTrim n (passed n after) others
-      gone_trim idle =
-          subst (λ m. IsTrim n (passed n m) others) (sym steps)
-          (subst (IsTrim n (passed n (stood n c slots trim key cursor found below next begins numbered lies))) (sym moves)
-          (IsTrim-given n c slots trim key cursor found below next begins numbered lies (ap (is_idle n) (sym steps) ∙ idle)))
-
-      pub gone_log : is_idle n after ≡ true
-          → log_of n (passed n after) others ≡ trimmed n (with_place (log_of n c slots) key (Some (cursor.place + 1)))
-      gone_log idle =
-          let at_stood = ap (is_idle n) (sym steps) ∙ idle in
-          let went = Passed-stepped n c slots trim key cursor found below next begins numbered lies at_stood in
-          let whole = IsTrim-given n c slots trim key cursor found below next begins numbered lies at_stood in
-          let held = IsHeld-passed n (stood n c slots trim key cursor found below next begins numbered lies)
-          (set slots key (Some (record { at = next; place = cursor.place + 1 })))
-          (IsHeld-stepped n c slots trim key cursor found below next begins numbered lies)
-          (given_on n c slots trim key cursor found below next begins numbered lies) went in
-          ap (λ m. log_of n (passed n m) others) steps
-          ∙ ap (log_of n (given_on n c slots trim key cursor found below next begins numbered lies)) moves
-          ∙ shown-passed n (stood n c slots trim key cursor found below next begins numbered lies)
-          (given_on n c slots trim key cursor found below next begins numbered lies)
-          (set slots key (Some (record { at = next; place = cursor.place + 1 }))) held whole.trim went
-          ∙ ap (trimmed n) (shown-set n c slots key (Some (record { at = next; place = cursor.place + 1 })))
+          shown : log_of n stands moved ≡ with_place (log_of n c slots) key (Some (cursor.place + 1))
+          shown = shown-set n c slots key (Some (record { at = next; place = cursor.place + 1 }))
 
   -- a cursor that is opened
   module _ (new : List (Option Cursor)) (key : ℕ) (cursor : Cursor) (after : Chunks T) (holds : HoldsChunk n c cursor)

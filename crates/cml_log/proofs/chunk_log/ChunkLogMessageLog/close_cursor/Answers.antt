@@ -1,8 +1,16 @@
-use Rattle.std.proofs.Common.{None, sym, ap, ◌∙◌, arith}
-use Rattle.cml_log.specs.{trimmed, with_place, log_of}
-use Rattle.cml_log.proofs.CursorsLemmas.{chunk_of-within, entered}
-use Rattle.cml_log.proofs.ChunkLogLemmas.{closed_trim, closed_log}
+use Rattle.std.proofs.Common.{None, ap, ◌∙◌, arith}
+use Rattle.cml_log.specs.{trimmed, with_place, chunk_of, log_of}
+use Rattle.cml_log.proofs.CursorsLemmas.{entered}
+use Rattle.cml_log.proofs.ChunkLogLemmas.{TrimsTo, closed_trims}
+use Rattle.cml_log.proofs.chunk_log.ChunkLogMessageLog.close_cursor.Goals.{After-pass_idle}
 use Rattle.cml_log.proofs.chunk_log.ChunkLogMessageLog.close_cursor.Goals as goal
+
+closes : (g : _) (c : After-pass_idle g) → TrimsTo g.row.N c.pass_idle.new.self c.remove-cursor.new.self.slots
+    (with_place (log_of g.row.N c.self.inside.chain c.self.inside.cursors.slots) c.k.inside.0 None)
+closes g c =
+    closed_trims g.row.N c.self.inside.chain c.self.inside.cursors.slots c.self.invariant c.k.inside.0 c.remove-cursor.result
+    c.remove-cursor.ensures.value c.leave.new.self c.pass_idle.new.self c.remove-cursor.new.self.slots
+    c.leave.ensures c.remove-cursor.ensures.slots c.pass_idle.ensures.passed c.pass_idle.ensures.idle
 
 pub leave-requires : goal.leave-requires
 leave-requires g c =
@@ -16,17 +24,9 @@ leave-requires g c =
     )
 
 pub invariant_of-self : goal.invariant_of-self
-invariant_of-self g c =
-    closed_trim g.row.N c.self.inside.chain c.self.inside.cursors.slots c.self.invariant c.k.inside.0 c.remove-cursor.result
-    c.remove-cursor.ensures.value c.leave.new.self c.pass_idle.new.self c.remove-cursor.new.self.slots
-    c.leave.ensures c.remove-cursor.ensures.slots c.pass_idle.ensures.passed c.pass_idle.ensures.idle
+invariant_of-self g c = (closes g (goal.at.invariant_of-self g c).After-pass_idle).trim
 
 pub returns-clause-log : goal.returns-clause-log
-returns-clause-log g c =
-    closed_log g.row.N c.self.inside.chain c.self.inside.cursors.slots c.self.invariant c.k.inside.0 c.remove-cursor.result
-    c.remove-cursor.ensures.value c.leave.new.self c.pass_idle.new.self c.remove-cursor.new.self.slots
-    c.leave.ensures c.remove-cursor.ensures.slots c.pass_idle.ensures.passed c.pass_idle.ensures.idle
-    ∙ ap (λ k. trimmed g.row.N (with_place (log_of g.row.N c.self.inside.chain c.self.inside.cursors.slots) k None)) c.k.view_is
-    ∙ ap (λ m. trimmed g.row.N (with_place m.log c.args.k None)) c.self.view_is
-    ∙ ap (λ n. trimmed n (with_place c.args.self.now.log c.args.k None))
-    (sym (chunk_of-within g.row.N c.self.invariant.is_held.holds_one c.self.invariant.is_held.small))
+returns-clause-log g c = (closes g (goal.at.returns-clause-log g c).After-pass_idle).log
+    ∙ ap (λ k. trimmed (chunk_of g.row.N) (with_place (log_of g.row.N c.self.inside.chain c.self.inside.cursors.slots) k None)) c.k.view_is
+    ∙ ap (λ m. trimmed (chunk_of g.row.N) (with_place m.log c.args.k None)) c.self.view_is
