@@ -350,16 +350,19 @@ module _ {T : Type 0} {N : ℕ} where
           product_one : (k : ℕ) → 1 ≤ k → N ≤ N * k
           product_one k low = omega (arith, product-next N 0 k low, mul-zero N)
 
-      pub IsChain-without : (given' : ℕ) → given' ≡ given + 1 → IsChain (set kept head.number None) further tail next made given'
-      IsChain-without given' counted =
-          record {
+      pub without_head : (now : List (Option (Ptr × Chunk T N))) (made' given' followed followed' : ℕ) → now ≡ set kept head.number None
+          → made' ≡ made → given' ≡ given + 1 → followed' ≡ followed → IsChain now further tail next made' given'
+          × (shown now made' given' followed' ≡ passed N (shown kept made given followed))
+      without_head now made' given' followed followed' is same_made counted same =
+          let less = items_of-without kept head tail further chain.linked before numbered lies whole_head in
+          let chained : IsChain (set kept head.number None) further tail next made' given' = record {
             holds_one = chain.holds_one;
             small = chain.small;
             linked = IsLinked-without kept head tail further chain.linked before numbered lies whole_head;
             ends = omega (
               arith,
               chain.ends,
-              ap length (items_of-without kept head tail further chain.linked before numbered lies whole_head),
+              ap length less,
               length-drop N (items_of kept),
               whole_head,
               ap (λ n. N * n) numbered,
@@ -368,25 +371,23 @@ module _ {T : Type 0} {N : ℕ} where
             );
             in_tail = chain.in_tail;
             bounded = chain.bounded;
-            made_is = chain.made_is ∙ sym (length-set kept head.number None);
+            made_is = same_made ∙ chain.made_is ∙ sym (length-set kept head.number None);
             given_is = counted ∙ ap (λ n. n + 1) chain.given_is ∙ sym numbered;
-          }
-
-      pub shown-without : (given' followed : ℕ) → given' ≡ given + 1
-          → shown (set kept head.number None) made given' followed ≡ passed N (shown kept made given followed)
-      shown-without given' followed counted =
-          ap (λ n. record {
-            given = n;
-            items = items_of (set kept head.number None);
-            cells = map cell_of (set kept head.number None);
-            made = made;
-            followed = followed;
-          }) counted
-          ∙ ap (λ items.
-          record { given = given + 1; items = items; cells = map cell_of (set kept head.number None); made = made; followed = followed })
-          (items_of-without kept head tail further chain.linked before numbered lies whole_head)
-          ∙ ap (λ cells. record { given = given + 1; items = drop N (items_of kept); cells = cells; made = made; followed = followed })
-          (map-set cell_of kept head.number None ∙ ap (λ n. set (map cell_of kept) n None) (sym chain.given_is))
+          } in (
+            subst (λ k. IsChain k further tail next made' given') (sym is) chained,
+            ap (λ k. shown k made' given' followed') is
+                ∙ shown-at (set kept head.number None) made (given + 1) followed made' given' followed' same_made counted same
+                ∙ ap (λ items. record {
+                  given = given + 1;
+                  items = items;
+                  cells = map cell_of (set kept head.number None);
+                  made = made;
+                  followed = followed;
+                }) less
+                ∙ ap (λ cells.
+                record { given = given + 1; items = drop N (items_of kept); cells = cells; made = made; followed = followed })
+                (map-set cell_of kept head.number None ∙ ap (λ n. set (map cell_of kept) n None) (sym chain.given_is)),
+          )
 
     -- a kept chunk isn't before the head
     pub head_before : (number : ℕ) (at : Ptr) → IsKept kept number at → head.number ≤ number
