@@ -1,13 +1,13 @@
 -- Lemmas on a chain of chunks, and on what the log sees of it.
-use Rattle.std.proofs.Common.{◌≡◌, ℕ, zero, suc, ◌+◌, ◌-◌, ◌*◌, ◌/◌, ◌%◌, ◌<◌, ◌≤◌, List, [], ◌∷◌, ◌++◌, length, set, map, take}
-use Rattle.std.proofs.Common.{drop, Option, Some, None, refl, sym, ap, subst, ◌∙◌, inl, inr, arith}
+use Rattle.std.proofs.Common.{◌≡◌, ℕ, zero, suc, ◌+◌, ◌-◌, ◌*◌, ◌/◌, ◌%◌, ◌<◌, ◌≤◌, List, [], ◌∷◌, ◌++◌, length, set, map, take, drop}
+use Rattle.std.proofs.Common.{Option, Some, None, refl, sym, ap, subst, ◌∙◌, inl, inr, arith}
 use Rattle.std.specs.List.{slice_get}
 use Rattle.std.proofs.Math.Nat.{zero-div, mul-add, mul-one, mul-zero, mul-div-le, mod-lt}
 use Rattle.std.proofs.Math.Seq.{drop-nil, map-set_same, get_or-append_seam}
 use Rattle.std.proofs.lemmas.Bool.{cases_eq, cases_lt}
 use Rattle.std.proofs.lemmas.Nat.{div-mul-add, div-add-mod'}
-use Rattle.std.proofs.lemmas.List.{get_or_past, get_or_append_left, length-set, length-append, length-drop, take_all}
-use Rattle.std.proofs.lemmas.List.{set-append_left, map-set, map-append}
+use Rattle.std.proofs.lemmas.List.{get_or_past, get_or_append_left, length-set, length-append, length-drop, take_all, set-append_left}
+use Rattle.std.proofs.lemmas.List.{map-set, map-append}
 use denote.RawPtr.{Ptr}
 use Rattle.cml_log.specs.{Address, Chunk, block_at, IsKept, row_of, cell_of, row_at, link_at, items_of, Rewrites, with_row, with_link}
 use Rattle.cml_log.specs.{with_cursors, Chunks, cell_at, count_of, count_at, LiesAt, end_of, passed, with_count, Pushed, IsLinked, IsChain}

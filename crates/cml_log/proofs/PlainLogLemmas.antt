@@ -1,7 +1,7 @@
 -- Lemmas on the fields of a plain log.
-use Rattle.std.proofs.Common.{◌≡◌, ℕ, zero, suc, ◌+◌, ◌-◌, ◌*◌, ◌/◌, ◌%◌, ◌<◌, ◌≤◌, min, List, [], ◌∷◌, ◌++◌, length, drop}
-use Rattle.std.proofs.Common.{Option, Some, None, refl, sym, ap, subst, ◌∙◌, inl, inr, is_err, Bool, true, false, ◌==◌, Result}
-use Rattle.std.proofs.Common.{Ok, Err, OnOk, is_some, count_by, cond, set, get_or, arith}
+use Rattle.std.proofs.Common.{◌≡◌, ℕ, zero, suc, ◌+◌, ◌-◌, ◌*◌, ◌/◌, ◌%◌, ◌<◌, ◌≤◌, min, List, [], ◌∷◌, ◌++◌, length, drop, Option, Some}
+use Rattle.std.proofs.Common.{None, refl, sym, ap, subst, ◌∙◌, inl, inr, is_err, Bool, true, false, ◌==◌, Result, Ok, Err, OnOk, is_some}
+use Rattle.std.proofs.Common.{count_by, cond, set, get_or, arith}
 use Rattle.std.proofs.Math.Nat.{mul-div-le, div-eq_of_lt-le}
 use Rattle.std.proofs.lemmas.Bool.{cases_eq}
 use Rattle.std.proofs.lemmas.List.{length-append}
@@ -118,37 +118,19 @@ module _ {T : Type 0} where
       let there : IsOpen l key = subst (λ m. IsOpen m key) (sym seen) (subst (λ n. IsOpen now n) (sym same) opened) in
       subst (λ ps. IsTrimmable chunk (record l { places = ps })) (sym written) (IsTrimmable-close chunk l key tidy there)
 
-  -- the code found the least of these places, with which the log may be trimmed
-  pub record FindsLeast (chunk : ℕ) (l : Log T) (places : List (Option ℕ)) (low : ℕ) : Type 0 where
-    pub ready : IsTrimmable chunk (record l { places = places })
-    pub found : low ≡ least (next_of l) places
-
-  pub finds_least : (chunk : ℕ) (l now : Log T) (places : List (Option ℕ)) (end low : ℕ) → IsTrimmable chunk (record l { places = places })
-      → l ≡ now → end ≡ next_of now → low ≡ least end places → FindsLeast chunk l places low
-  finds_least chunk l now places end low ready seen next found = record {
-    ready = ready;
-    found = found ∙ ap (λ n. least n places) (next ∙ ap (λ m. next_of m) (sym seen));
-  }
-
-  -- then the log keeps nothing past this place's chunk
-  pub kept_before : (chunk : ℕ) (l : Log T) (places : List (Option ℕ)) (low : ℕ)
-      → FindsLeast chunk l places low → l.first ≤ chunk * (low / chunk)
-  kept_before chunk l places low finds = subst (λ n. l.first ≤ chunk * (n / chunk)) (sym finds.found) finds.ready.kept
+  -- a log that may be trimmed keeps nothing past the chunk of its least place
+  pub starts_before : {chunk : ℕ} {l : Log T} (n : ℕ) → IsTrimmable chunk l → n ≡ chunk → l.first ≤ chunk_start n l
+  starts_before {l = l} n ready same = subst (λ m. l.first ≤ chunk_start m l) (sym same) ready.kept
 
   -- what the trimming of the fields leaves is sound
-  pub IsSound-by_trim : (chunk : ℕ) (old : Log T) (capacity : ℕ) (places : List (Option ℕ)) (low first later : ℕ) (kept : List T)
-      → IsSound chunk old capacity → FindsLeast chunk old places low → first ≡ chunk * (low / chunk)
-      → kept ≡ drop (chunk * (low / chunk) - old.first) old.kept → later ≡ capacity
-      → IsSound chunk (record { first = first; kept = kept; places = places }) later
-  IsSound-by_trim chunk old capacity places low first later kept sound finds begins keeps same =
-      let moved : Log T = record old { places = places } in
-      let done = IsSound-trimmed chunk moved capacity sound.holds_one sound.small finds.ready sound.counted sound.room in
-      let start : first ≡ chunk_start chunk moved = begins ∙ ap (λ n. chunk * (n / chunk)) finds.found in
-      let rest : kept ≡ drop (chunk_start chunk moved - old.first) old.kept = keeps
-      ∙ ap (λ n. drop (chunk * (n / chunk) - old.first) old.kept) finds.found in
-      subst (λ c. IsSound chunk (record { first = first; kept = kept; places = places }) c) (sym same)
-      (subst (λ f. IsSound chunk (record { first = f; kept = kept; places = places }) capacity) (sym start)
-      (subst (λ k. IsSound chunk (record { first = chunk_start chunk moved; kept = k; places = places }) capacity) (sym rest) done))
+  pub IsSound-by_trim : {chunk capacity : ℕ} {old : Log T} {places : List (Option ℕ)} (n later : ℕ) (now : Log T)
+      → IsSound chunk old capacity → IsTrimmable chunk (record old { places = places }) → n ≡ chunk
+      → now ≡ trimmed n (record old { places = places }) → later ≡ capacity → IsSound chunk now later
+  IsSound-by_trim {chunk} {capacity} {old} {places} n later now sound ready size trims same =
+      let all =
+      IsSound-trimmed chunk (record old { places = places }) capacity sound.holds_one sound.small ready sound.counted sound.room in
+      subst (IsSound chunk now) (sym same)
+      (subst (λ l. IsSound chunk l capacity) (sym (trims ∙ ap (λ m. trimmed m (record old { places = places })) size)) all)
 
   -- one more item leaves a log sound, where there is room for it and a full chunk took room for another
   pub IsSound-with_item : (chunk : ℕ) (l : Log T) (item : T) (capacity later : ℕ) → IsSound chunk l capacity

@@ -3,7 +3,7 @@ ghost use Rattle.std.specs.Prelude.{◌≡◌, ℕ, ◌+◌, ◌-◌, ◌*◌, �
 ghost use Rattle.std.specs.Prelude.{unwrap_or, OnOk, OnErr, IsOk};
 ghost use Rattle.std.specs.VecDeque.{deque_len, deque_capacity};
 ghost use Rattle.slab.specs.Slab.{get, ContainsKey};
-ghost use Rattle.cml_log.specs.{least};
+ghost use Rattle.cml_log.specs.{least, chunk_start, trimmed};
 
 use slab::Slab;
 use std::alloc::AllocError;
@@ -65,4 +65,25 @@ pub(crate) fn trim<T: Drop>(first: &mut u64, items: &mut VecDeque<T>, least: u64
     let start = least - least % chunk as u64;
     items.drain(..(start - *first) as usize);
     *first = start;
+}
+
+// Drops the items before the chunk that has the least place of a cursor, or the next place.
+#[inline]
+pub(crate) fn trim_to_least<T: Drop>(
+    first: &mut u64,
+    items: &mut VecDeque<T>,
+    places: &Slab<u64>,
+    chunk: usize,
+)
+    requires holds_one { 0 < chunk }
+    requires counted { first.old + deque_len items.old < 2 ^ 64 }
+    requires kept { first.old
+        ≤ chunk_start chunk (record { first = first.old; kept = items.old.items; places = places.now.slots }) }
+    ensures log { record { first = first.new; kept = items.new.items; places = places.now.slots }
+        ≡ trimmed chunk (record { first = first.old; kept = items.old.items; places = places.now.slots }) }
+    ensures capacity { deque_capacity items.new ≡ deque_capacity items.old }
+{
+    let end = *first + items.len() as u64;
+    let least = least_place(places, end);
+    trim(first, items, least, chunk);
 }

@@ -2,7 +2,7 @@ ghost use Rattle.std.specs.Prelude.{◌≡◌, ℕ, ◌+◌, ◌-◌, ◌*◌, �
 ghost use Rattle.std.proofs.Common.{rules};
 ghost use Rattle.cml_log.specs.{chunk_of};
 
-use crate::places::{least_place, make_room, step, trim};
+use crate::places::{make_room, step, trim, trim_to_least};
 use crate::{Back, Key, MessageLog};
 use slab::Slab;
 use std::alloc::{AllocError, Global};
@@ -85,13 +85,11 @@ impl<T: Drop, const N: usize> MessageLog<T> for PlainLog<T, N> {
     }
 
     fn close_cursor(&mut self, k: Key) {
-        let next = self.next();
         self.places.remove(k.0);
-        let least = least_place(&self.places, next);
-        trim(
+        trim_to_least(
             &mut self.first,
             &mut self.items,
-            least,
+            &self.places,
             Self::CHUNK as usize,
         );
     }
@@ -102,13 +100,11 @@ impl<T: Drop, const N: usize> MessageLog<T> for PlainLog<T, N> {
     }
 
     fn advance(&mut self, k: Key) {
-        let next = self.next();
         step(&mut self.places, k.0);
-        let least = least_place(&self.places, next);
-        trim(
+        trim_to_least(
             &mut self.first,
             &mut self.items,
-            least,
+            &self.places,
             Self::CHUNK as usize,
         );
     }
