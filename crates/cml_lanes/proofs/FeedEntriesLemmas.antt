@@ -1,6 +1,6 @@
 -- How entries of a feed, and entries of others, change what the journal has of each feed, each lane and each port.
 use Rattle.std.proofs.Common.{◌≡◌, ◌≢◌, ◌↔◌, ℕ, Bool, false, cond, List, [], ◌∷◌, ◌++◌, Some, None, IsSome, IfSome, IsTrue}
-use Rattle.std.proofs.Common.{subst, refl, sym, ap, ◌∙◌, append_assoc}
+use Rattle.std.proofs.Common.{subst, refl, sym, ap, ◌∙◌}
 use Rattle.std.proofs.lemmas.Bool.{eq-eqb, ne_eqb, false≢true}
 use Rattle.std.proofs.lemmas.List.{append-nil}
 use Rattle.cml_board.specs.{Name, Entry, takes, message_in, kind_of, is_open, got, answer, Fits}
@@ -12,6 +12,7 @@ use Rattle.cml_board.proofs.TellingLemmas.{stays_open, none_got}
 use Rattle.cml_lanes.specs.{Way, LaneSide, FeedSide, way_kind, laned, lane_entry, with_lane, is_feed, fed, feed_entry, with_feed, KeepsLane}
 use Rattle.cml_lanes.specs.{KeepsFeed}
 use Rattle.cml_lanes.specs.declared.way.Way.TheVariants.{Send, Cast}
+use Rattle.cml_lanes.proofs.EnteredLemmas.{unchanged, appended, lasting}
 use Rattle.cml_lanes.proofs.LaningLemmas.{laned_other, kind_more}
 
 module _ {M : Type 0} where
@@ -37,62 +38,44 @@ module _ {M : Type 0} where
   -- the entries of a feed's messages add them to what it has, and leave the other feeds
   pub fed_more : (number : ℕ) (port : Name) (messages : List M) (history : List (Entry M))
       → fed (with_feed number port messages history) number ≡ fed history number ++ messages
-  fed_more number port [] history = sym (append-nil (fed history number))
-  fed_more number port (message ∷ messages) history =
-      fed_more number port messages (feed_entry number port message ∷ history)
-      ∙ ap (λ ms. ms ++ messages) (fed_one number port message history)
-      ∙ append_assoc (fed history number) (message ∷ []) messages
+  fed_more number port = appended (feed_entry number port) (λ h. fed h number) (fed_one number port)
 
   pub fed_apart : (number : ℕ) (port : Name) (messages : List M) (history : List (Entry M)) (other : ℕ) → other ≢ number
       → fed (with_feed number port messages history) other ≡ fed history other
-  fed_apart number port [] history other apart = refl
-  fed_apart number port (message ∷ messages) history other apart =
-      fed_apart number port messages (feed_entry number port message ∷ history) other apart
-      ∙ fed_other (feed_entry number port message) history other (ne_eqb number other (λ e. apart (sym e)))
+  fed_apart number port messages history other apart =
+      unchanged (feed_entry number port) (λ h. fed h other)
+      (λ message h. fed_other (feed_entry number port message) h other (ne_eqb number other (λ e. apart (sym e)))) messages history
 
   -- they add them to what its port received, and leave every other object
   pub got_more : (number : ℕ) (port : Name) (messages : List M) (history : List (Entry M))
       → got (with_feed number port messages history) port.0 ≡ got history port.0 ++ messages
-  got_more number port [] history = sym (append-nil (got history port.0))
-  got_more number port (message ∷ messages) history =
-      got_more number port messages (feed_entry number port message ∷ history)
-      ∙ ap (λ ms. ms ++ messages) (got_one number port message history)
-      ∙ append_assoc (got history port.0) (message ∷ []) messages
+  got_more number port = appended (feed_entry number port) (λ h. got h port.0) (got_one number port)
 
   pub got_apart : (number : ℕ) (port : Name) (messages : List M) (history : List (Entry M)) (object : ℕ) → object ≢ port.0
       → got (with_feed number port messages history) object ≡ got history object
-  got_apart number port [] history object apart = refl
-  got_apart number port (message ∷ messages) history object apart =
-      got_apart number port messages (feed_entry number port message ∷ history) object apart
-      ∙ got_other number port message history object apart
+  got_apart number port messages history object apart =
+      unchanged (feed_entry number port) (λ h. got h object) (λ message h. got_other number port message h object apart) messages history
 
   -- no lane has more, no object changes its kind, and no port is closed
   pub laned_fed : (number : ℕ) (port : Name) (messages : List M) (history : List (Entry M)) (lane : ℕ)
       → laned (with_feed number port messages history) lane ≡ laned history lane
-  laned_fed number port [] history lane = refl
-  laned_fed number port (message ∷ messages) history lane =
-      laned_fed number port messages (feed_entry number port message ∷ history) lane
-      ∙ laned_other (feed_entry number port message) history lane refl
+  laned_fed number port messages history lane =
+      unchanged (feed_entry number port) (λ h. laned h lane) (λ message h. laned_other (feed_entry number port message) h lane refl)
+      messages history
 
   pub kind_fed : (number : ℕ) (port : Name) (messages : List M) (history : List (Entry M)) (object : ℕ) (kind : Kind)
       → kind_of history object ≡ Some kind → kind_of (with_feed number port messages history) object ≡ Some kind
-  kind_fed number port [] history object kind is = is
-  kind_fed number port (message ∷ messages) history object kind is =
-      kind_fed number port messages (feed_entry number port message ∷ history) object kind
-      (kind_kept (feed_entry number port message) history object kind is)
+  kind_fed number port messages history object kind =
+      lasting (feed_entry number port) (λ h. kind_of h object ≡ Some kind)
+      (λ message h. kind_kept (feed_entry number port message) h object kind) messages history
 
   pub open_fed : (number : ℕ) (port : Name) (messages : List M) (history : List (Entry M)) (object : ℕ)
       → is_open (with_feed number port messages history) object ≡ is_open history object
-  open_fed number port [] history object = refl
-  open_fed number port (message ∷ messages) history object =
-      open_fed number port messages (feed_entry number port message ∷ history) object
-      ∙ stays_open history (feed_entry number port message) object refl
+  open_fed number port messages history object =
+      unchanged (feed_entry number port) (λ h. is_open h object) (λ message h. stays_open h (feed_entry number port message) object refl)
+      messages history
 
   -- the entries of a lane's messages add nothing to a feed, no port receives by them, and none is closed
-  fed_by_lane : (number : ℕ) (way : Way) (target : Name) (message : M) (history : List (Entry M)) (feed : ℕ)
-      → fed (lane_entry number way target message ∷ history) feed ≡ fed history feed
-  fed_by_lane number way target message history feed = fed_other (lane_entry number way target message) history feed refl
-
   got_by_lane : (number : ℕ) (way : Way) (target : Name) (message : M) (history : List (Entry M)) (object : ℕ)
       → got (lane_entry number way target message ∷ history) object ≡ got history object
   got_by_lane number Send target message history object = none_got history (lane_entry number Send target message) object refl
@@ -105,24 +88,21 @@ module _ {M : Type 0} where
 
   pub fed_laned : (number : ℕ) (way : Way) (target : Name) (messages : List M) (history : List (Entry M)) (feed : ℕ)
       → fed (with_lane number way target messages history) feed ≡ fed history feed
-  fed_laned number way target [] history feed = refl
-  fed_laned number way target (message ∷ messages) history feed =
-      fed_laned number way target messages (lane_entry number way target message ∷ history) feed
-      ∙ fed_by_lane number way target message history feed
+  fed_laned number way target messages history feed =
+      unchanged (lane_entry number way target) (λ h. fed h feed) (λ message h. fed_other (lane_entry number way target message) h feed refl)
+      messages history
 
   pub got_laned : (number : ℕ) (way : Way) (target : Name) (messages : List M) (history : List (Entry M)) (object : ℕ)
       → got (with_lane number way target messages history) object ≡ got history object
-  got_laned number way target [] history object = refl
-  got_laned number way target (message ∷ messages) history object =
-      got_laned number way target messages (lane_entry number way target message ∷ history) object
-      ∙ got_by_lane number way target message history object
+  got_laned number way target messages history object =
+      unchanged (lane_entry number way target) (λ h. got h object) (λ message h. got_by_lane number way target message h object)
+      messages history
 
   pub open_laned : (number : ℕ) (way : Way) (target : Name) (messages : List M) (history : List (Entry M)) (object : ℕ)
       → is_open (with_lane number way target messages history) object ≡ is_open history object
-  open_laned number way target [] history object = refl
-  open_laned number way target (message ∷ messages) history object =
-      open_laned number way target messages (lane_entry number way target message ∷ history) object
-      ∙ open_by_lane number way target message history object
+  open_laned number way target messages history object =
+      unchanged (lane_entry number way target) (λ h. is_open h object) (λ message h. open_by_lane number way target message h object)
+      messages history
 
   -- so a feed is kept by the entries of any lane, and of a feed of another port; and a lane by those of any feed
   pub keeps_laned : (number : ℕ) (way : Way) (target : Name) (messages : List M) (history : List (Entry M)) (feed : ℕ) (side : FeedSide M)
@@ -149,13 +129,6 @@ module _ {M : Type 0} where
     laned = laned_fed number port messages history lane ∙ keeps.laned;
     kind = kind_fed number port messages history side.target.0 (way_kind side.way) keeps.kind;
   }
-
-  -- the entries of messages and then of more
-  pub with_feed_more : (number : ℕ) (port : Name) (messages more : List M) (history : List (Entry M))
-      → with_feed number port (messages ++ more) history ≡ with_feed number port more (with_feed number port messages history)
-  with_feed_more number port [] more history = refl
-  with_feed_more number port (message ∷ messages) more history =
-      with_feed_more number port messages more (feed_entry number port message ∷ history)
 
   -- a feed's call fits its port
   pub fits_recv : (history : List (Entry M)) (port : Name) → kind_of history port.0 ≡ Some Port → Fits history (Recv port)

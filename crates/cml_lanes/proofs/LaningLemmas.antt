@@ -1,6 +1,6 @@
 -- How entries of a lane, and entries of others, change what the journal has of each lane.
 use Rattle.std.proofs.Common.{◌≡◌, ◌≢◌, ℕ, ◌≤◌, Bool, true, false, cond, List, [], ◌∷◌, ◌++◌, length, Some, IsSome, IfSome}
-use Rattle.std.proofs.Common.{IsTrue, subst, refl, sym, ap, ◌∙◌, arith, length-append, append_assoc}
+use Rattle.std.proofs.Common.{IsTrue, subst, refl, sym, ap, ◌∙◌, arith, length-append}
 use Rattle.std.proofs.lemmas.Bool.{eq-eqb, ne_eqb}
 use Rattle.std.proofs.lemmas.List.{append-nil}
 use Rattle.cml_board.specs.{Name, Call, Entry, takes, kind_of, answer, Fits, has_message}
@@ -10,6 +10,7 @@ use Rattle.cml_board.specs.declared.entry.Reply.TheVariants.{Done}
 use Rattle.cml_board.proofs.ClosingLemmas.{kind_kept}
 use Rattle.cml_lanes.specs.{Way, way_call, way_kind, is_lane, moved_by, laned, lane_entry, with_lane}
 use Rattle.cml_lanes.specs.declared.way.Way.TheVariants.{Send, Cast}
+use Rattle.cml_lanes.proofs.EnteredLemmas.{unchanged, appended, lasting}
 
 module _ {M : Type 0} where
   one_at_most : (b : Bool) (call : Call M) → length (cond b (moved_by call) []) ≤ 1
@@ -48,34 +49,20 @@ module _ {M : Type 0} where
   -- the entries of a lane's messages add them to what it has, and leave the others
   pub laned_more : (number : ℕ) (way : Way) (target : Name) (messages : List M) (history : List (Entry M))
       → laned (with_lane number way target messages history) number ≡ laned history number ++ messages
-  laned_more number way target [] history = sym (append-nil (laned history number))
-  laned_more number way target (message ∷ messages) history =
-      laned_more number way target messages (lane_entry number way target message ∷ history)
-      ∙ ap (λ ms. ms ++ messages) (laned_one number way target message history)
-      ∙ append_assoc (laned history number) (message ∷ []) messages
+  laned_more number way target = appended (lane_entry number way target) (λ h. laned h number) (laned_one number way target)
 
   pub laned_apart : (number : ℕ) (way : Way) (target : Name) (messages : List M) (history : List (Entry M)) (other : ℕ) → other ≢ number
       → laned (with_lane number way target messages history) other ≡ laned history other
-  laned_apart number way target [] history other apart = refl
-  laned_apart number way target (message ∷ messages) history other apart =
-      laned_apart number way target messages (lane_entry number way target message ∷ history) other apart
-      ∙ laned_other (lane_entry number way target message) history other (ne_eqb number other (λ e. apart (sym e)))
+  laned_apart number way target messages history other apart =
+      unchanged (lane_entry number way target) (λ h. laned h other)
+      (λ message h. laned_other (lane_entry number way target message) h other (ne_eqb number other (λ e. apart (sym e)))) messages history
 
   -- and no object changes its kind
   pub kind_more : (number : ℕ) (way : Way) (target : Name) (messages : List M) (history : List (Entry M)) (object : ℕ) (kind : Kind)
       → kind_of history object ≡ Some kind → kind_of (with_lane number way target messages history) object ≡ Some kind
-  kind_more number way target [] history object kind is = is
-  kind_more number way target (message ∷ messages) history object kind is =
-      kind_more number way target messages (lane_entry number way target message ∷ history) object kind
-      (kind_kept (lane_entry number way target message) history object kind is)
-
-  -- the entries of messages and then of more
-  pub with_lane_more : (number : ℕ) (way : Way) (target : Name) (messages more : List M) (history : List (Entry M))
-      → with_lane number way target (messages ++ more) history
-      ≡ with_lane number way target more (with_lane number way target messages history)
-  with_lane_more number way target [] more history = refl
-  with_lane_more number way target (message ∷ messages) more history =
-      with_lane_more number way target messages more (lane_entry number way target message ∷ history)
+  kind_more number way target messages history object kind =
+      lasting (lane_entry number way target) (λ h. kind_of h object ≡ Some kind)
+      (λ message h. kind_kept (lane_entry number way target message) h object kind) messages history
 
   -- a lane's call fits its target, is answered, and has a message
   pub fits_way : (history : List (Entry M)) (way : Way) (target : Name) (message : M) → kind_of history target.0 ≡ Some (way_kind way)

@@ -1,3 +1,4 @@
+pub mod EnteredLemmas
 pub mod LaningLemmas
 pub mod MovesLemmas
 pub mod FeedEntriesLemmas

@@ -12,7 +12,8 @@ use Rattle.cml_board.specs.declared.outcome.Refusal.TheVariants.{Gone, Busy, NoS
 use Rattle.cml_board.proofs.SparingLemmas.{call_takes}
 use Rattle.cml_lanes.specs.{LaneSide, way_call, way_kind, laned, lane_entry, with_lane, IsLimit, KeepsLane, MovesOut, Stops, DrainsRing}
 use Rattle.cml_lanes.specs.{DrainsUntil}
-use Rattle.cml_lanes.proofs.LaningLemmas.{laned_more, kind_more, with_lane_more, fits_way, answer_way, way_has_message}
+use Rattle.cml_lanes.proofs.EnteredLemmas.{with_more}
+use Rattle.cml_lanes.proofs.LaningLemmas.{laned_more, kind_more, fits_way, answer_way, way_has_message}
 
 -- what holds where there is no value holds where none is
 pub on_none : {X P : Type 0} (o : Option X) → is_some o ≡ false → IfNone o P → P
@@ -75,7 +76,7 @@ module _ {M : Type 0} where
     history = b.history
         ∙ ap (λ (side : LaneSide M). with_lane number side.way side.target b.moved mid.history) a.side
         ∙ ap (λ h. with_lane number from.way from.target b.moved h) a.history
-        ∙ sym (with_lane_more number from.way from.target a.moved b.moved old.history);
+        ∙ sym (with_more (lane_entry number from.way from.target) a.moved b.moved old.history);
     past = b.past ∙ a.past;
     limit = b.limit ∙ a.limit;
     reserved = omega (arith, a.reserved, b.reserved, sum);

@@ -4,8 +4,9 @@ use Rattle.std.proofs.lemmas.List.{append-nil}
 use Rattle.cml_calls.specs.declared.kind.Kind.TheVariants.{Port}
 use Rattle.cml_board.specs.{Refusal, kind_of, is_open, got}
 use Rattle.cml_board.specs.Shown.{Shown}
-use Rattle.cml_lanes.specs.{FeedSide, fed, with_feed, KeepsFeed, PumpsIn, Balks, PumpsRing, PumpsUntil}
-use Rattle.cml_lanes.proofs.FeedEntriesLemmas.{fed_more, got_more, kind_fed, open_fed, with_feed_more}
+use Rattle.cml_lanes.specs.{feed_entry, FeedSide, fed, with_feed, KeepsFeed, PumpsIn, Balks, PumpsRing, PumpsUntil}
+use Rattle.cml_lanes.proofs.EnteredLemmas.{with_more}
+use Rattle.cml_lanes.proofs.FeedEntriesLemmas.{fed_more, got_more, kind_fed, open_fed}
 
 module _ {M : Type 0} where
   pub none_pumped : (number : ℕ) (board : Shown M) (side : FeedSide M) → PumpsIn number 0 board board side side
@@ -29,7 +30,7 @@ module _ {M : Type 0} where
     history = b.history
         ∙ ap (λ (side : FeedSide M). with_feed number side.port b.pumped mid.history) a.side
         ∙ ap (λ h. with_feed number from.port b.pumped h) a.history
-        ∙ sym (with_feed_more number from.port a.pumped b.pumped old.history);
+        ∙ sym (with_more (feed_entry number from.port) a.pumped b.pumped old.history);
     past = b.past ∙ a.past;
     limit = b.limit ∙ a.limit;
     reserved = omega (arith, a.reserved, b.reserved, sum);

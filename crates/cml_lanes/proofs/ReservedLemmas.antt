@@ -10,26 +10,19 @@ use Rattle.cml_board.specs.declared.call.Call.TheVariants.{Recv}
 use Rattle.cml_board.specs.declared.outcome.Outcome.TheVariants.{Answered, WouldWait, Refused}
 use Rattle.cml_board.specs.declared.outcome.Refusal.TheVariants.{NoMemory}
 use Rattle.cml_board.proofs.ListLemmas.{slice_get-set_same}
-use Rattle.cml_lanes.specs.{Way, LaneSide, FeedSide, way_call, lane_entry, with_lane, feed_entry, with_feed, MovesOut, PumpsIn, FloorShown}
+use Rattle.cml_lanes.specs.{Way, LaneSide, FeedSide, way_call, lane_entry, with_entries, feed_entry, MovesOut, PumpsIn, FloorShown}
 use Rattle.cml_lanes.specs.{is_barred, HoldsUp, Starves, added_since, TakesEntryAlone, LaneTakesEntryAlone, FeedTakesEntryAlone, CutsAFloor}
 use Rattle.cml_lanes.specs.{FloorCall, Apply, Reserve, OpenLane, Drain, CloseLane, CloseCounted, DropLane, AbandonLane, OpenFeed, Pump}
 use Rattle.cml_lanes.specs.{EndFeed, Cut, TakeJournal, AppliesSeat, IsCalled, AreCalled, takes_journal, keeps_journal, Deed, as_it_was}
 use Rattle.cml_lanes.specs.{lane_drained, lane_gone, lane_opened, feed_pumped, feed_gone, feed_opened}
+use Rattle.cml_lanes.proofs.EnteredLemmas.{counted}
 use Rattle.cml_lanes.proofs.DeedsLemmas.{still, reserves, opens_lane, drains, drops, abandons, closes, closes_counted}
 use Rattle.cml_lanes.proofs.DeedsLemmas.{opens_feed, pumps, ends}
 
 module _ {M : Type 0} where
-  pub lane_entries : (number : ℕ) (way : Way) (target : Name) (messages : List M) (history : List (Entry M))
-      → entries_in (with_lane number way target messages history) ≡ entries_in history + length messages
-  lane_entries number way target [] history = omega arith
-  lane_entries number way target (message ∷ messages) history =
-      omega (arith, lane_entries number way target messages (lane_entry number way target message ∷ history))
-
-  pub feed_entries : (number : ℕ) (port : Name) (messages : List M) (history : List (Entry M))
-      → entries_in (with_feed number port messages history) ≡ entries_in history + length messages
-  feed_entries number port [] history = omega arith
-  feed_entries number port (message ∷ messages) history =
-      omega (arith, feed_entries number port messages (feed_entry number port message ∷ history))
+  pub entries_more : (entry : M → Entry M) (messages : List M) (history : List (Entry M))
+      → entries_in (with_entries entry messages history) ≡ entries_in history + length messages
+  entries_more entry = counted entry entries_in (λ message h. omega arith)
 
   -- no entry is lost, and of what was reserved one by each that is added
   pub record Lasts (old new : Shown M) : Type 0 where
@@ -54,13 +47,13 @@ module _ {M : Type 0} where
   lasts_moved : (number count : ℕ) (old new : Shown M) (from to : LaneSide M) → MovesOut number count old new from to → Lasts old new
   lasts_moved number count old new from to m =
       let entries : entries_in new.history ≡ entries_in old.history + length m.moved =
-      ap entries_in m.history ∙ lane_entries number from.way from.target m.moved old.history in
+      ap entries_in m.history ∙ entries_more (lane_entry number from.way from.target) m.moved old.history in
       record { grown = omega (arith, entries); kept = omega (arith, entries, m.as_many, m.reserved) }
 
   lasts_pumped : (number count : ℕ) (old new : Shown M) (from to : FeedSide M) → PumpsIn number count old new from to → Lasts old new
   lasts_pumped number count old new from to p =
       let entries : entries_in new.history ≡ entries_in old.history + length p.pumped =
-      ap entries_in p.history ∙ feed_entries number from.port p.pumped old.history in
+      ap entries_in p.history ∙ entries_more (feed_entry number from.port) p.pumped old.history in
       record { grown = omega (arith, entries); kept = omega (arith, entries, p.as_many, p.reserved) }
 
   -- whatever was done

@@ -4,6 +4,7 @@ use Rattle.cml_board.specs.{Name, Who, Entry, message_in}
 use Rattle.cml_board.specs.declared.call.Call.TheVariants.{Recv}
 use Rattle.cml_board.specs.declared.entry.Who.TheVariants.{Feed}
 use Rattle.cml_board.specs.declared.entry.Reply.TheVariants.{Got}
+use Rattle.cml_lanes.specs.Entered.{with_entries}
 
 -- the feed of this number made the call
 abbrev pub is_feed : Who → ℕ → Bool
@@ -22,5 +23,4 @@ module _ {M : Type 0} where
 
   -- one such entry more for each message, in order
   abbrev pub with_feed : ℕ → Name → List M → List (Entry M) → List (Entry M)
-  with_feed number port [] history = history
-  with_feed number port (message ∷ messages) history = with_feed number port messages (feed_entry number port message ∷ history)
+  with_feed number port = with_entries (feed_entry number port)

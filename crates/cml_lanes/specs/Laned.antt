@@ -6,6 +6,7 @@ use Rattle.cml_board.specs.declared.entry.Who.TheVariants.{Lane}
 use Rattle.cml_board.specs.declared.entry.Reply.TheVariants.{Done}
 use Rattle.cml_lanes.specs.declared.way.Way.{Way}
 use Rattle.cml_lanes.specs.Sides.{way_call}
+use Rattle.cml_lanes.specs.Entered.{with_entries}
 
 -- the lane of this number made the call
 abbrev pub is_lane : Who → ℕ → Bool
@@ -30,6 +31,4 @@ module _ {M : Type 0} where
 
   -- one such entry more for each message, in order
   abbrev pub with_lane : ℕ → Way → Name → List M → List (Entry M) → List (Entry M)
-  with_lane number way target [] history = history
-  with_lane number way target (message ∷ messages) history =
-      with_lane number way target messages (lane_entry number way target message ∷ history)
+  with_lane number way target = with_entries (lane_entry number way target)

@@ -9,10 +9,11 @@ use Rattle.cml_board.specs.declared.call.Call.TheVariants as call
 use Rattle.cml_board.specs.declared.entry.Reply.TheVariants.{Made}
 use Rattle.cml_board.specs.declared.entry.Who.TheVariants.{Feed}
 use Rattle.cml_board.specs.declared.want.Want.TheVariants as want
-use Rattle.cml_lanes.specs.{Way, LaneSide, way_call, way_kind, lane_entry, with_lane, feed_entry, with_feed, Looks, FloorShown, KeepsLanes}
-use Rattle.cml_lanes.specs.{FindsNoLane, Abandons, Deed, as_it_was, lane_drained, lane_gone, lane_opened, feed_pumped, feed_gone}
-use Rattle.cml_lanes.specs.{feed_opened}
+use Rattle.cml_lanes.specs.{with_entries, Way, LaneSide, way_call, way_kind, lane_entry, with_lane, feed_entry, with_feed, Looks}
+use Rattle.cml_lanes.specs.{FloorShown, KeepsLanes, FindsNoLane, Abandons, Deed, as_it_was, lane_drained, lane_gone, lane_opened}
+use Rattle.cml_lanes.specs.{feed_pumped, feed_gone, feed_opened}
 use Rattle.cml_lanes.specs.declared.way.Way.TheVariants.{Send, Cast}
+use Rattle.cml_lanes.proofs.EnteredLemmas.{newest}
 use Rattle.cml_lanes.proofs.LaningLemmas.{kind_more}
 use Rattle.cml_room.specs.declared.news.News.{News}
 use Rattle.cml_room.specs.{Place, object_of, news_in, IsOf, AreAt, Follows, HasEntries, IsWatched, WasWatched, WasWatchedAt}
@@ -50,23 +51,16 @@ module _ {M : Type 0} where
         of = subst (λ h. IfSome some (IsOf h)) (sym history) of;
       })
 
-  -- the last entry of a lane's messages, and of a feed's
-  lane_head : (number : ℕ) (way : Way) (target : Name) (message : M) (messages : List M) (history : List (Entry M))
-      → (last : M) × (rest : List (Entry M))
-      × (with_lane number way target (message ∷ messages) history ≡ lane_entry number way target last ∷ rest)
-      × (length history ≤ length rest)
-  lane_head number way target message [] history = (message, history, refl, omega arith)
-  lane_head number way target message (next ∷ messages) history =
-      let later = lane_head number way target next messages (lane_entry number way target message ∷ history) in
-      (later.0, later.1, later.2, omega (arith, later.3))
-
-  feed_head : (number : ℕ) (port : Name) (message : M) (messages : List M) (history : List (Entry M))
-      → (last : M) × (rest : List (Entry M)) × (with_feed number port (message ∷ messages) history ≡ feed_entry number port last ∷ rest)
-      × (length history ≤ length rest)
-  feed_head number port message [] history = (message, history, refl, omega arith)
-  feed_head number port message (next ∷ messages) history =
-      let later = feed_head number port next messages (feed_entry number port message ∷ history) in
-      (later.0, later.1, later.2, omega (arith, later.3))
+  -- so do the entries of messages, each of which brings the same
+  entries_bring : (some : Option News) (entry : M → Entry M) (messages : List M) (old new : Shown M) (news : Option News)
+      → new.history ≡ with_entries entry messages old.history → new.past ≡ old.past → ((message : M) → news_in (entry message).call ≡ some)
+      → Leads some old.history (with_entries entry messages old.history) → IfSome some (IsOf (with_entries entry messages old.history))
+      → Tells old new news → Brings news old new
+  entries_bring some entry [] old new news history past call leads of told = nothing_brings old new news history told
+  entries_bring some entry (message ∷ messages) old new news history past call leads of told =
+      let last = newest entry message messages old.history in
+      added_brings some (entry last.0) last.1 old new news (history ∙ last.2) past last.3 (call last.0)
+      (subst (Leads some old.history) last.2 leads) (subst (λ h. IfSome some (IsOf h)) last.2 of) told
 
   news_of_way : (way : Way) (target : Name) (message : M) → news_in (way_call way target message) ≡ Some (way_news way target)
   news_of_way Send target message = refl
@@ -80,23 +74,17 @@ module _ {M : Type 0} where
   lane_brings : (number : ℕ) (way : Way) (target : Name) (messages : List M) (old new : Shown M) (news : Option News)
       → new.history ≡ with_lane number way target messages old.history → new.past ≡ old.past
       → kind_of old.history target.0 ≡ Some (way_kind way) → Tells old new news → Brings news old new
-  lane_brings number way target [] old new news history past kind told = nothing_brings old new news history told
-  lane_brings number way target (message ∷ messages) old new news history past kind told =
-      let head = lane_head number way target message messages old.history in
-      let kept = kind_more number way target (message ∷ messages) old.history target.0 (way_kind way) kind in
-      added_brings (Some (way_news way target)) (lane_entry number way target head.0) head.1 old new news (history ∙ head.2) past head.3
-      (news_of_way way target head.0)
-      (subst (Leads (Some (way_news way target)) old.history) head.2 (lanes_lead number way target (message ∷ messages) old.history))
-      (subst (λ h. IsOf h (way_news way target)) head.2
-      (way_is_of way target (with_lane number way target (message ∷ messages) old.history) kept)) told
+  lane_brings number way target messages old new news history past kind =
+      entries_bring (Some (way_news way target)) (lane_entry number way target) messages old new news history past (news_of_way way target)
+      (lanes_lead number way target messages old.history)
+      (way_is_of way target (with_lane number way target messages old.history)
+      (kind_more number way target messages old.history target.0 (way_kind way) kind))
 
   feed_brings : (number : ℕ) (port : Name) (messages : List M) (old new : Shown M) (news : Option News)
       → new.history ≡ with_feed number port messages old.history → new.past ≡ old.past → Tells old new news → Brings news old new
-  feed_brings number port [] old new news history past told = nothing_brings old new news history told
-  feed_brings number port (message ∷ messages) old new news history past told =
-      let head = feed_head number port message messages old.history in
-      added_brings None (feed_entry number port head.0) head.1 old new news (history ∙ head.2) past head.3 refl
-      (subst (Leads None old.history) head.2 (feeds_lead number port (message ∷ messages) old.history)) tt told
+  feed_brings number port messages old new news history past =
+      entries_bring None (feed_entry number port) messages old new news history past (λ message. refl)
+      (feeds_lead number port messages old.history) tt
 
   looked_kind : (history : List (Entry M)) (from looked : LaneSide M) → Looks from looked
       → kind_of history from.target.0 ≡ Some (way_kind from.way)

@@ -6,7 +6,7 @@ use Rattle.cml_board.specs.Shown.{Shown}
 use Rattle.cml_board.specs.declared.call.Call.TheVariants as call
 use Rattle.cml_board.specs.declared.want.Want.TheVariants as want
 use Rattle.cml_board.proofs.ReceivedLemmas.{slice_get-append_within}
-use Rattle.cml_lanes.specs.{Way, lane_entry, with_lane, feed_entry, with_feed}
+use Rattle.cml_lanes.specs.{with_entries, Way, lane_entry, with_lane, feed_entry, with_feed}
 use Rattle.cml_lanes.specs.declared.way.Way.TheVariants.{Send, Cast}
 use Rattle.cml_room.specs.declared.news.News.{News}
 use Rattle.cml_room.specs.{object_of, news_in, source_of, NoNews, Follows}
@@ -92,14 +92,19 @@ module _ {M : Type 0} where
   lane_leads number Send target message before = one_leads (lane_entry number Send target message) before refl
   lane_leads number Cast target message before = one_leads (lane_entry number Cast target message) before refl
 
-  -- so do those of a lane
+  -- so do all entries of which each brings these news
+  all_lead : (news : Option News) (entry : M → Entry M)
+      → ((message : M) (before : List (Entry M)) → Leads news before (entry message ∷ before))
+      → (messages : List M) (before : List (Entry M)) → Leads news before (with_entries entry messages before)
+  all_lead news entry leads [] before = leads_here news before
+  all_lead news entry leads (message ∷ messages) before =
+      leads_on news before (entry message ∷ before) (with_entries entry (message ∷ messages) before)
+      (leads message before) (all_lead news entry leads messages (entry message ∷ before))
+
+  -- those of a lane
   pub lanes_lead : (number : ℕ) (way : Way) (target : Name) (messages : List M) (before : List (Entry M))
       → Leads (Some (way_news way target)) before (with_lane number way target messages before)
-  lanes_lead number way target [] before = leads_here (Some (way_news way target)) before
-  lanes_lead number way target (message ∷ messages) before =
-      leads_on (Some (way_news way target)) before (lane_entry number way target message ∷ before)
-      (with_lane number way target (message ∷ messages) before)
-      (lane_leads number way target message before) (lanes_lead number way target messages (lane_entry number way target message ∷ before))
+  lanes_lead number way target = all_lead (Some (way_news way target)) (lane_entry number way target) (lane_leads number way target)
 
   -- and one of a feed brings none
   feed_waits : (number : ℕ) (port : Name) (message : M) (before : List (Entry M)) (on : Want) → Waits before on
@@ -124,10 +129,7 @@ module _ {M : Type 0} where
 
   pub feeds_lead : (number : ℕ) (port : Name) (messages : List M) (before : List (Entry M))
       → Leads None before (with_feed number port messages before)
-  feeds_lead number port [] before = leads_here None before
-  feeds_lead number port (message ∷ messages) before =
-      leads_on None before (feed_entry number port message ∷ before) (with_feed number port (message ∷ messages) before)
-      (feed_leads number port message before) (feeds_lead number port messages (feed_entry number port message ∷ before))
+  feeds_lead number port = all_lead None (feed_entry number port) (feed_leads number port)
 
   -- a board follows another where its history does
   pub follows : (news : Option News) (old new : Shown M) (history : List (Entry M)) → new.history ≡ history

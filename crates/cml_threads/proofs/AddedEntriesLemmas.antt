@@ -1,10 +1,11 @@
 -- How many entries a call on lanes or feeds adds, and that all of them are of lanes and feeds.
 use Rattle.std.proofs.Common.{◌≡◌, ℕ, ◌+◌, ◌≤◌, List, [], ◌∷◌, length, ap, ◌∙◌, arith}
-use Rattle.cml_board.specs.{Name, Entry, entries_in, rings_in}
+use Rattle.cml_board.specs.{Entry, entries_in, ring_by, rings_in}
 use Rattle.cml_board.specs.Shown.{Shown}
-use Rattle.cml_lanes.specs.{Way, lane_entry, with_lane, feed_entry, with_feed, FloorShown, Deed, as_it_was, lane_drained, lane_gone}
-use Rattle.cml_lanes.specs.{lane_opened, feed_pumped, feed_gone, feed_opened}
-use Rattle.cml_lanes.proofs.ReservedLemmas.{lane_entries, feed_entries}
+use Rattle.cml_lanes.specs.{lane_entry, feed_entry, with_entries, FloorShown, Deed, as_it_was, lane_drained, lane_gone, lane_opened}
+use Rattle.cml_lanes.specs.{feed_pumped, feed_gone, feed_opened}
+use Rattle.cml_lanes.proofs.EnteredLemmas.{counted}
+use Rattle.cml_lanes.proofs.ReservedLemmas.{entries_more}
 use Rattle.cml_room.specs.{State, RoomShown, floor_of}
 use Rattle.cml_threads.specs.{IsCounted, WasCounted}
 
@@ -14,17 +15,10 @@ record AddsRings {M : Type 0} (old new : Shown M) : Type 0 where
   pub rings : rings_in new.history + entries_in old.history ≡ rings_in old.history + entries_in new.history
 
 module _ {M : Type 0} where
-  lane_rings : (number : ℕ) (way : Way) (target : Name) (messages : List M) (history : List (Entry M))
-      → rings_in (with_lane number way target messages history) ≡ rings_in history + length messages
-  lane_rings number way target [] history = omega arith
-  lane_rings number way target (message ∷ messages) history =
-      omega (arith, lane_rings number way target messages (lane_entry number way target message ∷ history))
-
-  feed_rings : (number : ℕ) (port : Name) (messages : List M) (history : List (Entry M))
-      → rings_in (with_feed number port messages history) ≡ rings_in history + length messages
-  feed_rings number port [] history = omega arith
-  feed_rings number port (message ∷ messages) history =
-      omega (arith, feed_rings number port messages (feed_entry number port message ∷ history))
+  -- each entry of a lane or a feed is counted as one of them
+  rings_more : (entry : M → Entry M) → ((message : M) → ring_by (entry message).who ≡ 1) → (messages : List M) (history : List (Entry M))
+      → rings_in (with_entries entry messages history) ≡ rings_in history + length messages
+  rings_more entry is = counted entry rings_in (λ message h. ap (λ n. rings_in h + n) (is message))
 
   same_adds : (old new : Shown M) → new.history ≡ old.history → AddsRings old new
   same_adds old new history = record {
@@ -39,9 +33,9 @@ module _ {M : Type 0} where
       let m = on.place.does.moves in
       let side = on.place.does.looked in
       let entries : entries_in new.board.history ≡ entries_in old.board.history + length m.moved =
-      ap entries_in m.history ∙ lane_entries number side.way side.target m.moved old.board.history in
+      ap entries_in m.history ∙ entries_more (lane_entry number side.way side.target) m.moved old.board.history in
       let rings : rings_in new.board.history ≡ rings_in old.board.history + length m.moved =
-      ap rings_in m.history ∙ lane_rings number side.way side.target m.moved old.board.history in
+      ap rings_in m.history ∙ rings_more (lane_entry number side.way side.target) (λ message. refl) m.moved old.board.history in
       record { grown = omega (arith, entries); rings = omega (arith, entries, rings) }
   adds old new (lane_gone number same) =
       same_adds old.board new.board (ap (λ (f : FloorShown M). f.board.history) same)
@@ -50,9 +44,9 @@ module _ {M : Type 0} where
       let p = on.place.does.pumps in
       let port = on.place.does.looked.port in
       let entries : entries_in new.board.history ≡ entries_in old.board.history + length p.pumped =
-      ap entries_in p.history ∙ feed_entries number port p.pumped old.board.history in
+      ap entries_in p.history ∙ entries_more (feed_entry number port) p.pumped old.board.history in
       let rings : rings_in new.board.history ≡ rings_in old.board.history + length p.pumped =
-      ap rings_in p.history ∙ feed_rings number port p.pumped old.board.history in
+      ap rings_in p.history ∙ rings_more (feed_entry number port) (λ message. refl) p.pumped old.board.history in
       record { grown = omega (arith, entries); rings = omega (arith, entries, rings) }
   adds old new (feed_gone number same) =
       same_adds old.board new.board (ap (λ (f : FloorShown M). f.board.history) same)
