@@ -15,13 +15,12 @@ use Rattle.cml_lanes.specs.{FloorShown, is_barred}
 use Rattle.cml_lanes.proofs.MovesLemmas.{unchanged}
 use Rattle.cml_room.specs.declared.news.News.{News}
 use Rattle.cml_room.specs.{Place, State, MayTurn, news_in, IsOf, news_by, NoneOpen, RoomShown, MayAsk, MayAskAgain, WouldWait, Follows}
-use Rattle.cml_room.specs.{IsWatched}
+use Rattle.cml_room.specs.{IsWatched, Reaches, IsBarred}
 use Rattle.cml_room.specs.declared.state.State.TheVariants.{Free, Parked}
 use Rattle.cml_room.proofs.RestingLemmas.{fits_kept}
 use Rattle.cml_room.proofs.RingNewsLemmas.{one_leads, follows, same_follows}
 use Rattle.cml_room.proofs.UnmovedLemmas.{room_kept, same_watched}
 use Rattle.cml_room.proofs.BringingLemmas.{Brings}
-use Rattle.cml_room.proofs.TurningLemmas.{refused_reaches}
 use Rattle.cml_room.proofs.ParkingLemmas.{MayWait}
 
 -- what takes a message is a mailbox, and so on
@@ -89,14 +88,11 @@ module _ {M : Type 0} where
 
   -- a refused call left the board as it was
   pub refused_before : (chunk : ℕ) (sure : Bool) (old new : FloorShown M) (number : ℕ) (call back : Call M) (refusal : Refusal)
-      → (is_barred old.feeds call ≡ true → (board.Refused refusal back ≡ board.Refused WrongKind call) × (new ≡ old))
-      → (is_barred old.feeds call ≡ false → Applies chunk sure old.board new.board (Seat number) call (board.Refused refusal back))
+      → Reaches chunk sure old new number call (board.Refused refusal back) ⊎ IsBarred old new call refusal back
       → IsAsBefore old.board new.board
-  refused_before chunk sure old new number call back refusal bars applies =
-      elim (refused_reaches chunk sure old new number call back refusal bars applies) [
-        | inl reaches ↦ reaches.applies.2
-        | inr barred ↦ subst (λ (b : Shown M). IsAsBefore old.board b) (sym barred.board) (unchanged old.board)
-      ]
+  refused_before chunk sure old new number call back refusal (inl reaches) = reaches.applies.2
+  refused_before chunk sure old new number call back refusal (inr barred) =
+      subst (λ (b : Shown M). IsAsBefore old.board b) (sym barred.board) (unchanged old.board)
 
   pub before_follows : (news : Option News) (old new : Shown M) → IsAsBefore old new → Follows news old new
   before_follows news old new same = same_follows news old new same.history
@@ -110,11 +106,10 @@ module _ {M : Type 0} where
   call_waits history (Swap name message) on wants fits none = subst (Waits history) (same_Some _ _ wants) ((fits.0, fits.1), none)
   call_waits history call on wants fits none = absurd (none-some _ wants)
 
-  pub call_would : (chunk : ℕ) (sure : Bool) (old new : Shown M) (who : Who) (call back : Call M) (on : Want) → want_in back ≡ Some on
+  pub call_would : (chunk : ℕ) (sure : Bool) (old new : Shown M) (who : Who) (call back : Call M) (on : Want) → want_in call ≡ Some on
       → Applies chunk sure old new who call (board.WouldWait back) → WouldWait new on
   call_would chunk sure old new who call back on wants applies = record {
-    waits = subst (λ h. Waits h on) (sym applies.4.history)
-        (call_waits old.history call on (ap want_in (sym applies.3) ∙ wants) applies.0 applies.2);
+    waits = subst (λ h. Waits h on) (sym applies.4.history) (call_waits old.history call on wants applies.0 applies.2);
     room = room_kept old new applies.4 applies.1;
   }
 
@@ -124,12 +119,11 @@ module _ {M : Type 0} where
   may_turn room states number call same (inl free) = inl (ap (λ l. slice_get l number) same ∙ free)
   may_turn room states number call same (inr again) = inr (again.0, ap (λ l. slice_get l number) same ∙ again.2)
 
-  pub may_wait : (room : RoomShown M) (states : List State) (number : ℕ) (call back : Call M) (on : Want) → states ≡ room.seats
-      → MayAsk room number ⊎ MayAskAgain room number call → back ≡ call → want_in back ≡ Some on → MayWait states number on
-  may_wait room states number call back on same (inl free) is wants = inl (ap (λ l. slice_get l number) same ∙ free)
-  may_wait room states number call back on same (inr again) is wants =
-      let one : again.0 ≡ on = same_Some again.0 on (sym again.1 ∙ (ap want_in (sym is) ∙ wants)) in
-      inr (ap (λ l. slice_get l number) same ∙ (again.2 ∙ ap (λ w. Some (Parked w)) one))
+  pub may_wait : (room : RoomShown M) (states : List State) (number : ℕ) (call : Call M) (on : Want) → states ≡ room.seats
+      → MayAsk room number ⊎ MayAskAgain room number call → want_in call ≡ Some on → MayWait states number on
+  may_wait room states number call on same (inl free) wants = inl (ap (λ l. slice_get l number) same ∙ free)
+  may_wait room states number call on same (inr again) wants =
+      inr (ap (λ l. slice_get l number) same ∙ (again.2 ∙ ap (λ w. Some (Parked w)) (same_Some again.0 on (sym again.1 ∙ wants))))
 
   pub before_watched : (old new : FloorShown M) (places : List Place) (all_due : Bool)
       → IsWatched old places all_due → IsAsBefore old.board new.board

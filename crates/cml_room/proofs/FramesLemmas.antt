@@ -10,23 +10,18 @@ use Rattle.cml_room.specs.{Place, Asks, KeepsSeats, Settles, Stirs, Turns, state
 use Rattle.cml_room.specs.{RoomShown, AskOf, Other, IsMade, HasAsked, asked_by, was_woken, SeatsShown, IsStalled}
 use Rattle.cml_room.specs.declared.state.State.TheVariants as state
 use Rattle.cml_room.proofs.RisingLemmas.{few_due, few_of, none_by, none_same}
-use Rattle.cml_room.proofs.TurningLemmas.{room_of}
+use Rattle.cml_room.proofs.TurningLemmas.{room_of, with_seats}
 
 module _ {M : Type 0} where
   -- nothing of the seats is changed
-  pub keeps : (room : RoomShown M) (floor floor' : FloorShown M) (places : List Place) (all : Bool)
-      → room_of floor (states_in places) (notices_in places) all ≡ room
-      → KeepsSeats room (room_of floor' (states_in places) (notices_in places) all)
-  keeps room floor floor' places all view = record {
+  pub keeps : (floor floor' : FloorShown M) (seats : SeatsShown) {room : RoomShown M} → with_seats floor seats ≡ room
+      → KeepsSeats room (with_seats floor' seats)
+  keeps floor floor' seats view = record {
     seats = ap (λ (r : RoomShown M). r.seats) view;
     step = λ seat. ap (λ (r : RoomShown M). was_woken r.notices seat) view;
     notices = ap (λ (r : RoomShown M). r.notices) view;
     alarm = ap (λ (r : RoomShown M). r.all_due) view;
   }
-
-  -- the room with these seats
-  abbrev pub with_seats : FloorShown M → SeatsShown → RoomShown M
-  with_seats floor seats = room_of floor (states_in seats.places) (notices_in seats.places) seats.all_due
 
   -- a call of no seat
   stirs : (Few : RoomShown M → RoomShown M → Type 0) (room : RoomShown M) (floor floor' : FloorShown M)
@@ -42,30 +37,30 @@ module _ {M : Type 0} where
         ∙ ap (λ (r : RoomShown M). r.all_due) view;
   }
 
-  pub stirs_few : (room : RoomShown M) (floor floor' : FloorShown M) (olds lates : SeatsShown) → with_seats floor olds ≡ room
+  pub stirs_few : (floor : FloorShown M) {room : RoomShown M} {floor' : FloorShown M} {olds lates : SeatsShown}
+      → with_seats floor olds ≡ room
       → (news : Option News) × Settles news floor' olds lates → Stirs MakesFewByOne room (with_seats floor' lates)
-  stirs_few room floor floor' olds lates view told = stirs MakesFewByOne room floor floor' olds lates told.0 view told.1 (
+  stirs_few floor {room} {floor'} {olds} {lates} view told = stirs MakesFewByOne room floor floor' olds lates told.0 view told.1 (
     told.0,
     few_due room floor floor' olds.places lates.places olds.all_due lates.all_due (λ on. ⊥) told.0 view told.1.few,
   )
 
-  pub stirs_none : (room : RoomShown M) (floor floor' : FloorShown M) (olds lates : SeatsShown) → with_seats floor olds ≡ room
-      → Settles None floor' olds lates → Stirs MakesNoneDue room (with_seats floor' lates)
-  stirs_none room floor floor' olds lates view settles =
+  pub stirs_none : (floor : FloorShown M) {room : RoomShown M} {floor' : FloorShown M} {olds lates : SeatsShown}
+      → with_seats floor olds ≡ room → Settles None floor' olds lates → Stirs MakesNoneDue room (with_seats floor' lates)
+  stirs_none floor {room} {floor'} {olds} {lates} view settles =
       stirs MakesNoneDue room floor floor' olds lates None view settles
       (none_by room (with_seats floor' lates)
       (few_due room floor floor' olds.places lates.places olds.all_due lates.all_due (λ on. ⊥) None view settles.few))
 
   -- a seat's turn
-  pub turns : (room : RoomShown M) (floor floor' : FloorShown M) (olds lates : List Place)
-      (all all' : Bool) (number : ℕ) (news : Option News)
-      → room_of floor (states_in olds) (notices_in olds) all ≡ room → HasAsked number (notices_in olds) (notices_in lates)
-      → RisesFew floor'.board.history news (λ on. slice_get (states_in olds) number ≡ Some (state.Parked on)) olds lates
-      → (HasRoom floor'.board → all' ≡ all)
-      → Turns number (AskOf number) news room (room_of floor' (states_in lates) (notices_in lates) all')
-  turns room floor floor' olds lates all all' number news view asked few alarm = record {
-    step = subst (λ (r : RoomShown M). HasAsked number r.notices (notices_in lates)) view asked;
-    few = few_of room floor floor' olds lates all all' number news view few;
+  pub turns : (room : RoomShown M) (floor floor' : FloorShown M) (olds lates : SeatsShown) (number : ℕ) (news : Option News)
+      → with_seats floor olds ≡ room → HasAsked number (notices_in olds.places) (notices_in lates.places)
+      → RisesFew floor'.board.history news (λ on. slice_get (states_in olds.places) number ≡ Some (state.Parked on)) olds.places lates.places
+      → (HasRoom floor'.board → lates.all_due ≡ olds.all_due)
+      → Turns number (AskOf number) news room (with_seats floor' lates)
+  turns room floor floor' olds lates number news view asked few alarm = record {
+    step = subst (λ (r : RoomShown M). HasAsked number r.notices (notices_in lates.places)) view asked;
+    few = few_of room floor floor' olds.places lates.places olds.all_due lates.all_due number news view few;
     alarm = λ has. alarm has ∙ ap (λ (r : RoomShown M). r.all_due) view;
   }
 

@@ -7,7 +7,8 @@ use Rattle.cml_board.specs.declared.entry.Who.TheVariants.{Seat}
 use Rattle.cml_board.specs.declared.outcome.Outcome.TheVariants.{Answered, WouldWait, Refused}
 use Rattle.cml_board.specs.declared.outcome.Refusal.TheVariants.{Gone, Busy, NoSuch, WrongKind, JournalFull, Stalled, NoMemory, Unseen}
 use Rattle.cml_lanes.specs.{FloorShown, is_barred}
-use Rattle.cml_room.specs.{Notice, State, NoneOpen, AreIdle, IsStalled, RoomShown, floor_of, Moves, Reaches, IsBarred, Asks}
+use Rattle.cml_room.specs.{Notice, State, SeatsShown, states_in, notices_in, NoneOpen, AreIdle, IsStalled, RoomShown, floor_of, Moves}
+use Rattle.cml_room.specs.{Reaches, IsBarred, Asks}
 use Rattle.cml_room.specs.declared.state.State.TheVariants.{Free, Parked}
 
 module _ {M : Type 0} where
@@ -79,66 +80,49 @@ module _ {M : Type 0} where
   room_of floor seats notices all_due =
       record { board = floor.board; lanes = floor.lanes; feeds = floor.feeds; seats = seats; notices = notices; all_due = all_due }
 
+  -- the room with these seats
+  abbrev pub with_seats : FloorShown M → SeatsShown → RoomShown M
+  with_seats floor seats = room_of floor (states_in seats.places) (notices_in seats.places) seats.all_due
+
   -- what becomes of the call by what became of it on the floor
-  pub answered_asks : (chunk : ℕ) (sure : Bool) (room : RoomShown M) (floor new : FloorShown M) (seats seats' : List State)
-      (notices notices' : List Notice) (all all' : Bool) (number : ℕ)
-      (call : Call M) (answer : Answer M) → room_of floor seats notices all ≡ room
-      → (is_barred floor.feeds call ≡ true → (Answered answer ≡ Refused WrongKind call) × (new ≡ floor))
-      → (is_barred floor.feeds call ≡ false → Applies chunk sure floor.board new.board (Seat number) call (Answered answer))
-      → new.lanes ≡ floor.lanes → new.feeds ≡ floor.feeds → seats' ≡ slice_set seats number Free
-      → Asks chunk sure ⊤ room (room_of new seats' notices' all') number call (Answered answer)
-  answered_asks chunk sure room floor new seats seats' notices notices' all all' number call answer view bars applies lanes feeds set =
-      let reaches = answered_reaches chunk sure floor new number call answer bars applies in
-      let told : Asks chunk sure ⊤ (room_of floor seats notices all) (room_of new seats' notices' all') number call (Answered answer) =
-      (tt, reaches, set, lanes, feeds) in
-      subst (λ (r : RoomShown M). Asks chunk sure ⊤ r (room_of new seats' notices' all') number call (Answered answer)) view told
+  pub answered_asks : (chunk : ℕ) (sure : Bool) (room : RoomShown M) (floor new : FloorShown M) (olds lates : SeatsShown) (number : ℕ)
+      (call : Call M) (answer : Answer M) → with_seats floor olds ≡ room
+      → Reaches chunk sure floor new number call (Answered answer)
+      → new.lanes ≡ floor.lanes → new.feeds ≡ floor.feeds → states_in lates.places ≡ slice_set (states_in olds.places) number Free
+      → Asks chunk sure ⊤ room (with_seats new lates) number call (Answered answer)
+  answered_asks chunk sure room floor new olds lates number call answer view reaches lanes feeds set =
+      subst (λ (r : RoomShown M). Asks chunk sure ⊤ r (with_seats new lates) number call (Answered answer)) view
+      (tt, reaches, set, lanes, feeds)
 
-  pub parked_asks : (chunk : ℕ) (sure : Bool) (room : RoomShown M) (floor new : FloorShown M) (seats seats' : List State)
-      (notices notices' : List Notice) (all all' : Bool) (number : ℕ)
-      (call back : Call M) (on : Want) → room_of floor seats notices all ≡ room
-      → (is_barred floor.feeds call ≡ true → (WouldWait back ≡ Refused WrongKind call) × (new ≡ floor))
-      → (is_barred floor.feeds call ≡ false → Applies chunk sure floor.board new.board (Seat number) call (WouldWait back))
-      → new.lanes ≡ floor.lanes → new.feeds ≡ floor.feeds → want_in back ≡ Some on
-      → ¬ (IsStalled new (slice_set seats number (Parked on))) × (seats' ≡ slice_set seats number (Parked on))
-      → Asks chunk sure ⊤ room (room_of new seats' notices' all') number call (WouldWait back)
-  parked_asks chunk sure room floor new seats seats' notices notices' all all' number call back on view bars
-      applies lanes feeds wants goes_on =
-      let reaches = waiting_reaches chunk sure floor new number call back bars applies in
-      let moving : ¬ (IsStalled floor (slice_set seats number (Parked on))) = λ stalled.
-      goes_on.0 (still_stalled new floor (slice_set seats number (Parked on)) (sym lanes) (sym reaches.applies.4.history) stalled) in
-      let told : Asks chunk sure ⊤ (room_of floor seats notices all) (room_of new seats' notices' all') number call (WouldWait back) = (
+  pub parked_asks : (chunk : ℕ) (sure : Bool) (room : RoomShown M) (floor new : FloorShown M) (olds lates : SeatsShown) (number : ℕ)
+      (call back : Call M) (on : Want) → with_seats floor olds ≡ room
+      → Reaches chunk sure floor new number call (WouldWait back) → want_in call ≡ Some on
+      → new.lanes ≡ floor.lanes → new.feeds ≡ floor.feeds
+      → ¬ (IsStalled new (slice_set (states_in olds.places) number (Parked on)))
+      × (states_in lates.places ≡ slice_set (states_in olds.places) number (Parked on))
+      → Asks chunk sure ⊤ room (with_seats new lates) number call (WouldWait back)
+  parked_asks chunk sure room floor new olds lates number call back on view reaches wants lanes feeds goes_on =
+      let moving : ¬ (IsStalled floor (slice_set (states_in olds.places) number (Parked on))) = λ stalled.
+      goes_on.0 (still_stalled new floor _ (sym lanes) (sym reaches.applies.4.history) stalled) in
+      subst (λ (r : RoomShown M). Asks chunk sure ⊤ r (with_seats new lates) number call (WouldWait back)) view
+      (tt, reaches, on, wants, moving, record { seats = goes_on.1; lanes = lanes; feeds = feeds })
+
+  pub stalled_asks : (chunk : ℕ) (sure : Bool) (room : RoomShown M) (floor new : FloorShown M) (olds lates : SeatsShown) (number : ℕ)
+      (call back : Call M) (on : Want) → with_seats floor olds ≡ room
+      → Reaches chunk sure floor new number call (WouldWait back) → want_in call ≡ Some on
+      → new.lanes ≡ floor.lanes → new.feeds ≡ floor.feeds
+      → IsStalled new (slice_set (states_in olds.places) number (Parked on))
+      × (states_in lates.places ≡ slice_set (states_in olds.places) number Free)
+      → Asks chunk sure ⊤ room (with_seats new lates) number call (Refused Stalled back)
+  stalled_asks chunk sure room floor new olds lates number call back on view reaches wants lanes feeds stuck =
+      subst (λ (r : RoomShown M). Asks chunk sure ⊤ r (with_seats new lates) number call (Refused Stalled back)) view (
         tt,
         reaches,
         on,
-        ap want_in (sym reaches.applies.3) ∙ wants,
-        moving,
-        record { seats = goes_on.1; lanes = lanes; feeds = feeds },
-      ) in
-      subst (λ (r : RoomShown M). Asks chunk sure ⊤ r (room_of new seats' notices' all') number call (WouldWait back)) view told
-
-  pub stalled_asks : (chunk : ℕ) (sure : Bool) (room : RoomShown M) (floor new : FloorShown M) (seats seats' : List State)
-      (notices notices' : List Notice) (all all' : Bool) (number : ℕ)
-      (call back : Call M) (on : Want) → room_of floor seats notices all ≡ room
-      → (is_barred floor.feeds call ≡ true → (WouldWait back ≡ Refused WrongKind call) × (new ≡ floor))
-      → (is_barred floor.feeds call ≡ false → Applies chunk sure floor.board new.board (Seat number) call (WouldWait back))
-      → new.lanes ≡ floor.lanes → new.feeds ≡ floor.feeds → want_in back ≡ Some on
-      → IsStalled new (slice_set seats number (Parked on)) × (seats' ≡ slice_set seats number Free)
-      → Asks chunk sure ⊤ room (room_of new seats' notices' all') number call (Refused Stalled back)
-  stalled_asks chunk sure room floor new seats seats' notices notices' all all' number call back on
-      view bars applies lanes feeds wants stuck =
-      let reaches = waiting_reaches chunk sure floor new number call back bars applies in
-      let stalled : IsStalled floor (slice_set seats number (Parked on)) =
-      still_stalled floor new (slice_set seats number (Parked on)) lanes reaches.applies.4.history stuck.0 in
-      let told : Asks chunk sure ⊤ (room_of floor seats notices all)
-      (room_of new seats' notices' all') number call (Refused Stalled back) = (
-        tt,
-        reaches,
-        on,
-        ap want_in (sym reaches.applies.3) ∙ wants,
-        stalled,
+        wants,
+        still_stalled floor new _ lanes reaches.applies.4.history stuck.0,
         record { seats = stuck.1; lanes = lanes; feeds = feeds },
-      ) in
-      subst (λ (r : RoomShown M). Asks chunk sure ⊤ r (room_of new seats' notices' all') number call (Refused Stalled back)) view told
+      )
 
   -- neither the board nor a feed gives the refusals of a room
   by_refusal : (chunk : ℕ) (sure : Bool) (old new : RoomShown M) (number : ℕ) (call back : Call M) (refusal : Refusal)
@@ -156,16 +140,12 @@ module _ {M : Type 0} where
   by_refusal chunk sure old new number call back NoMemory why moves = (tt, why, moves)
   by_refusal chunk sure old new number call back Unseen why moves = (tt, why, moves)
 
-  pub refused_asks : (chunk : ℕ) (sure : Bool) (room : RoomShown M) (floor new : FloorShown M) (seats seats' : List State)
-      (notices notices' : List Notice) (all all' : Bool) (number : ℕ)
-      (call back : Call M) (refusal : Refusal) → room_of floor seats notices all ≡ room
-      → (is_barred floor.feeds call ≡ true → (Refused refusal back ≡ Refused WrongKind call) × (new ≡ floor))
-      → (is_barred floor.feeds call ≡ false → Applies chunk sure floor.board new.board (Seat number) call (Refused refusal back))
-      → new.lanes ≡ floor.lanes → new.feeds ≡ floor.feeds → seats' ≡ slice_set seats number Free
-      → Asks chunk sure ⊤ room (room_of new seats' notices' all') number call (Refused refusal back)
-  refused_asks chunk sure room floor new seats seats' notices notices' all all' number call back refusal view bars applies lanes feeds set =
-      let why = refused_reaches chunk sure floor new number call back refusal bars applies in
-      let moves : Moves (room_of floor seats notices all) (room_of new seats' notices' all') number Free =
-      record { seats = set; lanes = lanes; feeds = feeds } in
-      subst (λ (r : RoomShown M). Asks chunk sure ⊤ r (room_of new seats' notices' all') number call (Refused refusal back)) view
-      (by_refusal chunk sure (room_of floor seats notices all) (room_of new seats' notices' all') number call back refusal why moves)
+  pub refused_asks : (chunk : ℕ) (sure : Bool) (room : RoomShown M) (floor new : FloorShown M) (olds lates : SeatsShown) (number : ℕ)
+      (call back : Call M) (refusal : Refusal) → with_seats floor olds ≡ room
+      → Reaches chunk sure floor new number call (Refused refusal back) ⊎ IsBarred floor new call refusal back
+      → new.lanes ≡ floor.lanes → new.feeds ≡ floor.feeds → states_in lates.places ≡ slice_set (states_in olds.places) number Free
+      → Asks chunk sure ⊤ room (with_seats new lates) number call (Refused refusal back)
+  refused_asks chunk sure room floor new olds lates number call back refusal view why lanes feeds set =
+      subst (λ (r : RoomShown M). Asks chunk sure ⊤ r (with_seats new lates) number call (Refused refusal back)) view
+      (by_refusal chunk sure (with_seats floor olds) (with_seats new lates) number call back refusal why
+      (record { seats = set; lanes = lanes; feeds = feeds }))

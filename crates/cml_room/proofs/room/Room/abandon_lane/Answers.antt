@@ -12,6 +12,4 @@ settle-requires-clause-was g c = record {
 }
 
 pub returns-clause-stirs : goal.returns-clause-stirs
-returns-clause-stirs g c =
-    stirs_none c.args.self.now c.self.inside.floor c.abandon_lane-told.new.self c.self.inside.seats c.settle.new.seats
-    c.self.view_is c.settle.ensures.settles
+returns-clause-stirs g c = stirs_none c.self.inside.floor c.self.view_is c.settle.ensures.settles

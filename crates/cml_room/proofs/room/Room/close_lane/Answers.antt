@@ -1,6 +1,3 @@
-use Rattle.std.proofs.Common.{subst}
-use Rattle.cml_lanes.specs.{Closes}
-use Rattle.cml_room.specs.{RoomShown, floor_of}
 use Rattle.cml_lanes.proofs.DeedsLemmas.{closes}
 use Rattle.cml_room.proofs.BringingLemmas.{was_watched_at}
 use Rattle.cml_room.proofs.FramesLemmas.{stirs_few}
@@ -8,16 +5,10 @@ use Rattle.cml_room.proofs.room.Room.close_lane.Goals as goal
 
 pub settle_since-requires : goal.settle_since-requires
 settle_since-requires g c = was_watched_at c.self.inside.floor c.count_entries-before.ensures c.self.invariant
-    (closes g.L.MessageLog.CHUNK g.M.Message.SURE c.self.inside.floor c.close_lane-told.new.self c.args.end
-    c.close_lane-told.result c.close_lane-told.ensures.closes)
+    (closes g.L.MessageLog.CHUNK g.M.Message.SURE _ _ c.args.end c.close_lane-told.result c.close_lane-told.ensures.closes)
 
 pub returns-clause-closes : goal.returns-clause-closes
-returns-clause-closes g c =
-    subst (λ (r : RoomShown g.row.M.Denot).
-    Closes g.L.MessageLog.CHUNK g.M.Message.SURE (floor_of r) c.close_lane-told.new.self c.args.end c.close_lane-told.result)
-    c.self.view_is c.close_lane-told.ensures.closes
+returns-clause-closes g c = rw (← c.self.view_is) c.close_lane-told.ensures.closes
 
 pub returns-clause-stirs : goal.returns-clause-stirs
-returns-clause-stirs g c =
-    stirs_few c.args.self.now c.self.inside.floor c.close_lane-told.new.self c.self.inside.seats c.settle_since.new.seats c.self.view_is
-    c.settle_since.ensures.settles
+returns-clause-stirs g c = stirs_few c.self.inside.floor c.self.view_is c.settle_since.ensures.settles

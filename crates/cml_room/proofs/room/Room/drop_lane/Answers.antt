@@ -5,10 +5,7 @@ use Rattle.cml_room.proofs.room.Room.drop_lane.Goals as goal
 
 pub settle_since-requires : goal.settle_since-requires
 settle_since-requires g c = was_watched_at c.self.inside.floor c.count_entries-before.ensures c.self.invariant
-    (drops g.L.MessageLog.CHUNK g.M.Message.SURE c.args.lane c.self.inside.floor c.drop_lane-told.new.self
-    c.drop_lane-told.result c.drop_lane-told.ensures.drops)
+    (drops g.L.MessageLog.CHUNK g.M.Message.SURE c.args.lane _ _ c.drop_lane-told.result c.drop_lane-told.ensures.drops)
 
 pub returns-clause-stirs : goal.returns-clause-stirs
-returns-clause-stirs g c =
-    stirs_few c.args.self.now c.self.inside.floor c.drop_lane-told.new.self c.self.inside.seats c.settle_since.new.seats c.self.view_is
-    c.settle_since.ensures.settles
+returns-clause-stirs g c = stirs_few c.self.inside.floor c.self.view_is c.settle_since.ensures.settles

@@ -8,5 +8,4 @@ invariant_of-self g c =
     c.args.target c.args.capacity c.open_lane.result c.open_lane.ensures.opens c.self.invariant
 
 pub returns-clause-kept : goal.returns-clause-kept
-returns-clause-kept g c =
-    keeps c.args.self.now c.self.inside.floor c.open_lane.new.self c.self.inside.seats.places c.self.inside.seats.all_due c.self.view_is
+returns-clause-kept g c = keeps c.self.inside.floor c.open_lane.new.self c.self.inside.seats c.self.view_is

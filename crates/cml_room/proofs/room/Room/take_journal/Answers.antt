@@ -16,5 +16,4 @@ returns-clause-rings g c =
     subst (λ (r : RoomShown g.row.M.Denot). KeepsRings (floor_of r) c.take_journal.new.self) c.self.view_is c.take_journal.ensures.rings
 
 pub returns-clause-kept : goal.returns-clause-kept
-returns-clause-kept g c =
-    keeps c.args.self.now c.self.inside.floor c.take_journal.new.self c.self.inside.seats.places c.self.inside.seats.all_due c.self.view_is
+returns-clause-kept g c = keeps c.self.inside.floor c.take_journal.new.self c.self.inside.seats c.self.view_is

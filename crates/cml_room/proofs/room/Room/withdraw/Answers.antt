@@ -18,7 +18,5 @@ invariant_of-self g c =
 
 pub returns-clause-turns : goal.returns-clause-turns
 returns-clause-turns g c =
-    turns c.args.self.now c.self.inside.floor c.self.inside.floor c.self.inside.seats.places
-    c.end_turn.new.seats.places c.self.inside.seats.all_due
-    c.end_turn.new.seats.all_due c.args.seat None c.self.view_is c.end_turn.ensures.ends.asked c.end_turn.ensures.ends.few
-    (λ has. c.end_turn.ensures.due)
+    turns c.args.self.now c.self.inside.floor c.self.inside.floor c.self.inside.seats c.end_turn.new.seats c.args.seat None c.self.view_is
+    c.end_turn.ensures.ends.asked c.end_turn.ensures.ends.few (λ has. c.end_turn.ensures.due)
