@@ -1,5 +1,5 @@
 -- Who is in which queue, over what is done with a seat.
-use Rattle.std.proofs.Common.{◌≡◌, ◌≢◌, ℕ, zero, suc, ◌+◌, ◌<◌, ◌≤◌, inl, inr, Bool, true, false, List, [], ◌∷◌, ◌++◌, length, get_or}
+use Rattle.std.proofs.Common.{◌≡◌, ◌≢◌, ℕ, zero, suc, ◌+◌, ◌-◌, ◌<◌, ◌≤◌, inl, inr, Bool, true, false, List, [], ◌∷◌, ◌++◌, length, get_or}
 use Rattle.std.proofs.Common.{slice_get, slice_set, sum_by, Option, Some, None, refl, sym, ap, ◌∙◌, arith, length-append}
 use Rattle.std.specs.Prelude.{◌||◌, ◌==◌}
 use Rattle.std.specs.Option.{option_map}
@@ -182,15 +182,14 @@ pub seen_at : (places : List Place) (k : ℕ) (seen p : Place) → k < length pl
 seen_at places k seen p within read is = slice_get-get_or places k seen within ∙ ap Some (sym read ∙ is)
 
 -- what is kept of the seats, where one is other than it was
-pub kept_set : (places : List Place) (free free' parked parked' : ℕ) (rows rows' due due' : QueuesShown) (k : ℕ) (old new : Place)
+pub kept_set : {places : List Place} {free free' parked parked' : ℕ} {rows rows' due due' : QueuesShown} {old : Place} (k : ℕ) (new : Place)
     → slice_get places k ≡ Some old
     → IsKept places free parked rows due → free' + free_by (state_by old) ≡ free + free_by (state_by new)
     → parked' + parked_by (state_by old) ≡ parked + parked_by (state_by new)
     → AreListed rows' row_in (slice_set places k new) → AreListed due' noted_in (slice_set places k new)
     → length rows'.queues ≡ length rows.queues → length due'.queues ≡ length due.queues → rows'.bound ≡ rows.bound → due'.bound ≡ due.bound
     → IsKept (slice_set places k new) free' parked' rows' due'
-kept_set places free free' parked parked' rows rows' due due' k old new found kept count waits in_rows in_due
-    rows_same two_same row_bound due_bound =
+kept_set {places} {old = old} k new found kept count waits in_rows in_due rows_same two_same row_bound due_bound =
     let within : k < length places = slice_get_within places k old found in
     let states : states_in (slice_set places k new) ≡ slice_set (states_in places) k (state_by new) = map-set state_by places k new in
     let was : get_or (states_in places) k (state_by old) ≡ state_by old =
@@ -247,32 +246,52 @@ kept_added places free parked rows rows' due due' kept rows_same due_same row_bo
 }
 
 -- no more seats are free than were made
-pub kept_within : (places : List Place) (free parked : ℕ) (rows due : QueuesShown)
+pub kept_within : {places : List Place} {free parked : ℕ} {rows due : QueuesShown}
     → IsKept places free parked rows due → free ≤ length places
-kept_within places free parked rows due kept = omega (arith, kept.counted, free_within (states_in places), length-map places state_by)
+kept_within {places} kept = omega (arith, kept.counted, free_within (states_in places), length-map places state_by)
 
 -- no more wait than were made
-pub waiting_within : (places : List Place) (free parked : ℕ) (rows due : QueuesShown)
+pub waiting_within : {places : List Place} {free parked : ℕ} {rows due : QueuesShown}
     → IsKept places free parked rows due → parked ≤ length places
-waiting_within places free parked rows due kept = omega (arith, kept.waiting, parked_within (states_in places), length-map places state_by)
+waiting_within {places} kept = omega (arith, kept.waiting, parked_within (states_in places), length-map places state_by)
 
 -- where one seat is free, one is counted
-pub one_free : (places : List Place) (free parked : ℕ) (rows due : QueuesShown) (k : ℕ) → IsKept places free parked rows due
+pub one_free : {places : List Place} {free parked : ℕ} {rows due : QueuesShown} (k : ℕ) → IsKept places free parked rows due
     → slice_get places k ≡ Some place.Free → 1 ≤ free
-one_free places free parked rows due k kept found =
+one_free {places} k kept found =
     let within : k < length (states_in places) = omega (arith, slice_get_within places k place.Free found, length-map places state_by) in
     let was : get_or (states_in places) k state.Free ≡ state.Free =
     get_or_from_slice_get (states_in places) k state.Free state.Free (slice_get-map state_by places k ∙ ap (option_map state_by) found) in
     omega (arith, kept.counted, sum_by-set free_by (states_in places) k state.Left state.Free within, ap free_by was)
 
 -- where one seat waits, one is counted
-pub one_waits : (places : List Place) (free parked : ℕ) (rows due : QueuesShown) (k : ℕ) (waiter : Waiter)
+pub one_waits : {places : List Place} {free parked : ℕ} {rows due : QueuesShown} (k : ℕ) (waiter : Waiter)
     → IsKept places free parked rows due
     → slice_get places k ≡ Some (place.Waiting waiter) → 1 ≤ parked
-one_waits places free parked rows due k waiter kept found = omega (arith, kept.waiting, parked_at places k waiter found)
+one_waits {places} k waiter kept found = omega (arith, kept.waiting, parked_at places k waiter found)
+
+-- a seat that was free leaves or waits, and isn't due
+pub kept_taken : {places : List Place} {free parked parked' : ℕ} {rows rows' due : QueuesShown} (k : ℕ) (new : Place)
+    → slice_get places k ≡ Some place.Free → IsKept places free parked rows due
+    → free_by (state_by new) ≡ 0 → parked' ≡ parked + parked_by (state_by new)
+    → AreListed rows' row_in (slice_set places k new) → ((r : ℕ) → noted_in (Some new) r ≡ false)
+    → length rows'.queues ≡ length rows.queues → rows'.bound ≡ rows.bound → IsKept (slice_set places k new) (free - 1) parked' rows' due
+kept_taken {places} {due = due} k new found kept taken waits in_rows quiet rows_same row_bound =
+    kept_set k new found kept (omega (arith, one_free k kept found, taken)) (omega (arith, waits)) in_rows
+    (listed_same due noted_in places k place.Free new found kept.in_due quiet) rows_same refl row_bound refl
+
+-- a seat that waits has another notice
+pub kept_noticed : {places : List Place} {free parked : ℕ} {rows due due' : QueuesShown} (k : ℕ) (waiter : Waiter) (seen : Notice)
+    → slice_get places k ≡ Some (place.Waiting waiter) → IsKept places free parked rows due
+    → AreListed due' noted_in (slice_set places k (place.Waiting (record waiter { notice = seen })))
+    → length due'.queues ≡ length due.queues → due'.bound ≡ due.bound
+    → IsKept (slice_set places k (place.Waiting (record waiter { notice = seen }))) free parked rows due'
+kept_noticed {places} {rows = rows} k waiter seen found kept in_due two_same due_bound =
+    kept_set k (place.Waiting (record waiter { notice = seen })) found kept refl refl
+    (listed_same rows row_in places k (place.Waiting waiter) _ found kept.in_rows (λ r. refl)) in_due refl two_same refl due_bound
 
 -- a queue is what is before a member, the member, and what is behind it
-pub split_at : (queue : List ℕ) (i k : ℕ) → slice_get queue i ≡ Some k
+split_at : (queue : List ℕ) (i k : ℕ) → slice_get queue i ≡ Some k
     → (xs : List ℕ) × (ys : List ℕ) × (queue ≡ xs ++ k ∷ ys) × (slice_get ys 0 ≡ slice_get queue (i + 1))
 split_at [] i k found = absurd (none-some k found)
 split_at (x ∷ queue) zero k found = ([], queue, ap (λ y. y ∷ queue) (same_Some x k found), refl)
@@ -280,6 +299,13 @@ split_at (x ∷ queue) (suc i) k found =
     let later = split_at queue i k found in
     let next : suc (i + 1) ≡ suc i + 1 = omega arith in
     (x ∷ later.0, later.1, ap (λ l. x ∷ l) later.2, later.3 ∙ ap (slice_get (x ∷ queue)) next)
+
+-- what comes behind a member is the next
+pub behind : (queue : List ℕ) (i k : ℕ) (next : Option ℕ) → slice_get queue i ≡ Some k
+    → ((xs ys : List ℕ) → queue ≡ xs ++ k ∷ ys → next ≡ slice_get ys 0) → next ≡ slice_get queue (i + 1)
+behind queue i k next found after =
+    let split = split_at queue i k found in
+    after split.0 split.1 split.2 ∙ split.3
 
 pub quieted_nothing : (p : Place) (waiter : Waiter) → quieted p ≡ place.Waiting waiter → waiter.notice ≡ notice.Nothing
 quieted_nothing (place.Waiting other) waiter is = ap notice_by (sym is)
@@ -292,12 +318,10 @@ freed_waiter place.Free waiter is = refl
 freed_waiter place.Left waiter is = absurd (let clash : place.Left ≡ place.Waiting waiter = is in cc)
 
 -- who waits is in the row of its object
-pub in_row : (rows : QueuesShown) (places : List Place) (k : ℕ) (waiter : Waiter) (source : ℕ) → AreListed rows row_in places
-    → slice_get places k ≡ Some (place.Waiting waiter)
-    → waiter.source ≡ source → is_in rows (row_of source) k ≡ true
-in_row rows places k waiter source listed found same =
-    listed k (row_of source)
-    ∙ (ap (λ (o : Option Place). row_in o (row_of source)) found ∙ eq-eqb (row_of source) (row_of waiter.source) (ap row_of (sym same)))
+pub in_row : (rows : QueuesShown) (places : List Place) (k : ℕ) (waiter : Waiter) (row : ℕ) → AreListed rows row_in places
+    → slice_get places k ≡ Some (place.Waiting waiter) → row_of waiter.source ≡ row → is_in rows row k ≡ true
+in_row rows places k waiter row listed found same =
+    listed k row ∙ (ap (λ (o : Option Place). row_in o row) found ∙ eq-eqb row (row_of waiter.source) (sym same))
 
 -- there are 64 rows
 pub row_within : (source : ℕ) → row_of source < 64

@@ -1,21 +1,22 @@
 -- What stays of seats of which some become due.
-use Rattle.std.proofs.Common.{◌≡◌, ◌≢◌, ℕ, ◌<◌, ◌⊎◌, inl, inr, Bool, true, false, List, length, get_or, slice_get, slice_set}
+use Rattle.std.proofs.Common.{◌≡◌, ℕ, ◌+◌, ◌<◌, ◌⊎◌, inl, inr, Bool, true, false, List, length, get_or, slice_get, slice_set}
 use Rattle.std.proofs.Common.{Option, Some, refl, sym, ap, subst, ◌∙◌, arith}
 use Rattle.std.proofs.lemmas.Option.{same_Some, slice_get_within, slice_get-get_or, get_or_from_slice_get}
-use Rattle.std.proofs.lemmas.Bool.{true≢false, false≢true, eqb-true, eq-eqb}
+use Rattle.std.proofs.lemmas.Bool.{true≢false, false≢true, eqb-true}
 use Rattle.std.proofs.lemmas.List.{length-set, length-map, ext_get_or}
 use Rattle.std.proofs.Math.ListN.{get_or-map}
 use Rattle.cml_board.specs.{Want, Entry, Fits, wanting}
 use Rattle.cml_board.proofs.ListLemmas.{slice_get-set_same, slice_get-set_other}
 use Rattle.cml_lanes.proofs.SlotsLemmas.{this_or_other}
 use Rattle.cml_room.specs.{Notice, Place, Waiter, state_by, states_in, row_of, row_in, is_noted, AreListed, roused, roused_notice}
-use Rattle.cml_room.specs.{AreRoused, IsMate, IsQuiet, object_of, source_of, reaches, AreAt}
+use Rattle.cml_room.specs.{AreRoused, IsMate, IsQuiet, object_of, source_of, reaches, AreAt, SeatsShown}
 use Rattle.cml_room.specs.declared.notice.Notice.TheVariants.{Nothing, Due, Woken}
 use Rattle.cml_room.specs.declared.place.Place.TheVariants.{Free, Waiting, Left}
 use Rattle.cml_room.specs.declared.state.State.TheVariants as state
 use Rattle.cml_room.proofs.ListingLemmas.{set_here, in_row}
-use Rattle.cml_queues.specs.{QueuesShown, is_in}
-use Rattle.std.specs.Prelude.{◌==◌, ◌&&◌, ◌||◌, ⊤}
+use Rattle.cml_room.proofs.WalkingLemmas.{Walked, walk_begins, walk_at, walk_goes, walk_kept}
+use Rattle.cml_queues.specs.{QueuesShown, queue_of, is_in}
+use Rattle.std.specs.Prelude.{◌==◌, ◌&&◌, ◌||◌}
 
 -- a seat that was roused does what it did
 pub roused_state : (place : Place) → state_by (roused place) ≡ state_by place
@@ -250,35 +251,68 @@ reached_source object source waiter is = eqb-true waiter.source source (and_left
     and_left true b e = refl
     and_left false b e = e
 
--- who isn't due is not reached, where all in the row were looked at
-pub not_reached : (olds news : List Place) (object source : ℕ) (rows : QueuesShown) (So : Waiter → Type 0)
-    → AreListed rows row_in olds → AreRoused So olds news
-    → ((number : ℕ) → is_in rows (row_of source) number ≡ true → (waiter : Waiter) → slice_get news number ≡ Some (Waiting waiter)
-    → reaches object source waiter ≡ true
-    → is_noted waiter.notice ≡ true)
-    → (number : ℕ) (waiter : Waiter) → IsQuiet news number waiter → reaches object source waiter ≡ false
-not_reached olds news object source rows So listed are seen number waiter quiet =
-    by_test (reaches object source waiter) refl
+-- a seat that waits for something of that kind is due
+abbrev pub IsSeen : (Waiter → Type 0) → List Place → ℕ → Type 0
+IsSeen So places k = (waiter : Waiter) → slice_get places k ≡ Some (Waiting waiter) → So waiter → is_noted waiter.notice ≡ true
+
+-- so many seats of a row were looked at, and those of them that wait for something of that kind are due
+pub record RowRoused (So : Waiter → Type 0) (row : ℕ) (olds news : SeatsShown) (next : Option ℕ) (count : ℕ) : Type 0 where
+  pub roused : AreRoused So olds.places news.places
+  pub rows : news.rows ≡ olds.rows
+  pub due : news.all_due ≡ olds.all_due
+  pub walked : Walked (queue_of olds.rows row) next count (IsSeen So news.places)
+
+pub row_begins : {So : Waiter → Type 0} {row : ℕ} {seats : SeatsShown} {next : Option ℕ} → next ≡ slice_get (queue_of seats.rows row) 0
+    → RowRoused So row seats seats next 0
+row_begins {So} {row} {seats} {next} first = record {
+  roused = none_roused So seats.places;
+  rows = refl;
+  due = refl;
+  walked = walk_begins first;
+}
+
+-- one more was looked at
+pub row_goes : {So : Waiter → Type 0} {row : ℕ} {olds mids news : SeatsShown} {next then : Option ℕ} {count : ℕ} (number : ℕ)
+    → ((one other : Waiter) → one.want ≡ other.want → one.source ≡ other.source → So one → So other)
+    → RowRoused So row olds mids next count → next ≡ Some number
+    → AreRoused So mids.places news.places → news.rows ≡ mids.rows → news.all_due ≡ mids.all_due → IsSeen So news.places number
+    → ((r i : ℕ) → slice_get (queue_of news.rows r) i ≡ Some number → then ≡ slice_get (queue_of news.rows r) (i + 1))
+    → RowRoused So row olds news then (count + 1)
+row_goes {So} {row} {olds} {mids} {news} {next} {then} {count} number fits was is roused rows due this after =
+    let queue = queue_of olds.rows row in
+    let all : news.rows ≡ olds.rows = rows ∙ was.rows in
+    let kept = walk_kept was.walked {Seen' = IsSeen So news.places} (λ k seen waiter found so.
+    still_noted So mids.places news.places k waiter roused found
+    (λ old at want source. seen old at (fits waiter old (sym want) (sym source) so))) in
+    let behind : slice_get queue count ≡ Some number → then ≡ slice_get queue (count + 1) =
+    subst (λ (q : QueuesShown). slice_get (queue_of q row) count ≡ Some number → then ≡ slice_get (queue_of q row) (count + 1)) all
+    (after row count) in
+    record {
+      roused = roused_twice So olds.places mids.places news.places fits was.roused roused;
+      rows = all;
+      due = due ∙ was.due;
+      walked = walk_goes kept is this (behind (walk_at was.walked is));
+    }
+
+-- who isn't due is none of them, where all in the row were looked at
+pub not_so : {So : Waiter → Type 0} {row : ℕ} {olds news : SeatsShown} {next : Option ℕ} {count : ℕ}
+    → RowRoused So row olds news next count
+    → AreListed olds.rows row_in olds.places → ((k : ℕ) → is_in olds.rows row k ≡ true → IsSeen So news.places k)
+    → (number : ℕ) (waiter : Waiter) → IsQuiet news.places number waiter → row_of waiter.source ≡ row → ¬ (So waiter)
+not_so {So} {row} {olds} {news} was listed seen number waiter quiet here so =
+    let old = waited So olds.places news.places number waiter was.roused quiet.here in
+    let in_it = in_row olds.rows olds.places number old.0 row listed old.1 (ap row_of old.3 ∙ here) in
+    not_noted waiter.notice quiet.nothing (seen number in_it waiter quiet.here so)
+
+pub not_reached : (object source : ℕ) {olds news : SeatsShown} {next : Option ℕ} {count : ℕ}
+    → RowRoused (λ waiter. reaches object source waiter ≡ true) (row_of source) olds news next count → AreListed olds.rows row_in olds.places
+    → ((k : ℕ) → is_in olds.rows (row_of source) k ≡ true → IsSeen (λ waiter. reaches object source waiter ≡ true) news.places k)
+    → (number : ℕ) (waiter : Waiter) → IsQuiet news.places number waiter → reaches object source waiter ≡ false
+not_reached object source was listed seen number waiter quiet = by_test (reaches object source waiter) refl
   where
     by_test : (t : Bool) → reaches object source waiter ≡ t → t ≡ false
     by_test false is = refl
-    by_test true is =
-        let old = waited So olds news number waiter are quiet.here in
-        let row = in_row rows olds number old.0 source listed old.1 (old.3 ∙ reached_source object source waiter is) in
-        absurd (not_noted waiter.notice quiet.nothing (seen number row waiter quiet.here is))
-
--- nor in this row, where all in the row were looked at
-pub not_in_row : (olds news : List Place) (source : ℕ) (rows : QueuesShown) → AreListed rows row_in olds → AreRoused (λ waiter. ⊤) olds news
-    → ((number : ℕ) → is_in rows (row_of source) number ≡ true → (waiter : Waiter)
-    → slice_get news number ≡ Some (Waiting waiter) → is_noted waiter.notice ≡ true)
-    → (number : ℕ) (waiter : Waiter) → IsQuiet news number waiter → row_of waiter.source ≢ row_of source
-not_in_row olds news source rows listed are seen number waiter quiet same =
-    let old = waited (λ w. ⊤) olds news number waiter are quiet.here in
-    let row : is_in rows (row_of source) number ≡ true =
-    listed number (row_of source)
-    ∙ (ap (λ (o : Option Place). row_in o (row_of source)) old.1
-    ∙ eq-eqb (row_of source) (row_of old.0.source) (sym same ∙ ap row_of (sym old.3))) in
-    not_noted waiter.notice quiet.nothing (seen number row waiter quiet.here)
+    by_test true is = absurd (not_so was listed seen number waiter quiet (ap row_of (reached_source object source waiter is)) is)
 
 module _ {M : Type 0} where
   pub at_kept : (So : Waiter → Type 0) (history : List (Entry M)) (olds news : List Place) → AreRoused So olds news

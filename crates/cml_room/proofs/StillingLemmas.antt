@@ -1,6 +1,6 @@
 -- Whether anybody can go on, told by those that are due alone.
 use Rattle.std.proofs.Common.{◌≡◌, ℕ, ◌<◌, inl, inr, Bool, true, false, MatchBool, List, length, get_or, slice_get}
-use Rattle.std.proofs.Common.{Some, refl, ap, subst, ◌∙◌, arith}
+use Rattle.std.proofs.Common.{Option, Some, refl, ap, subst, ◌∙◌, arith}
 use Rattle.std.specs.Option.{option_map}
 use Rattle.std.proofs.lemmas.Option.{slice_get-map, slice_get_within, get_or_from_slice_get}
 use Rattle.std.proofs.lemmas.List.{length-map}
@@ -8,7 +8,9 @@ use Rattle.std.proofs.lemmas.List.Sums.{sum_by-set}
 use Rattle.std.proofs.lemmas.Bool.{false≢true}
 use Rattle.cml_board.specs.{Entry, Want, Waits}
 use Rattle.cml_board.specs.Shown.{Shown}
-use Rattle.cml_room.specs.{Notice, Place, Waiter, state_by, states_in, is_noted, noted_as, free_by, free_in, IsIdle, AreIdle, NoneForgotten}
+use Rattle.cml_queues.specs.{QueuesShown, is_in}
+use Rattle.cml_room.specs.{Notice, Place, Waiter, state_by, states_in, is_noted, noted_as, noted_in, AreListed, free_by, free_in, IsIdle}
+use Rattle.cml_room.specs.{AreIdle, NoneForgotten}
 use Rattle.cml_room.specs.declared.notice.Notice.TheVariants.{Nothing, Due, Woken}
 use Rattle.cml_room.specs.declared.place.Place.TheVariants.{Free, Waiting, Left}
 use Rattle.cml_room.specs.declared.state.State.TheVariants as state
@@ -36,14 +38,27 @@ module _ {M : Type 0} where
   noted_waits history Woken on woken due is = woken refl
 
   -- no seat can go on if none is free, and each that is due would wait
-  pub idle_by_due : (board : Shown M) (places : List Place) → free_in (states_in places) ≡ 0 → NoneForgotten board places
-      → ((k : ℕ) (waiter : Waiter) → slice_get places k ≡ Some (Waiting waiter) → noted_as waiter.notice 1 ≡ true
+  pub idle_by_due : (board : Shown M) (places : List Place) (queues : QueuesShown) → free_in (states_in places) ≡ 0
+      → NoneForgotten board places → AreListed queues noted_in places
+      → ((k : ℕ) → is_in queues 1 k ≡ true → (waiter : Waiter) → slice_get places k ≡ Some (Waiting waiter)
       → Waits board.history waiter.want)
-      → ((k : ℕ) (waiter : Waiter) → slice_get places k ≡ Some (Waiting waiter) → noted_as waiter.notice 0 ≡ true
+      → ((k : ℕ) → is_in queues 0 k ≡ true → (waiter : Waiter) → slice_get places k ≡ Some (Waiting waiter)
       → Waits board.history waiter.want)
       → AreIdle board.history (states_in places)
-  idle_by_due board places none rests woken due = all_idle board.history places each
+  idle_by_due board places queues none rests listed in_woken in_due = all_idle board.history places each
     where
+      noted : (queue k : ℕ) (waiter : Waiter) → slice_get places k ≡ Some (Waiting waiter) → noted_as waiter.notice queue ≡ true
+          → is_in queues queue k ≡ true
+      noted queue k waiter found is = listed k queue ∙ (ap (λ (o : Option Place). noted_in o queue) found ∙ is)
+
+      woken : (k : ℕ) (waiter : Waiter) → slice_get places k ≡ Some (Waiting waiter) → noted_as waiter.notice 1 ≡ true
+          → Waits board.history waiter.want
+      woken k waiter found is = in_woken k (noted 1 k waiter found is) waiter found
+
+      due : (k : ℕ) (waiter : Waiter) → slice_get places k ≡ Some (Waiting waiter) → noted_as waiter.notice 0 ≡ true
+          → Waits board.history waiter.want
+      due k waiter found is = in_due k (noted 0 k waiter found is) waiter found
+
       quiet_waits : (k : ℕ) (waiter : Waiter) → slice_get places k ≡ Some (Waiting waiter)
           → waiter.notice ≡ Nothing → Waits board.history waiter.want
       quiet_waits k waiter found nothing = elim (rests k waiter (record { here = found; nothing = nothing })) [

@@ -1,7 +1,7 @@
 use Rattle.std.proofs.Common.{◌≡◌, inl, inr, arith}
 use Rattle.std.proofs.lemmas.Bool.{cases_lt}
 use Rattle.cml_room.specs.{row_of}
-use Rattle.cml_room.proofs.ListingLemmas.{row_within, row_itself}
+use Rattle.cml_room.proofs.ListingLemmas.{row_within, in_row}
 use Rattle.cml_room.proofs.waiting.waiting_idle.Goals as goal
 
 pub loop-row-preserved : goal.loop-row-preserved
@@ -9,7 +9,8 @@ loop-row-preserved g c = λ number waiter found less. elim (cases_lt (row_of wai
   | inl before ↦ c.loop-row.invariant number waiter found before
   | inr past ↦
       let here : row_of waiter.source ≡ c.loop-row.row = omega (arith, past, less) in
-      c.if-not-row_idle.ensures number waiter found (row_itself waiter.source c.loop-row.row here)
+      c.if-not-queue_idle.ensures number
+      (in_row c.rows-rows.result.now c.args.seats.now.places number waiter c.loop-row.row c.rows-rows.ensures found here) waiter found
 ]
 
 pub returns : goal.returns

@@ -4,13 +4,13 @@ use Rattle.cml_queues.specs.{queue_of, is_in}
 use Rattle.cml_room.specs.declared.place.Place.TheVariants.{Free}
 use Rattle.cml_room.specs.{row_of, roused, AreRoused, SeatsShown, OneEach}
 use Rattle.cml_room.proofs.ListingLemmas.{in_row}
-use Rattle.cml_room.proofs.WalkingLemmas.{walk_begins, walk_ends, walk_stops, walk_goes}
+use Rattle.cml_room.proofs.WalkingLemmas.{walk_begins, walk_ends, walk_stops, walk_at, walk_goes}
 use Rattle.cml_room.proofs.RisingLemmas.{none_each, set_each}
 use Rattle.cml_room.proofs.RousingLemmas.{none_roused, one_roused, set_roused_mate}
 use Rattle.cml_room.proofs.waking.rouse_first.Goals as goal
 
 pub loop-init : goal.loop-init
-loop-init c = (refl, walk_begins _ _ _ c.first_at-next.ensures.first)
+loop-init c = (refl, walk_begins c.first_at-next.ensures.first)
 
 pub returns-in_default-clause-roused : goal.returns-in_default-clause-roused
 returns-in_default-clause-roused c =
@@ -19,10 +19,10 @@ returns-in_default-clause-roused c =
 
 pub returns-in_default-clause-first : goal.returns-in_default-clause-first
 returns-in_default-clause-first c = λ number waiter quiet same source.
-    let seen = walk_stops _ _ _ _ c.loop.invariant.1 c.in_default.is number
+    let seen = walk_stops c.loop.invariant.1 c.in_default.is number
     (ap (λ (v : SeatsShown). is_in v.rows (row_of c.args.source) number) c.loop.invariant.0
-    ∙ in_row c.args.seats.now.rows c.args.seats.now.places number waiter c.args.source c.first_at-next.ensures.listed
-    (ap (λ (v : SeatsShown). slice_get v.places number) (sym c.loop.invariant.0) ∙ quiet.here) source) in
+    ∙ in_row c.args.seats.now.rows c.args.seats.now.places number waiter _ c.first_at-next.ensures.listed
+    (ap (λ (v : SeatsShown). slice_get v.places number) (sym c.loop.invariant.0) ∙ quiet.here) (ap row_of source)) in
     absurd (seen waiter quiet.here same)
 
 pub rouse-requires : goal.rouse-requires
@@ -45,8 +45,8 @@ returns-then-wants-clause-first c = λ number waiter quiet same source.
 pub loop-preserved : goal.loop-preserved
 loop-preserved c = (
   c.loop.invariant.0,
-  walk_goes _ _ _ _ c.in-Some.number _ c.loop.invariant.1 c.in-Some.is c.if-wants.ensures
-      (c.after-next.ensures (row_of c.args.source) c.loop.counter (sym c.loop.invariant.1.next_is ∙ c.in-Some.is)),
+  walk_goes c.loop.invariant.1 c.in-Some.is c.if-wants.ensures
+      (c.after-next.ensures (row_of c.args.source) c.loop.counter (walk_at c.loop.invariant.1 c.in-Some.is)),
 )
 
 pub returns-clause-roused : goal.returns-clause-roused
@@ -56,7 +56,7 @@ returns-clause-roused c =
 
 pub returns-clause-first : goal.returns-clause-first
 returns-clause-first c = λ number waiter quiet same source.
-    let seen = walk_ends _ _ _ _ c.loop.invariant.1
+    let seen = walk_ends c.loop.invariant.1
     (omega (
       arith,
       c.most-end.ensures (row_of c.args.source),
@@ -64,8 +64,8 @@ returns-clause-first c = λ number waiter quiet same source.
       c.loop-test.false,
     )) number
     (ap (λ (v : SeatsShown). is_in v.rows (row_of c.args.source) number) c.loop.invariant.0
-    ∙ in_row c.args.seats.now.rows c.args.seats.now.places number waiter c.args.source c.first_at-next.ensures.listed
-    (ap (λ (v : SeatsShown). slice_get v.places number) (sym c.loop.invariant.0) ∙ quiet.here) source) in
+    ∙ in_row c.args.seats.now.rows c.args.seats.now.places number waiter _ c.first_at-next.ensures.listed
+    (ap (λ (v : SeatsShown). slice_get v.places number) (sym c.loop.invariant.0) ∙ quiet.here) (ap row_of source)) in
     absurd (seen waiter quiet.here same)
 
 pub returns-in_default-clause-one : goal.returns-in_default-clause-one

@@ -1,28 +1,17 @@
 use Rattle.std.proofs.Common.{◌≡◌, slice_get, Some, refl, sym, subst, arith}
 use Rattle.cml_room.specs.declared.place.Place.TheVariants as place
-use Rattle.cml_room.specs.{row_in, noted_in, SeatsShown}
-use Rattle.cml_room.proofs.ListingLemmas.{listed_same, kept_set, one_free}
+use Rattle.cml_room.specs.{row_in, SeatsShown}
+use Rattle.cml_room.proofs.ListingLemmas.{listed_same, kept_taken, one_free}
 use Rattle.cml_room.proofs.seats.Seats.leave.Goals as goal
 
 pub overflow_sub-self : goal.overflow_sub-self
 overflow_sub-self c =
-    one_free c.self.inside.places.items c.self.inside.free c.self.inside.parked c.self.inside.rows
-    c.self.inside.due c.args.number c.self.invariant
+    one_free c.args.number c.self.invariant
     (subst (λ (v : SeatsShown). slice_get v.places c.args.number ≡ Some place.Free) (sym c.self.view_is) c.requires)
 
 pub invariant_of-self : goal.invariant_of-self
 invariant_of-self c =
     let was = subst (λ (v : SeatsShown). slice_get v.places c.args.number ≡ Some place.Free) (sym c.self.view_is) c.requires in
-    kept_set c.self.inside.places.items c.self.inside.free _ c.self.inside.parked c.self.inside.parked c.self.inside.rows c.self.inside.rows
-    c.self.inside.due c.self.inside.due c.args.number
-    place.Free place.Left was c.self.invariant
-    (omega (
-      arith,
-      one_free c.self.inside.places.items c.self.inside.free c.self.inside.parked c.self.inside.rows c.self.inside.due
-          c.args.number c.self.invariant was,
-    )) refl
+    kept_taken c.args.number place.Left was c.self.invariant refl (omega arith)
     (listed_same c.self.inside.rows row_in c.self.inside.places.items c.args.number place.Free place.Left was
-    c.self.invariant.in_rows (λ r. refl))
-    (listed_same c.self.inside.due noted_in c.self.inside.places.items c.args.number place.Free place.Left was
-    c.self.invariant.in_due (λ r. refl))
-    refl refl refl refl
+    c.self.invariant.in_rows (λ r. refl)) (λ r. refl) refl refl

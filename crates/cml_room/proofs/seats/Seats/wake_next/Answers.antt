@@ -2,11 +2,11 @@ use Rattle.std.proofs.Common.{◌≡◌, ◌<◌, true, length, slice_get, slice
 use Rattle.std.proofs.lemmas.Option.{slice_get_within, slice_get-get_or, same_Some}
 use Rattle.std.proofs.lemmas.List.{set-set}
 use Rattle.cml_board.proofs.ListLemmas.{slice_get-set_same}
-use Rattle.cml_room.specs.{Waiter, noted_as, row_in, noted_in, notice_in, AreListed, SeatsShown, WakesNext}
+use Rattle.cml_room.specs.{Waiter, noted_as, noted_in, notice_in, AreListed, SeatsShown, WakesNext}
 use Rattle.cml_room.specs.declared.notice.Notice.TheVariants as notice
 use Rattle.cml_room.specs.declared.place.Place.TheVariants as place
 use Rattle.cml_queues.specs.{queue_of, is_in}
-use Rattle.cml_room.proofs.ListingLemmas.{listed_same, listed_push, listed_remove, has_at, unwoken_waits, not_due, seen_at, kept_set}
+use Rattle.cml_room.proofs.ListingLemmas.{listed_push, listed_remove, has_at, unwoken_waits, not_due, seen_at, kept_noticed}
 use Rattle.cml_room.proofs.seats.Seats.wake_next.Goals.{In_ok-number, In-Waiting}
 use Rattle.cml_room.proofs.seats.Seats.wake_next.Goals as goal
 
@@ -67,15 +67,11 @@ invariant_of-self c =
     (place.Waiting (record c.in-Waiting.waiter { notice = notice.Nothing })) was c.self.invariant.in_due
     (λ r. ap (λ n. noted_as n r) due) (λ r. refl)
     c.remove.ensures.gone c.remove.ensures.kept c.remove.ensures.others in
-    kept_set c.self.inside.places.items c.self.inside.free c.self.inside.free c.self.inside.parked c.self.inside.parked c.self.inside.rows
-    c.self.inside.rows c.self.inside.due c.push.new.self number
-    (place.Waiting c.in-Waiting.waiter) _ was c.self.invariant refl refl
-    (listed_same c.self.inside.rows row_in c.self.inside.places.items number
-    (place.Waiting c.in-Waiting.waiter) _ was c.self.invariant.in_rows (λ r. refl))
+    kept_noticed number c.in-Waiting.waiter notice.Woken was c.self.invariant
     (subst (AreListed c.push.new.self noted_in) (set-set c.self.inside.places.items number _ _)
     (listed_push c.remove.new.self c.push.new.self noted_in (slice_set c.self.inside.places.items number _) 1 number _ _
     (slice_get-set_same c.self.inside.places.items number _ _ was) quiet (λ r. refl) (λ r. refl) c.push.ensures.here c.push.ensures.others))
-    refl (c.push.ensures.count ∙ c.remove.ensures.count) refl (c.push.ensures.bound ∙ c.remove.ensures.bound)
+    (c.push.ensures.count ∙ c.remove.ensures.count) (c.push.ensures.bound ∙ c.remove.ensures.bound)
 
 pub returns-clause-woken : goal.returns-clause-woken
 returns-clause-woken c =

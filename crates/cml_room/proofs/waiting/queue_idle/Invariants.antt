@@ -4,8 +4,8 @@ use Rattle.cml_queues.specs.{queue_of}
 use Rattle.cml_room.specs.declared.place.Place.TheVariants.{Waiting}
 use Rattle.cml_room.specs.{Waiter}
 use Rattle.cml_room.proofs.WalkingLemmas.{Walked}
-use Rattle.cml_room.proofs.waiting.due_idle.Given as goal
+use Rattle.cml_room.proofs.waiting.queue_idle.Given as goal
 
 abbrev pub invariant-loop : goal.invariant-loop
-invariant-loop g l = Walked (queue_of l.seats.due l.queue) l.next l.counter
+invariant-loop g l = Walked (queue_of l.queues l.queue) l.next l.counter
     (λ k. (waiter : Waiter) → slice_get l.seats.places k ≡ Some (Waiting waiter) → Waits l.board.history waiter.want)
