@@ -11,7 +11,7 @@ use Rattle.cml_journal.specs.{What, Unread, IsWritten, who_text, call_text, repl
 use Rattle.cml_journal.specs.{cut, name_in, who_at, call_at, made_known, told_by, told_in, reply_in, entry_in}
 use Rattle.cml_journal.specs.declared.fault.What.TheVariants.{UnknownWord, BadMessage, WrongReply}
 use Rattle.cml_journal.proofs.CutWordsLemmas.{cut_again, cut_none, cut_takes, printed_no_space}
-use Rattle.cml_journal.proofs.WordLemmas.{bind_ok, ok_is, some_from_ok, chosen, same_bytes, name_takes, name_again, who_takes, who_again}
+use Rattle.cml_journal.proofs.WordLemmas.{bind_ok, ok_is, some_from_ok, chosen, passed, same_bytes, name_takes, name_again, who_takes, who_again}
 use Rattle.cml_journal.proofs.CallLemmas.{call_takes, call_again}
 
 -- ---- replies
@@ -139,11 +139,9 @@ entry_takes {M} text fits read written line entry e =
     let whole : line ≡ line_of text made =
     who.0 ∙ ap (λ (w : List ℕ). who_text a.0.0 ++ 32 ∷ w) (call.parts ∙ ap (λ (w : List ℕ). call_text text b.0.0 ++ 58 ∷ 32 ∷ w) reply.0)
     ∙ sym (entry_parts (who_text a.0.0) (call_text text b.0.0) (reply_text text c.0)) in
-    elim (chosen (may_have (row_of b.0.0) c.0) (Ok made) (Err WrongReply) (Ok entry) c.2) [
-      | inl h ↦ subst (λ (n : Entry M). (line ≡ line_of text n) × HasLine fits n) (ok_is made entry h.1)
-          (whole, record { who = who.1; object = call.whole.object; message = call.whole.message; reply = reply.1; lawful = h.0 })
-      | inr h ↦ let e : Err WrongReply ≡ Ok entry = h.1 in absurd cc
-    ]
+    let (lawful, same) = passed (may_have (row_of b.0.0) c.0) made entry WrongReply c.2 in
+    subst (λ (n : Entry M). (line ≡ line_of text n) × HasLine fits n) same
+    (whole, record { who = who.1; object = call.whole.object; message = call.whole.message; reply = reply.1; lawful = lawful })
 
 -- two entries with the same line are the same
 pub entry_by_line : {M : Type 0} (text : M → List ℕ) (fits : M → Bool) (read : List ℕ → Option M)

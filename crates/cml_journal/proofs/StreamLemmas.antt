@@ -19,7 +19,7 @@ use Rattle.cml_journal.specs.declared.fault.What.TheVariants.{BadNumber, BadByte
 use Rattle.cml_journal.specs.declared.reader.Stage.TheVariants.{Waiting, Headed, Inside}
 use Rattle.cml_journal.specs.NumberLaws.{number_only}
 use Rattle.cml_journal.proofs.CutWordsLemmas.{cut_takes}
-use Rattle.cml_journal.proofs.WordLemmas.{bind_ok, ok_is, chosen, same_bytes}
+use Rattle.cml_journal.proofs.WordLemmas.{bind_ok, ok_is, chosen, passed, not_failed, same_bytes}
 use Rattle.cml_journal.proofs.EntryLemmas.{entry_takes}
 use Rattle.cml_journal.proofs.PieceLemmas.{piece_text}
 
@@ -162,36 +162,26 @@ inside_adds {M} version text fits read written position line told e = by (number
     by : (o : Option ℕ) → numbered (codes "end") line ≡ o → ended_by read position o line ≡ Ok told
         → Adds version text (Inside position) line told
     by (Some n) is f =
-        let ended : Stage × Option (Entry M) = (Waiting (Some position), None) in
-        elim (chosen (n == position) (Ok ended) (Err WrongEnd) (Ok told) f) [
-          | inl h ↦
-              let whole : line ≡ numbered_line (codes "end") position = numbered_takes (codes "end") line n is
-              ∙ ap (numbered_line (codes "end")) (eqb-true n position h.0) in
-              subst (Adds version text (Inside position) line) (ok_is ended told h.1)
-              (λ bytes entries end claim. subst (λ (l : List ℕ). Rest version text position (with_line_end l ++ bytes) entries end)
-              (sym whole) (end_adds version text position bytes entries end claim))
-          | inr h ↦ let e : Err WrongEnd ≡ Ok told = h.1 in absurd cc
-        ]
+        let (ends, same) = passed (n == position) (Waiting (Some position), None) told WrongEnd f in
+        let whole : line ≡ numbered_line (codes "end") position = numbered_takes (codes "end") line n is
+        ∙ ap (numbered_line (codes "end")) (eqb-true n position ends) in
+        subst (Adds version text (Inside position) line) same
+        (λ bytes entries end claim. subst (λ (l : List ℕ). Rest version text position (with_line_end l ++ bytes) entries end)
+        (sym whole) (end_adds version text position bytes entries end claim))
     by None is f =
         let a = bind_ok (entry_in read line)
         (λ entry. if nat_lt (position + 1) (2 ^ 64) then Ok (Inside (position + 1), Some entry) else Err TooMany) told f in
-        let entered : Stage × Option (Entry M) = (Inside (position + 1), Some a.0) in
         let line_is = (entry_takes text fits read written line a.0 a.1).0 in
-        elim (chosen (nat_lt (position + 1) (2 ^ 64)) (Ok entered) (Err TooMany) (Ok told) a.2) [
-          | inl h ↦
-              subst (Adds version text (Inside position) line) (ok_is entered told h.1)
-              (λ bytes entries end claim. subst (λ (l : List ℕ). Rest version text position (with_line_end l ++ bytes) (a.0 ∷ entries) end)
-              (sym line_is) (entry_adds version text position a.0 bytes entries end claim))
-          | inr h ↦ let e : Err TooMany ≡ Ok told = h.1 in absurd cc
-        ]
+        let (few, same) = passed (nat_lt (position + 1) (2 ^ 64)) (Inside (position + 1), Some a.0) told TooMany a.2 in
+        subst (Adds version text (Inside position) line) same
+        (λ bytes entries end claim. subst (λ (l : List ℕ). Rest version text position (with_line_end l ++ bytes) (a.0 ∷ entries) end)
+        (sym line_is) (entry_adds version text position a.0 bytes entries end claim))
 
 begun_starts : (before : Option ℕ) (from position : ℕ) → begun before from ≡ Ok position → StartsAt before position × (position ≡ from)
 begun_starts None from position e = (tt, sym (ok_is from position e))
 begun_starts (Some q) from position e =
-    elim (chosen (from == q) (Ok from) (Err Gap) (Ok position) e) [
-      | inl h ↦ let same = ok_is from position h.1 in (sym same ∙ eqb-true from q h.0, sym same)
-      | inr h ↦ let e : Err Gap ≡ Ok position = h.1 in absurd cc
-    ]
+    let (here, same) = passed (from == q) from position Gap e in
+    (sym same ∙ eqb-true from q here, sym same)
 
 behind_adds : {M : Type 0} (version : ℕ) (text : M → List ℕ) (fits : M → Bool) (read : List ℕ → Option M)
     (written : IsWritten text fits read) (before : Option ℕ) (line : List ℕ) (told : Stage × Option (Entry M))
@@ -214,25 +204,22 @@ behind_adds {M} version text fits read written before line told e = by (numbered
         }
     by (Some n) is f =
         let opened : Result (Stage × Option (Entry M)) What = begun before n >>= λ position. Ok (Inside position, None) in
-        elim (chosen (n == 0) (Err BadNumber) opened (Ok told) f) [
-          | inl h ↦ let e : Err BadNumber ≡ Ok told = h.1 in absurd cc
-          | inr h ↦
-              let a = bind_ok (begun before n) (λ position. Ok (Inside position, None)) told h.1 in
-              let starts = begun_starts before n a.0 a.1 in
-              let within : Stage × Option (Entry M) = (Inside a.0, None) in
-              let whole : line ≡ numbered_line (codes "from") n = numbered_takes (codes "from") line n is in
-              let named : text_of (from_lines n) ≡ with_line_end line =
-              ap (λ t. text_of (if t then [] else numbered_line (codes "from") n ∷ [])) h.0
-              ∙ append-nil (with_line_end (numbered_line (codes "from") n)) ∙ ap with_line_end (sym whole) in
-              subst (Adds version text (Headed before) line) (ok_is within told a.2)
-              (λ bytes entries end claim. record {
-                from = a.0;
-                more = bytes;
-                starts = starts.0;
-                parts = ap (λ (w : List ℕ). w ++ bytes) (sym named ∙ ap (λ (m : ℕ). text_of (from_lines m)) (sym starts.1));
-                rest = claim;
-              })
-        ]
+        let (some, opens) = not_failed (n == 0) BadNumber opened told f in
+        let a = bind_ok (begun before n) (λ position. Ok (Inside position, None)) told opens in
+        let starts = begun_starts before n a.0 a.1 in
+        let within : Stage × Option (Entry M) = (Inside a.0, None) in
+        let whole : line ≡ numbered_line (codes "from") n = numbered_takes (codes "from") line n is in
+        let named : text_of (from_lines n) ≡ with_line_end line =
+        ap (λ t. text_of (if t then [] else numbered_line (codes "from") n ∷ [])) some
+        ∙ append-nil (with_line_end (numbered_line (codes "from") n)) ∙ ap with_line_end (sym whole) in
+        subst (Adds version text (Headed before) line) (ok_is within told a.2)
+        (λ bytes entries end claim. record {
+          from = a.0;
+          more = bytes;
+          starts = starts.0;
+          parts = ap (λ (w : List ℕ). w ++ bytes) (sym named ∙ ap (λ (m : ℕ). text_of (from_lines m)) (sym starts.1));
+          rest = claim;
+        })
 
 headed_adds : {M : Type 0} (version : ℕ) (text : M → List ℕ) (before : Option ℕ) (line : List ℕ) (told : Stage × Option (Entry M))
     → headed version before (numbered (codes "journal") line) ≡ Ok told → Adds version text (Waiting before) line told
@@ -242,26 +229,19 @@ headed_adds {M} version text before line told e = by (numbered (codes "journal")
         → Adds version text (Waiting before) line told
     by None is f = let e : Err NoHeader ≡ Ok told = f in absurd cc
     by (Some n) is f =
-        let opened : Stage × Option (Entry M) = (Headed before, None) in
-        elim (chosen (n == version) (Ok opened) (Err NoHeader) (Ok told) f) [
-          | inl h ↦
-              let whole : line ≡ numbered_line (codes "journal") version = numbered_takes (codes "journal") line n is
-              ∙ ap (numbered_line (codes "journal")) (eqb-true n version h.0) in
-              subst (Adds version text (Waiting before) line) (ok_is opened told h.1)
-              (λ bytes entries end claim. subst (λ (l : List ℕ). Whole version text before (with_line_end l ++ bytes) entries end)
-              (sym whole) (header_adds version text before bytes entries end claim))
-          | inr h ↦ let e : Err NoHeader ≡ Ok told = h.1 in absurd cc
-        ]
+        let (known, same) = passed (n == version) (Headed before, None) told NoHeader f in
+        let whole : line ≡ numbered_line (codes "journal") version = numbered_takes (codes "journal") line n is
+        ∙ ap (numbered_line (codes "journal")) (eqb-true n version known) in
+        subst (Adds version text (Waiting before) line) same
+        (λ bytes entries end claim. subst (λ (l : List ℕ). Whole version text before (with_line_end l ++ bytes) entries end)
+        (sym whole) (header_adds version text before bytes entries end claim))
 
 line_adds : {M : Type 0} (version : ℕ) (text : M → List ℕ) (fits : M → Bool) (read : List ℕ → Option M) (written : IsWritten text fits read)
     (stage : Stage) (line : List ℕ) (told : Stage × Option (Entry M))
     → line_read version read stage line ≡ Ok told → Adds version text stage line told
 unfolding line_read
 line_adds {M} version text fits read written stage line told e =
-    elim (chosen (list_any is_bad_byte line) (Err BadBytes) (line_step version read stage line) (Ok told) e) [
-      | inl h ↦ let e : Err BadBytes ≡ Ok told = h.1 in absurd cc
-      | inr h ↦ by stage h.1
-    ]
+    by stage (not_failed (list_any is_bad_byte line) BadBytes (line_step version read stage line) told e).1
   where
     by : (s : Stage) → line_step version read s line ≡ Ok told → Adds version text s line told
     by (Waiting before) f = headed_adds version text before line told f

@@ -36,6 +36,16 @@ pub chosen : {A : Type 0} (t : Bool) (x y z : A) → (if t then x else y) ≡ z 
 chosen true x y z e = inl (refl, e)
 chosen false x y z e = inr (refl, e)
 
+-- where a test decides whether there is a fault, and there is none
+pub passed : {A : Type 0} (t : Bool) (x y : A) (what : What) → (if t then done x else Err what) ≡ done y → (t ≡ true) × (x ≡ y)
+passed true x y what e = (refl, ok_is x y e)
+passed false x y what e = absurd cc
+
+pub not_failed : {A : Type 0} (t : Bool) (what : What) (r : Result A What) (y : A)
+    → (if t then Err what else r) ≡ done y → (t ≡ false) × (r ≡ done y)
+not_failed true what r y e = absurd cc
+not_failed false what r y e = (refl, e)
+
 pub found_passes : {X : Type 0} (p : X → Bool) (xs : List X) (x : X) → find p xs ≡ Some x → p x ≡ true
 found_passes p [] x h = absurd (none-some x h)
 found_passes {X} p (y ∷ ys) x h = by (p y) refl (found_passes p ys x) h
@@ -109,10 +119,9 @@ who_by_takes word n who e =
       | inl h ↦ is (Seat n) (ok_is (Seat n) who h.1) (same_bytes word (codes "seat") h.0, refl)
       | inr h ↦ elim (chosen (bytes_eq word (codes "lane")) (Ok (Lane n)) _ (Ok who) h.1) [
         | inl h ↦ is (Lane n) (ok_is (Lane n) who h.1) (same_bytes word (codes "lane") h.0, refl)
-        | inr h ↦ elim (chosen (bytes_eq word (codes "feed")) (Ok (Feed n)) (Err UnknownWord) (Ok who) h.1) [
-          | inl h ↦ is (Feed n) (ok_is (Feed n) who h.1) (same_bytes word (codes "feed") h.0, refl)
-          | inr h ↦ let e : Err UnknownWord ≡ Ok who = h.1 in absurd cc
-        ]
+        | inr h ↦
+            let (named, same) = passed (bytes_eq word (codes "feed")) (Feed n) who UnknownWord h.1 in
+            is (Feed n) same (same_bytes word (codes "feed") named, refl)
       ]
     ]
   where
