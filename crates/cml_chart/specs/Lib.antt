@@ -10,9 +10,11 @@ pub mod CommandLine
 pub mod Drawing
 pub mod Endings
 -- the names that others import from here
-pub use Lines.{Thing, before_colon, behind_step, deed_by, deed_of, doer_of, ended_of, fits, is_closing, is_for, is_message, line_by}
-pub use Lines.{makes_port, may_answer, may_do, may_leave, object_of, row_of, says, thing_of}
-pub use Reading.{IsFaultOf, SoFar, Told, nothing_yet, told, told_at_end, told_by, told_from, with_line, with_text, wrong, wrong_at}
+pub use Lines.{Thing, before_colon, behind_step, deed_by, doer_of, fits, is_for, is_message, line_by, makes_port, may_answer, may_do}
+pub use Lines.{may_leave, object_of, row_of, says}
+unfoldable pub use Lines.{deed_of, ended_of, is_closing, thing_of}
+pub use Reading.{IsFaultOf, SoFar, Told, nothing_yet, told, told_at_end, told_by, told_from, with_text, wrong, wrong_at}
+unfoldable pub use Reading.{with_line}
 pub use Shown.{line_count, shown_act, shown_actor, shown_end, shown_line, shown_object, shown_report, so_far, texts}
 pub use Threads.{advanced, perform, shown_thread, shown_threads, stands_at, tells}
 pub use Columns.{column_of, doer_in, doer_text, each_once, is_among, name_in, names_of, taken_from, with_name}

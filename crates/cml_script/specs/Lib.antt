@@ -34,9 +34,10 @@ pub mod Laws
 pub use Counting.{how_many, one_if}
 pub use Schedule.{Ends, Follows, History, IsDeclaration, IsReady, IsStep, NoneReady, apart_count, binding_of, bound_by, call_in, call_of}
 pub use Schedule.{call_on, closed_by, declared_count, declared_object, earlier, feed_at, feed_count, feed_route, given_by, gives_next}
-pub use Schedule.{is_apart, is_by, is_by_ring, is_called, is_feed, is_object, is_seat, is_seated, lane_route, left, made_of, maker}
-pub use Schedule.{makes_object, making_call, next_position, number_of, object_of, objects_of, performed, port_bound, port_made}
-pub use Schedule.{positions_from, positions_where, route_of, route_of_line, step_call}
+pub use Schedule.{is_apart, is_by, is_by_ring, is_called, is_feed, is_object, is_seat, is_seated, lane_route, left, maker, makes_object}
+pub use Schedule.{making_call, next_position, number_of, object_of, objects_of, performed, port_bound, port_made, positions_from}
+pub use Schedule.{positions_where, route_of, route_of_line, step_call}
+unfoldable pub use Schedule.{made_of}
 pub use Report.{Tallied, channel_counts, end_line, entry_line, entry_lines, given_word, held_text, is_of_thread, is_step_entry, line_text}
 pub use Report.{mailbox_counts, message_mark, named_line, next_step, no_rings, object_line, object_lines_from, performed_count, port_counts}
 pub use Report.{reply_word, report, sent_text, state_text, taken_by, taken_from, unperformed, word_line}
