@@ -1,25 +1,25 @@
 -- How the declared objects are made one after the other.
-use Rattle.std.proofs.Common.{◌≡◌, ℕ, ◌+◌, ◌<◌, ◌≤◌, Bool, true, false, cond, List, [], ◌∷◌, length, take, filter, slice_get, Option}
-use Rattle.std.proofs.Common.{Some, None, Ok, Err, Result, MatchBool, IfSome, IsSome, refl, sym, ap, ap₂, subst, ◌∙◌, arith}
+use Rattle.std.proofs.Common.{◌≡◌, ℕ, ◌+◌, ◌<◌, ◌≤◌, Bool, true, false, cond, List, [], ◌∷◌, length, map, take, filter, get_or, slice_get}
+use Rattle.std.proofs.Common.{Option, Some, None, Ok, Err, Result, MatchBool, IfSome, IsSome, refl, sym, ap, ap₂, subst, ◌∙◌, arith}
+use Rattle.std.specs.Prelude.{All}
 use Rattle.std.specs.Option.{option_map, option_map_or, option_and_then}
 use Rattle.std.specs.Result.{IsErrAnd}
 use Rattle.std.proofs.lemmas.Option.{IfSome_then, same_Some, none-some}
-use Rattle.std.proofs.lemmas.List.{take_all}
+use Rattle.std.proofs.lemmas.List.{length-map, take_all}
 use Rattle.std.proofs.lemmas.Bool.{lt-ltb}
 use Rattle.cml_board.specs.{Name, Call, Who, Reply, Entry, Refusal}
 use Rattle.cml_board.specs.declared.call.Call.TheVariants as call
 use Rattle.cml_board.specs.declared.entry.Who.TheVariants.{Seat, Feed}
 use Rattle.cml_board.specs.declared.entry.Reply.TheVariants as reply
 use Rattle.cml_grammar.specs.{Makes, FeedMaking, Declaration, Given, makes_feed, SourceLine, Lines, names_of, makes_of, source_of}
-use Rattle.cml_grammar.specs.{ReadsDeclaration, IsMadeWell}
+use Rattle.cml_grammar.specs.{GivesNames, ReadsDeclaration, IsMadeWell}
 use Rattle.cml_grammar.specs.declared.forms.Makes.TheVariants as makes
 use Rattle.cml_script.specs.{one_if, how_many, History, declared_count, objects_of, number_of, maker, is_object, is_feed, makes_object}
-use Rattle.cml_script.specs.{IsDeclaration, IsOfCaller, IsOfScript, IsKnown, IsMadeOfDeclared, IsNext, IsNextObject, IsNextPort, Made}
-use Rattle.cml_script.specs.{with_call, with_feed, is_of_feed, with_refused, BeginsAt, capacity_made, feed_capacity, AreOpened, Declares}
-use Rattle.cml_script.specs.{HasCapacity, HasMade, making}
-use Rattle.cml_script.specs.Stage.{Play}
-use Rattle.cml_script.proofs.ListLemmas.{count_taken, filter_at, taken_all, told_more}
-use Rattle.cml_script.proofs.LineLemmas.{declaration_object, declaration_feed}
+use Rattle.cml_script.specs.{IsDeclaration, IsOfCaller, IsOfScript, IsKnown, IsMadeOfDeclared, Executed, IsNext, IsNextObject, IsNextPort}
+use Rattle.cml_script.specs.{Made, with_call, with_feed, is_of_feed, with_refused, BeginsAt, capacity_made, feed_capacity, AreOpened}
+use Rattle.cml_script.specs.{Declares, HasCapacity, HasMade, making}
+use Rattle.cml_script.proofs.ListLemmas.{count_taken, filter_at, read_at, taken_all, told_more}
+use Rattle.cml_script.proofs.LineLemmas.{declaration_object, declaration_feed, declaration_read}
 use Rattle.cml_script.proofs.KindLemmas.{next_object}
 use Rattle.cml_script.proofs.StandLemmas.{declared_is}
 use Rattle.cml_script.proofs.ObjectLemmas.{feeds_before}
@@ -40,20 +40,21 @@ pub nothing_declared : (script : Lines) (made : Option Made) → BeginsAt 0 made
 nothing_declared script made none =
     record { entries = []; opened = []; told = none; count = refl; fed = refl; each = refl; so = tt; own = tt }
 
-next_port : (play : Play) (channel : ℕ) → IsNextPort play channel
-    → IsNextObject play (call.NewPort (record { 0 = number_of play.script channel }))
-next_port play channel (is_channel, within, o, object, next) =
-    let there = declared_is play.script play.history channel (number_of play.script channel) refl (subst IsSome (sym object) refl) in
-    let same : o ≡ number_of play.script channel = same_Some _ _ (sym object ∙ there) in
-    subst (IsNextObject play) (ap (λ n. call.NewPort (record { 0 = n })) same) next
+next_port : (executed : Executed) (channel : ℕ) → IsNextPort executed channel
+    → IsNextObject executed (call.NewPort (record { 0 = number_of executed.script channel }))
+next_port executed channel (is_channel, within, o, object, next) =
+    let there =
+    declared_is executed.script executed.history channel (number_of executed.script channel) refl (subst IsSome (sym object) refl) in
+    let same : o ≡ number_of executed.script channel = same_Some _ _ (sym object ∙ there) in
+    subst (IsNextObject executed) (ap (λ n. call.NewPort (record { 0 = n })) same) next
 
 -- the call that makes this makes the next object
-next_making : (play : Play) (m : Makes) (asked : Call (List ℕ)) → making play.script m ≡ Some asked
-    → IsNext play m → IsNextObject play asked
-next_making play makes.Thread asked e next = absurd (none-some asked e)
-next_making play (makes.Port channel) asked e next = subst (IsNextObject play) (same_Some _ _ e) (next_port play channel next)
-next_making play (makes.Feed feed) asked e next = subst (IsNextObject play) (same_Some _ _ e) (next_port play feed.channel next)
-next_making play m asked e next = subst (IsNextObject play) (same_Some _ _ e) next
+next_making : (executed : Executed) (m : Makes) (asked : Call (List ℕ)) → making executed.script m ≡ Some asked
+    → IsNext executed m → IsNextObject executed asked
+next_making executed makes.Thread asked e next = absurd (none-some asked e)
+next_making executed (makes.Port channel) asked e next = subst (IsNextObject executed) (same_Some _ _ e) (next_port executed channel next)
+next_making executed (makes.Feed feed) asked e next = subst (IsNextObject executed) (same_Some _ _ e) (next_port executed feed.channel next)
+next_making executed m asked e next = subst (IsNextObject executed) (same_Some _ _ e) next
 
 -- what it makes is an object, unless it is a thread
 made_one : (script : Lines) (m : Makes) (asked : Call (List ℕ)) → making script m ≡ Some asked → makes_object m ≡ true
@@ -142,11 +143,11 @@ module _ (script : Lines) (known : IsKnown script) {i : ℕ} {made : Option Made
       object : makes_object d.makes ≡ true
       object = made_one script d.makes asked is
 
-      play : Play
-      play = record { script = script; history = so_far.entries; limit = 0 }
+      executed : Executed
+      executed = record { script = script; history = so_far.entries; limit = 0 }
 
-      next : IsNextObject play asked
-      next = next_making play d.makes asked is (next_object play known.named i d so_far.count line reads well)
+      next : IsNextObject executed asked
+      next = next_making executed d.makes asked is (next_object executed known.named i d so_far.count line reads well)
 
   -- what a caller made later has it besides
   pub made_more : (later : Option Made) → IsMadeWell (names_of script) i d.makes → HasMade script d.makes made later
@@ -201,6 +202,26 @@ module _ (script : Lines) {i : ℕ} {made : Option Made} (so_far : IsDeclaring s
   refuses (Err e) refusal later is same = IfSome_then later (told_more _ (with_refused refusal) made later so_far.told same) (λ tells told.
       subst (λ (m : Made). Declares script m (Err e)) (sym told)
       (record { own = so_far.own; opened = so_far.so; fed = so_far.each; within = few; all = tt; refused = ap Some (sym is) }))
+
+-- a declaration that a loop over a plan's declarations is at
+pub record IsReadAt (script : Lines) (i : ℕ) (d : Declaration) : Type 0 where
+  pub within : i < length script.declarations
+  pub line : slice_get script.declarations i ≡ Some (source_of d.line)
+  pub reads : ReadsDeclaration (names_of script) d
+  pub well : IsMadeWell (names_of script) i d.makes
+
+pub read_of_plan : (script shown : Lines) (items : List Declaration) (i : ℕ) (d : Declaration) → shown ≡ script
+    → map (λ x. source_of x.line) items ≡ shown.declarations → All (ReadsDeclaration (names_of shown)) items
+    → GivesNames (names_of shown) items → i < length items → d ≡ get_or items i d → IsReadAt script i d
+read_of_plan script shown items i d same lines reads gives within is =
+    let read = declaration_read shown items i d lines reads within is in
+    let told : IsReadAt shown i d = record {
+      within = omega (arith, within, ap length lines, length-map items (λ (x : Declaration). source_of x.line));
+      line = read.0;
+      reads = read.1;
+      well = gives.made i d (read_at items i d within is);
+    } in
+    subst (λ (s : Lines). IsReadAt s i d) same told
 
 -- what is made well is made of declared names
 pub well_declared : (script : Lines) (i : ℕ) (m : Makes) → i < length script.declarations

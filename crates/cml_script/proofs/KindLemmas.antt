@@ -15,10 +15,9 @@ use Rattle.cml_grammar.specs.declared.names.Named.TheVariants as called
 use Rattle.cml_grammar.specs.{Makes, SourceLine, Lines, names_of, makes_of, Declaration, source_of, ReadsDeclaration, IsMadeWell}
 use Rattle.cml_grammar.specs.{IsChannelAt}
 use Rattle.cml_grammar.specs.declared.forms.Makes.TheVariants as makes
-use Rattle.cml_script.specs.{NamesObjects, kind_made, kind_declared, IsNextObject, IsNextPort, IsNext, one_if, how_many, IsOfScript}
-use Rattle.cml_script.specs.{IsOfCaller, History, IsDeclaration, declared_count, objects_of, call_in, making_call, makes_object, is_object}
-use Rattle.cml_script.specs.{declared_object}
-use Rattle.cml_script.specs.Stage.{Play}
+use Rattle.cml_script.specs.{NamesObjects, kind_made, kind_declared, Executed, IsNextObject, IsNextPort, IsNext, one_if, how_many}
+use Rattle.cml_script.specs.{IsOfScript, IsOfCaller, History, IsDeclaration, declared_count, objects_of, call_in, making_call, makes_object}
+use Rattle.cml_script.specs.{is_object, declared_object}
 use Rattle.cml_script.proofs.ListLemmas.{slice_get_pushed, filter_at, counted_mono, taken_all}
 
 -- what is made behind a list of objects, by a call that makes one
@@ -193,40 +192,41 @@ object_kind_is script history at line k own lawful made found kinded =
     ∙ ap (option_and_then (kind_declared script)) (filter_at (is_object script) script.declarations at line found object) ∙ kinded
 
 -- what a declaration makes is the next object, where those before it are made
-pub next_object : (play : Play) (names : NamesObjects play.script) (i : ℕ) (d : Declaration)
-    → length play.history ≡ how_many (is_object play.script) (take i play.script.declarations)
-    → slice_get play.script.declarations i ≡ Some (source_of d.line) → ReadsDeclaration (names_of play.script) d
-    → IsMadeWell (names_of play.script) i d.makes → IsNext play d.makes
-next_object play names i d made found reads uses = by_makes d.makes refl uses
+pub next_object : (executed : Executed) (names : NamesObjects executed.script) (i : ℕ) (d : Declaration)
+    → length executed.history ≡ how_many (is_object executed.script) (take i executed.script.declarations)
+    → slice_get executed.script.declarations i ≡ Some (source_of d.line) → ReadsDeclaration (names_of executed.script) d
+    → IsMadeWell (names_of executed.script) i d.makes → IsNext executed d.makes
+next_object executed names i d made found reads uses = by_makes d.makes refl uses
   where
     line : SourceLine
     line = source_of d.line
 
     next : (m : Makes) (c : Call (List ℕ)) → d.makes ≡ m → makes_object m ≡ true
-        → making_call (declared_object play.script play.history) m ≡ Some c → IsNextObject play c
+        → making_call (declared_object executed.script executed.history) m ≡ Some c → IsNextObject executed c
     next m c e object making =
-        let makes : makes_of (names_of play.script) line.words ≡ Some m = reads.makes ∙ ap Some e in
-        let is : is_object play.script line ≡ true = ap (λ o. option_map_or makes_object o false) makes ∙ object in
-        let there = filter_at (is_object play.script) play.script.declarations i line found is in
+        let makes : makes_of (names_of executed.script) line.words ≡ Some m = reads.makes ∙ ap Some e in
+        let is : is_object executed.script line ≡ true = ap (λ o. option_map_or makes_object o false) makes ∙ object in
+        let there = filter_at (is_object executed.script) executed.script.declarations i line found is in
         record {
-          left = omega (arith, made, counted_below (is_object play.script) play.script.declarations i line found is);
+          left = omega (arith, made, counted_below (is_object executed.script) executed.script.declarations i line found is);
           makes =
-              ap (λ n. option_and_then (call_in play.script play.history) (slice_get (objects_of play.script) n)) made
-              ∙ ap (option_and_then (call_in play.script play.history)) there
-              ∙ ap (option_and_then (making_call (declared_object play.script play.history))) makes ∙ making;
+              ap (λ n. option_and_then (call_in executed.script executed.history) (slice_get (objects_of executed.script) n)) made
+              ∙ ap (option_and_then (call_in executed.script executed.history)) there
+              ∙ ap (option_and_then (making_call (declared_object executed.script executed.history))) makes ∙ making;
         }
 
-    port_next : (source : ℕ) (m : Makes) → d.makes ≡ m → makes_object m ≡ true → making_call (declared_object play.script play.history) m
-        ≡ option_map (λ n. call.NewPort (record { 0 = n })) (declared_object play.script play.history source)
-        → IsChannelAt (names_of play.script) source → source < i → IsNextPort play source
+    port_next : (source : ℕ) (m : Makes) → d.makes ≡ m → makes_object m ≡ true
+        → making_call (declared_object executed.script executed.history) m
+        ≡ option_map (λ n. call.NewPort (record { 0 = n })) (declared_object executed.script executed.history source)
+        → IsChannelAt (names_of executed.script) source → source < i → IsNextPort executed source
     port_next source m e object making is_channel earlier =
-        let within : source < length play.script.declarations =
-        omega (arith, earlier, slice_get_within play.script.declarations i line found) in
+        let within : source < length executed.script.declarations =
+        omega (arith, earlier, slice_get_within executed.script.declarations i line found) in
         let given = names source kind.Channel within (is_channel.0, called.Channel, is_channel.1, refl) in
-        let below = counted_mono (is_object play.script) play.script.declarations source i given.0 earlier given.1
-        (kind_object play.script given.0 kind.Channel given.2) in
-        let there = object_made play.script play.history source (omega (arith, below, made)) in
-        let o : ℕ = how_many (is_object play.script) (take source play.script.declarations) in (
+        let below = counted_mono (is_object executed.script) executed.script.declarations source i given.0 earlier given.1
+        (kind_object executed.script given.0 kind.Channel given.2) in
+        let there = object_made executed.script executed.history source (omega (arith, below, made)) in
+        let o : ℕ = how_many (is_object executed.script) (take source executed.script.declarations) in (
           is_channel,
           within,
           o,
@@ -234,7 +234,7 @@ next_object play names i d made found reads uses = by_makes d.makes refl uses
           next m (call.NewPort (record { 0 = o })) e object (making ∙ ap (option_map (λ n. call.NewPort (record { 0 = n }))) there),
         )
 
-    by_makes : (m : Makes) → d.makes ≡ m → IsMadeWell (names_of play.script) i m → IsNext play m
+    by_makes : (m : Makes) → d.makes ≡ m → IsMadeWell (names_of executed.script) i m → IsNext executed m
     by_makes makes.Thread e uses = tt
     by_makes (makes.Port source) e (is_channel, earlier) = port_next source (makes.Port source) e refl refl is_channel earlier
     by_makes (makes.Feed feed) e (is_channel, earlier, seat, capacity) =

@@ -14,7 +14,7 @@ pub mod CountLemmas
 pub mod ObjectLemmas
 pub mod ScheduleLemmas
 pub mod JournalLemmas
-pub mod TrailLemmas
+pub mod FollowerLemmas
 pub mod NextLemmas
 pub mod StallingLemmas
 pub mod WaitingLemmas

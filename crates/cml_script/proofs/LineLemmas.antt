@@ -1,10 +1,10 @@
 -- What the lines of a script were read as.
-use Rattle.std.proofs.Common.{◌≡◌, ℕ, zero, suc, ◌+◌, ◌<◌, ◌≤◌, Bool, true, false, ◌&&◌, eqb, [], ◌∷◌, arith, List, length, map}
-use Rattle.std.proofs.Common.{take, get_or, slice_get, Option, Some, None, cond, refl, sym, ap, subst, ◌∙◌}
+use Rattle.std.proofs.Common.{◌≡◌, ℕ, zero, suc, ◌+◌, ◌<◌, ◌≤◌, Bool, true, false, ◌&&◌, eqb, [], ◌∷◌, ◌++◌, arith, List, length}
+use Rattle.std.proofs.Common.{map, take, get_or, slice_get, Option, Some, None, cond, refl, sym, ap, subst, ◌∙◌}
 use Rattle.std.specs.Prelude.{All, not}
 use Rattle.std.specs.Option.{option_and_then, option_map_or}
 use Rattle.std.specs.Bool.{then_some}
-use Rattle.std.proofs.lemmas.List.{length-map}
+use Rattle.std.proofs.lemmas.List.{length-map, length_push}
 use Rattle.std.proofs.lemmas.Bool.{and_parts, and_right, eqb-true, false≢true}
 use Rattle.cml_grammar.specs.{Makes, Named, names_of, makes_of, action_of, seat_of_step, Declaration, Step, Given, kind_named, thread_count}
 use Rattle.cml_grammar.specs.{SourceLine, Lines, is_giving, makes_feed, source_of, ReadsDeclaration, ReadsStep, Gives, GivesAt, GivesNames}
@@ -14,14 +14,14 @@ use Rattle.cml_grammar.specs.declared.names.Named.TheVariants as called
 use Rattle.cml_grammar.specs.declared.names.Users.TheVariants as users
 use Rattle.cml_calls.specs.{Kind}
 use Rattle.cml_calls.specs.declared.table.Ask.TheVariants as ask
-use Rattle.cml_script.specs.{NamesObjects, HasSeats, AsksForPorts, IsObjectAt, kind_made, how_many, one_if, makes_object, is_object}
+use Rattle.cml_script.specs.{NamesObjects, HasSeats, AsksForPorts, IsObjectAt, kind_made, how_many, one_if, Route, makes_object, is_object}
 use Rattle.cml_script.specs.{is_feed, is_seated, is_called, is_apart, is_by_ring, route_of, route_of_line}
 use Rattle.std.proofs.lemmas.List.Elements.{All-get_or}
 use Rattle.std.proofs.lemmas.Option.{slice_get_within, get_or_from_slice_get, same_Some, some_pair_parts}
 use mir.Val.{bool_byte}
 use Rattle.cml_script.specs.declared.route.Route.TheVariants as route
 use Rattle.cml_grammar.specs.declared.forms.Action.TheVariants as action
-use Rattle.cml_script.proofs.ListLemmas.{count_taken, mapped_at, read_at}
+use Rattle.cml_script.proofs.ListLemmas.{count_taken, each_pushed, mapped_at, read_at}
 
 pub all_at : {X : Type 0} (P : X → Type 0) (xs : List X) (i : ℕ) (x : X) → All P xs → slice_get xs i ≡ Some x → P x
 all_at P xs i x all found =
@@ -200,11 +200,55 @@ byte_more n all byte k t b more is same few =
     let one : byte ≡ one_if b = is ∙ ap bool_byte same ∙ byte_one b in
     (omega (arith, more, one), omega (arith, one, one_le b, few))
 
+-- so many of the first of these pass a test
+pub record AreCounted {X : Type 0} (p : X → Bool) (xs : List X) (i n : ℕ) : Type 0 where
+  pub count : n ≡ how_many p (take i xs)
+  pub few : n ≤ i
+
 pub counted_more : {X : Type 0} (p : X → Bool) (xs : List X) (i n byte : ℕ) (x : X) (t : Bool) → slice_get xs i ≡ Some x
-    → n ≡ how_many p (take i xs) → n ≤ i → byte ≡ bool_byte t → t ≡ p x
-    → (n + byte ≡ how_many p (take (i + 1) xs)) × (n + byte ≤ i + 1)
-counted_more p xs i n byte x t found so_far few is same =
-    byte_more n (how_many p (take (i + 1) xs)) byte i t (p x) (omega (arith, count_taken p xs i x found, so_far)) is same few
+    → AreCounted p xs i n → byte ≡ bool_byte t → t ≡ p x → AreCounted p xs (i + 1) (n + byte)
+counted_more p xs i n byte x t found so_far is same =
+    let all : how_many p (take (i + 1) xs) ≡ n + one_if (p x) = omega (arith, count_taken p xs i x found, so_far.count) in
+    let on = byte_more n (how_many p (take (i + 1) xs)) byte i t (p x) all is same so_far.few in
+    record { count = on.0; few = on.1 }
+
+-- the same of declarations that make such a thing, and of steps that go so
+pub declaration_counted : (script : Lines) (p : SourceLine → Bool) (such : Makes → Bool)
+    → ((d : Declaration) → ReadsDeclaration (names_of script) d → p (source_of d.line) ≡ such d.makes)
+    → (items : List Declaration) (i n byte : ℕ) (d : Declaration) (t : Bool) → map (λ x. source_of x.line) items ≡ script.declarations
+    → All (ReadsDeclaration (names_of script)) items → i < length items → d ≡ get_or items i d
+    → AreCounted p script.declarations i n → byte ≡ bool_byte t → t ≡ such d.makes → AreCounted p script.declarations (i + 1) (n + byte)
+declaration_counted script p such same items i n byte d t lines reads within is so_far one test =
+    let read = declaration_read script items i d lines reads within is in
+    counted_more p script.declarations i n byte (source_of d.line) t read.0 so_far one (test ∙ sym (same d read.1))
+
+pub step_counted : (script : Lines) (p : SourceLine → Bool) (goes : Route → Bool)
+    → ((line : SourceLine) → p line ≡ goes (route_of_line script line))
+    → (items : List Step) (i n byte : ℕ) (s : Step) (t : Bool) (w : Route) → map (λ x. source_of x.line) items ≡ script.steps
+    → All (ReadsStep (names_of script)) items → i < length items → s ≡ get_or items i s → AreCounted p script.steps i n
+    → byte ≡ bool_byte t → t ≡ goes w → w ≡ route_of script (Some s.seat) s.action → AreCounted p script.steps (i + 1) (n + byte)
+step_counted script p goes same items i n byte s t w lines reads within is so_far one test routed =
+    let read = step_read script items i s lines reads within is in
+    let goes_so = test ∙ ap goes (routed ∙ sym (step_route script s read.1)) ∙ sym (same (source_of s.line)) in
+    counted_more p script.steps i n byte (source_of s.line) t read.0 so_far one goes_so
+
+-- by element, how many before it pass a test
+pub record AreNumbered {X : Type 0} (p : X → Bool) (xs : List X) (i n : ℕ) (numbers : List ℕ) : Type 0 where
+  pub short : length numbers ≡ i
+  pub count : n ≡ how_many p (take i xs)
+  pub few : n ≤ i
+  pub each : (k : ℕ) → k < length numbers → slice_get numbers k ≡ Some (how_many p (take k xs))
+
+pub numbered_more : {X : Type 0} (p : X → Bool) (xs : List X) (i n m : ℕ) (numbers later : List ℕ) → AreNumbered p xs i n numbers
+    → AreCounted p xs (i + 1) m → later ≡ numbers ++ n ∷ [] → AreNumbered p xs (i + 1) m later
+numbered_more p xs i n m numbers later so_far counted pushed =
+    let last = so_far.count ∙ ap (λ k. how_many p (take k xs)) (sym so_far.short) in
+    subst (AreNumbered p xs (i + 1) m) (sym pushed) (record {
+      short = omega (arith, length_push numbers n, so_far.short);
+      count = counted.count;
+      few = counted.few;
+      each = each_pushed (λ k. how_many p (take k xs)) numbers n so_far.each last;
+    })
 
 pub then_is : (t : Bool) (n : ℕ) → then_some t n ≡ cond t (Some n) None
 then_is true n = refl

@@ -1,11 +1,12 @@
 -- What lanes moved, beside what threads sent by them.
-use Rattle.std.proofs.Common.{◌≡◌, ℕ, zero, suc, ◌+◌, ◌≤◌, Bool, true, false, ◌&&◌, ◌||◌, eqb, cond, List, [], ◌∷◌, ◌++◌, length, take}
-use Rattle.std.proofs.Common.{drop, reverse, slice_get, Option, Some, refl, sym, ap, subst, ◌∙◌, append_assoc, inl, inr, arith}
-use Rattle.std.specs.Prelude.{◌≢◌, ◌↔◌, IsTrue, MatchOption}
+use Rattle.std.proofs.Common.{◌≡◌, ℕ, zero, suc, ◌+◌, ◌<◌, ◌≤◌, Bool, true, false, ◌&&◌, ◌||◌, eqb, cond, List, [], ◌∷◌}
+use Rattle.std.proofs.Common.{◌++◌, length, map, take, drop, reverse, get_or, slice_get, Option, Some, refl, sym, ap}
+use Rattle.std.proofs.Common.{subst, ◌∙◌, append_assoc, inl, inr, arith}
+use Rattle.std.specs.Prelude.{◌≢◌, ◌↔◌, All, IsTrue, MatchOption}
 use Rattle.std.specs.Bool.{then_some}
 use Rattle.std.specs.Option.{option_map, option_map_or, option_and_then}
 use Rattle.std.specs.List.{list_any}
-use Rattle.std.proofs.lemmas.List.{append-nil, append_cancel_left, reverse-append, take-append-drop, take_all, at_drop_more}
+use Rattle.std.proofs.lemmas.List.{length-map, append-nil, append_cancel_left, reverse-append, take-append-drop, take_all, at_drop_more}
 use Rattle.std.proofs.lemmas.Option.{same_Some, none-some, slice_get_within, get_or_from_slice_get}
 use Rattle.std.proofs.lemmas.Bool.{cases_Bool, or_right, false≢true}
 use Rattle.cml_board.specs.{Call, Entry, before}
@@ -13,10 +14,10 @@ use Rattle.cml_grammar.specs.{Step, Lane, SourceLine, Lines, names_of, source_of
 use Rattle.cml_script.specs.{History, number_of, route_of, call_on, is_laid, is_of_name, is_laid_to, call_to, sends_to, is_moved_to}
 use Rattle.cml_script.specs.{is_moved_on, moved_to, IsInOrder, IsInOrderAt, IsOnLine, AreOnLines, IsNextLaid, IsSent, IsNotSent, IsBehind}
 use Rattle.cml_script.specs.Left.{is_by_lane}
-use Rattle.cml_script.proofs.LineLemmas.{step_seated, step_route}
+use Rattle.cml_script.proofs.LineLemmas.{stands, step_seated, step_route}
 use Rattle.cml_script.proofs.JournalLemmas.{before_more}
 use Rattle.cml_script.proofs.ListLemmas.{taken_more}
-use Rattle.cml_script.proofs.ObjectLemmas.{any_pushed}
+use Rattle.cml_script.proofs.ObjectLemmas.{any_pushed, lane_read}
 
 pub any_at : {X : Type 0} (p : X → Bool) (xs : List X) (i : ℕ) (x : X) → slice_get xs i ≡ Some x → p x ≡ true → list_any p xs ≡ true
 any_at p [] i x found passes = absurd (none-some x found)
@@ -45,6 +46,17 @@ module _ (script : Lines) (seat at : ℕ) where
   sends_past i line found other =
       let rest = sends_to script seat at (drop (i + 1) script.steps) in
       ap (sends_to script seat at) (drop_here script.steps i line found) ∙ ap (λ t. cond t (call_to script at line ∷ rest) rest) other
+
+  -- what a test of the step at a place tells of its line
+  pub line_laid : (shown : Lines) (items : List Step) (i : ℕ) (r t : Bool) → shown ≡ script
+      → map (λ x. source_of x.line) items ≡ shown.steps
+      → i < length items → r ≡ option_map_or (is_laid_to script seat at) (slice_get script.steps i) false → r ≡ t
+      → (line : SourceLine) × (slice_get script.steps i ≡ Some line) × (is_laid_to script seat at line ≡ t)
+  line_laid shown items i r t same lines within tested is =
+      let long = ap length lines ∙ ap (λ (s : Lines). length s.steps) same in
+      let there = stands script.steps i (omega (arith, within, long, length-map items (λ (x : Step). source_of x.line))) in
+      let laid = sym (ap (λ o. option_map_or (is_laid_to script seat at) o false) there.1) ∙ sym tested ∙ is in
+      (there.0, there.1, laid)
 
   pub laid_to_is : (s : Step) → ReadsStep (names_of script) s
       → is_laid_to script seat at (source_of s.line)
@@ -179,6 +191,19 @@ pub moved_on_is : (script : Lines) (lanes : List ℕ) (entry : Entry (List ℕ))
     → is_moved_on script lanes entry (source_of lane.line) ≡ is_moved_to lanes lane.seat (number_of script lane.target) entry
 moved_on_is script lanes entry lane reads =
     ap (λ o. option_map_or (λ (laid : (ℕ × ℕ) × ℕ). is_moved_to lanes laid.0.0 (number_of script laid.0.1) entry) o false) reads.says
+
+-- a lane that a loop over a plan's lanes is at: the test of its thread and its object tells so of its line
+pub lane_moved : (script shown : Lines) (items : List Lane) (i : ℕ) (lane : Lane) → shown ≡ script
+    → map (λ l. source_of l.line) items ≡ shown.lanes
+    → All (ReadsLane (names_of shown)) items → i < length items → lane ≡ get_or items i lane
+    → (lanes : List ℕ) (entry : Entry (List ℕ)) (object : ℕ) (r t : Bool) → object ≡ number_of script lane.target
+    → r ≡ is_moved_to lanes lane.seat object entry → r ≡ t
+    → (slice_get script.lanes i ≡ Some (source_of lane.line)) × (is_moved_on script lanes entry (source_of lane.line) ≡ t)
+lane_moved script shown items i lane same lines said within is lanes entry object r t number tested told =
+    let read = lane_read script shown items i lane same lines said within is in (
+      read.0,
+      moved_on_is script lanes entry lane read.1 ∙ ap (λ n. is_moved_to lanes lane.seat n entry) (sym number) ∙ sym tested ∙ told,
+    )
 
 pub none_more : (p : SourceLine → Bool) (xs : List SourceLine) (i : ℕ) (x : SourceLine) → slice_get xs i ≡ Some x
     → list_any p (take i xs) ≡ false → p x ≡ false → list_any p (take (i + 1) xs) ≡ false

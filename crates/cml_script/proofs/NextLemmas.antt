@@ -13,16 +13,15 @@ use Rattle.cml_grammar.specs.{Makes, Declaration, Step, Lines, names_of, first_r
 use Rattle.cml_grammar.specs.declared.forms.Makes.TheVariants as makes
 use Rattle.cml_grammar.proofs.ReadableLemmas.{CanBeRead}
 use Rattle.cml_script.specs.{Binding, History, Follows, NoneReady, makes_object, is_object, declared_count, performed, next_position}
-use Rattle.cml_script.specs.{positions_where, step_call, call_on, binding_of, IsKnown, Stands, IsNextObject, IsNextPort, IsNext, IsReadyOf}
-use Rattle.cml_script.specs.{NoneReadyOf, IsLeast, IsLeastBelow, earlier_of}
-use Rattle.cml_script.specs.Stage.{Play}
+use Rattle.cml_script.specs.{positions_where, step_call, call_on, binding_of, IsKnown, Executed, Stands, IsNextObject, IsNextPort, IsNext}
+use Rattle.cml_script.specs.{IsReadyOf, NoneReadyOf, IsLeast, IsLeastBelow, earlier_of}
 use Rattle.cml_script.proofs.ListLemmas.{mapped_at, how_many-le, listed}
 use Rattle.cml_script.proofs.LineLemmas.{all_at, stands, names_objects, has_seats, asks_for_ports, declaration_object}
 use Rattle.cml_script.proofs.QueueLemmas.{position_is, positions_count}
 use Rattle.cml_script.proofs.KindLemmas.{next_object}
 use Rattle.cml_script.proofs.ReadyLemmas.{none_queued, queued_within, waits_there, ready_there, least_at_first, least_more, least_of_all}
 use Rattle.cml_script.proofs.FitLemmas.{fits_kind, channel_at, fits_use}
-use Rattle.cml_script.proofs.TrailLemmas.{named, step_calls}
+use Rattle.cml_script.proofs.FollowerLemmas.{named, step_calls}
 use Rattle.cml_script.proofs.GivingLemmas.{follows_own}
 use Rattle.cml_script.proofs.StandLemmas.{declared_kind}
 use Rattle.cml_script.proofs.UseLemmas.{used_is_bound}
@@ -43,11 +42,11 @@ pub record IsCall (script : Lines) (history : History) (i : ℕ) : Type 0 where
   pub fits : Fits history asked
 
 -- the call that makes the next declared object is there, fits, and makes it
-pub record IsMaking (play : Play) : Type 0 where
+pub record IsMaking (executed : Executed) : Type 0 where
   pub asked : Call (List ℕ)
-  pub next : IsNextObject play asked
-  pub fits : Fits play.history asked
-  pub answers : answer play.history asked ≡ Some (new_name play.history)
+  pub next : IsNextObject executed asked
+  pub fits : Fits executed.history asked
+  pub answers : answer executed.history asked ≡ Some (new_name executed.history)
 
 -- whether a thread's next step is ready
 abbrev Candidate : Lines → History → ℕ → Type 0
@@ -55,9 +54,9 @@ Candidate script history seat = (o : Option ℕ) × MatchOption o (NoneReadyOf s
 
 module _ (script : Lines) (read : CanBeRead script) (plain : first_ring script ≡ None) (history : History) (lawful : Lawful history)
     (follows : Follows script history) where
-  -- the limit isn't looked at, and is as high as a stage's may be
-  abbrev play : Play
-  play = record { script = script; history = history; limit = 2 ^ 32 }
+  -- the limit isn't looked at, and is as high as an execution's may be
+  abbrev executed : Executed
+  executed = record { script = script; history = history; limit = 2 ^ 32 }
 
   counts : (xs : List ℕ) × (length xs ≡ 64) × ((k : ℕ) → k < length xs → slice_get xs k ≡ Some (performed history (k + 1)))
   counts = listed (λ thread. performed history (thread + 1)) 64
@@ -81,7 +80,7 @@ module _ (script : Lines) (read : CanBeRead script) (plain : first_ring script �
         read.reading.short,
       )
 
-  all_stands : Stands play counts.0 bindings.0
+  all_stands : Stands executed counts.0 bindings.0
   all_stands = record {
     lawful = lawful;
     room = room;
@@ -144,7 +143,7 @@ module _ (script : Lines) (read : CanBeRead script) (plain : first_ring script �
 
   -- Declarations.
 
-  pub next_making : length history < declared_count script → IsMaking play
+  pub next_making : length history < declared_count script → IsMaking executed
   next_making lt =
       let place = stands (positions_where (is_object script) 0 script.declarations) (length history)
       (omega (arith, lt, positions_count (is_object script) 0 script.declarations)) in
@@ -161,10 +160,10 @@ module _ (script : Lines) (read : CanBeRead script) (plain : first_ring script �
       let reads = all_at (ReadsDeclaration (names_of script)) read.declarations there.place d read.reading.declarations given.1 in
       let object = sym (declaration_object script d reads)
       ∙ ap (is_object script) (same_Some _ _ (sym line ∙ there.found)) ∙ there.seated in
-      by_makes d.makes object (next_object play (known script read).named there.place d (sym there.behind) line reads
+      by_makes d.makes object (next_object executed (known script read).named there.place d (sym there.behind) line reads
       (read.reading.gives.made there.place d given.1))
     where
-      by_port : (channel : ℕ) → IsNextPort play channel → IsMaking play
+      by_port : (channel : ℕ) → IsNextPort executed channel → IsMaking executed
       by_port channel (is_channel, within, o, object, next) =
           let name : Name = record { 0 = o } in
           record {
@@ -176,7 +175,7 @@ module _ (script : Lines) (read : CanBeRead script) (plain : first_ring script �
             answers = refl;
           }
 
-      by_makes : (m : Makes) → makes_object m ≡ true → IsNext play m → IsMaking play
+      by_makes : (m : Makes) → makes_object m ≡ true → IsNext executed m → IsMaking executed
       by_makes makes.Thread is next = absurd (false≢true is)
       by_makes (makes.Port channel) is next = by_port channel next
       by_makes (makes.Feed feed) is next = by_port feed.channel next

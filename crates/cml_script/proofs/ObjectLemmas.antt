@@ -1,6 +1,8 @@
 -- Who makes the declared objects, where they are declared, and to which lanes lead.
-use Rattle.std.proofs.Common.{◌≡◌, ℕ, zero, suc, ◌+◌, ◌<◌, ◌≤◌, ◌||◌, Bool, true, false, cond, eqb, List, [], ◌∷◌, ◌++◌, length, take}
-use Rattle.std.proofs.Common.{filter, slice_get, slice_set, Option, Some, refl, sym, ap, ◌∙◌, arith, inl, inr, one-add, zero-add}
+use Rattle.std.proofs.Common.{◌≡◌, ℕ, zero, suc, ◌+◌, ◌<◌, ◌≤◌, ◌||◌, Bool, true, false, cond, eqb, List, [], ◌∷◌, ◌++◌}
+use Rattle.std.proofs.Common.{length, map, take, filter, get_or, slice_get, slice_set, Option, Some, refl, sym, ap, subst}
+use Rattle.std.proofs.Common.{◌∙◌, arith, inl, inr, one-add, zero-add}
+use Rattle.std.specs.Prelude.{All}
 use Rattle.std.specs.Option.{option_map_or}
 use Rattle.std.specs.List.{list_any}
 use Rattle.std.proofs.lemmas.Option.{same_Some}
@@ -14,8 +16,8 @@ use Rattle.cml_grammar.specs.{Lane, SourceLine, Lines, names_of, source_of, Read
 use Rattle.cml_script.specs.{one_if, how_many, is_object, is_feed, objects_of, declared_count, number_of, maker, leads_to, IsKnown}
 use Rattle.cml_script.specs.{IsObjectAt}
 use Rattle.cml_board.proofs.ListLemmas.{slice_get-set_other}
-use Rattle.cml_script.proofs.ListLemmas.{taken_more, count_taken, filter_at, each_pushed, set_at}
-use Rattle.cml_script.proofs.LineLemmas.{feed_object}
+use Rattle.cml_script.proofs.ListLemmas.{taken_more, count_taken, filter_at, each_pushed, mapped_at, read_at, set_at}
+use Rattle.cml_script.proofs.LineLemmas.{all_at, feed_object}
 use Rattle.cml_script.proofs.KindLemmas.{kind_object, counted_below}
 use Rattle.cml_script.proofs.FitLemmas.{mailbox_at, channel_at}
 use Rattle.cml_script.proofs.UseLemmas.{given_port}
@@ -124,6 +126,17 @@ module _ (script : Lines) where
 
   -- Where lanes lead.
 
+  -- a lane that a loop over a plan's lanes is at: its line, and what it is read as
+  pub lane_read : (shown : Lines) (items : List Lane) (i : ℕ) (lane : Lane) → shown ≡ script
+      → map (λ l. source_of l.line) items ≡ shown.lanes
+      → All (ReadsLane (names_of shown)) items → i < length items → lane ≡ get_or items i lane
+      → (slice_get script.lanes i ≡ Some (source_of lane.line)) × ReadsLane (names_of script) lane
+  lane_read shown items i lane same lines said within is =
+      let here = read_at items i lane within is in
+      let line = mapped_at (λ l. source_of l.line) items shown.lanes i lane lines here in
+      let reads = all_at (ReadsLane (names_of shown)) items i lane said here in
+      subst (λ (s : Lines). (slice_get s.lanes i ≡ Some (source_of lane.line)) × ReadsLane (names_of s) lane) same (line, reads)
+
   -- a lane leads to a declared object
   pub target_declared : (lane : Lane) → IsKnown script → ReadsLane (names_of script) lane
       → (lane.target < length script.declarations) × (number_of script lane.target < declared_count script)
@@ -142,6 +155,14 @@ module _ (script : Lines) where
             let there = known.named lane.target k lt is in
             (lt, counted_below (is_object script) script.declarations lane.target there.0 there.1 (kind_object script there.0 k there.2))
       ]
+
+  -- a lane that a loop over a plan's lanes is at leads to a declaration
+  pub lane_within : (shown : Lines) (items : List Lane) (i : ℕ) (lane : Lane) → shown ≡ script
+      → map (λ l. source_of l.line) items ≡ shown.lanes
+      → All (ReadsLane (names_of shown)) items → i < length items → lane ≡ get_or items i lane → IsKnown script
+      → lane.target < length script.declarations
+  lane_within shown items i lane same lines said within is known =
+      (target_declared lane known (lane_read shown items i lane same lines said within is).1).0
 
   -- by object, whether one of the first lane lines leads to it
   pub record AreLaidSoFar (i : ℕ) (laid : List Bool) : Type 0 where

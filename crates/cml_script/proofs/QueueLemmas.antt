@@ -1,7 +1,7 @@
 -- The positions of the lines that pass a test, and of a thread's steps.
-use Rattle.std.proofs.Common.{◌≡◌, ℕ, zero, suc, ◌+◌, ◌-◌, ◌<◌, ◌≤◌, inl, inr, None, Option, slice_set, get_or, map, Bool}
-use Rattle.std.proofs.Common.{true, false, cond, eqb, List, [], ◌∷◌, ◌++◌, length, take, slice_get, Some, refl, sym, ap}
-use Rattle.std.proofs.Common.{◌∙◌, arith, add-zero, one-add, zero-add}
+use Rattle.std.proofs.Common.{◌≡◌, ℕ, zero, suc, ◌+◌, ◌-◌, ◌<◌, ◌≤◌, ◌⊎◌, inl, inr, None, Option, slice_set, get_or, map}
+use Rattle.std.proofs.Common.{Bool, true, false, cond, eqb, List, [], ◌∷◌, ◌++◌, length, take, slice_get, Some, refl, sym}
+use Rattle.std.proofs.Common.{ap, ◌∙◌, arith, add-zero, one-add, zero-add}
 use Rattle.std.specs.Prelude.{Vec, All, MatchOption, IfSome}
 use Rattle.std.specs.Borrow.{Bor}
 use Rattle.std.specs.Global.{Global}
@@ -9,8 +9,8 @@ use Rattle.std.specs.Option.{option_map}
 use Rattle.std.proofs.lemmas.List.{append-nil, length-map, length-set, map-set, length-take-le}
 use Rattle.std.proofs.lemmas.Bool.{eq-eqb, ne_eqb, cases_eq}
 use Rattle.std.proofs.lemmas.Option.{same_Some, none-some, slice_get-map, slice_get_read, slice_get_within, slice_get_past}
-use Rattle.cml_grammar.specs.{Step, thread_count, names_of, source_of, ReadsStep, SourceLine, Lines}
-use Rattle.cml_script.proofs.LineLemmas.{all_at}
+use Rattle.cml_grammar.specs.{Makes, Declaration, Step, thread_count, names_of, source_of, ReadsDeclaration, ReadsStep, SourceLine, Lines}
+use Rattle.cml_script.proofs.LineLemmas.{all_at, declaration_read}
 use Rattle.cml_script.specs.{one_if, how_many, positions_where, AreQueues, items_of}
 use Rattle.cml_board.proofs.ListLemmas.{slice_get-set_other}
 use Rattle.cml_script.proofs.ListLemmas.{taken_more, mapped_at, set_at}
@@ -109,6 +109,23 @@ pub place_kept : (test : SourceLine → Bool) (lines : List SourceLine) (i : ℕ
 place_kept test lines i line list found fails so_far =
     so_far ∙ sym (place_more test lines i line found ∙ ap (λ t. positions_where test 0 (take i lines) ++ cond t (i ∷ []) []) fails
     ∙ append-nil (positions_where test 0 (take i lines)))
+
+-- a declaration that a loop is at: its position is added, or not, as it makes such a thing, or not
+pub declaration_listed : (script : Lines) (p : SourceLine → Bool) (such : Makes → Bool)
+    → ((d : Declaration) → ReadsDeclaration (names_of script) d → p (source_of d.line) ≡ such d.makes)
+    → (items : List Declaration) (i : ℕ) (d : Declaration) (t : Bool) (list later : List ℕ)
+    → map (λ x. source_of x.line) items ≡ script.declarations
+    → All (ReadsDeclaration (names_of script)) items → i < length items → d ≡ get_or items i d
+    → list ≡ positions_where p 0 (take i script.declarations) → t ≡ such d.makes
+    → ((t ≡ true) × (later ≡ list ++ i ∷ [])) ⊎ ((t ≡ false) × (later ≡ list))
+    → later ≡ positions_where p 0 (take (i + 1) script.declarations)
+declaration_listed script p such same items i d t list later lines reads within is so_far test one =
+    let read = declaration_read script items i d lines reads within is in
+    let passes = same d read.1 ∙ sym test in
+    elim one [
+      | inl more ↦ more.1 ∙ place_added p script.declarations i (source_of d.line) list read.0 (passes ∙ more.0) so_far
+      | inr none ↦ none.1 ∙ place_kept p script.declarations i (source_of d.line) list read.0 (passes ∙ none.0) so_far
+    ]
 
 empty_found : (xs : List (Vec ℕ Global)) (thread : ℕ) (queue : List ℕ) (o : Option (Vec ℕ Global)) → All (λ q. q.items ≡ []) xs
     → slice_get xs thread ≡ o → option_map (λ (q : Vec ℕ Global). q.items) o ≡ Some queue → queue ≡ []

@@ -1,17 +1,17 @@
 -- How the report's first part goes on with one more entry.
 use Rattle.std.proofs.Common.{◌≡◌, ℕ, zero, suc, ◌+◌, ◌<◌, ◌≤◌, Bool, true, false, ltb, List, [], ◌∷◌, ◌++◌, length, drop, filter}
 use Rattle.std.proofs.Common.{slice_get, Option, Some, None, IfSome, inl, inr, refl, sym, ap, ◌∙◌, arith, add-one}
-use Rattle.std.specs.Prelude.{map, string_bytes}
+use Rattle.std.specs.Prelude.{string_bytes}
 use Rattle.std.specs.Option.{option_map_or, option_and_then}
 use Rattle.std.proofs.lemmas.Option.{same_Some, none-some, slice_get_past, slice_get_within}
 use Rattle.std.proofs.lemmas.List.{append_assoc}
 use Rattle.std.proofs.lemmas.List.Splits.{join_with_byte-slice_split}
 use Rattle.std.proofs.lemmas.Bool.{le-ltb, lt-ltb, cases_lt}
 use Rattle.cml_board.specs.{Entry, Who, before}
-use Rattle.cml_grammar.specs.{Step, Given, Lines, source_of, SourceLine, names_of, NamesAreGiven}
-use Rattle.cml_script.specs.{History, declared_count, next_position, Progress, history_of, Tallied, entry_lines, entry_line, next_step}
+use Rattle.cml_grammar.specs.{Step, Given, Lines, SourceLine, names_of, NamesAreGiven}
+use Rattle.cml_script.specs.{History, declared_count, Progress, history_of, IsNextOf, Tallied, entry_lines, entry_line, next_step}
 use Rattle.cml_script.specs.{line_text, given_word, object_lines_from, object_line, positions_where}
-use Rattle.cml_script.proofs.ListLemmas.{mapped_at, filter_at}
+use Rattle.cml_script.proofs.ListLemmas.{filter_at}
 use Rattle.cml_script.proofs.LineLemmas.{stands}
 use Rattle.cml_script.proofs.KindLemmas.{length_filter}
 use Rattle.cml_script.proofs.QueueLemmas.{position_is, positions_count}
@@ -23,12 +23,11 @@ dropped (y ∷ ys) (suc k) x found = let ih = rw add-one at (dropped ys k x foun
 
 module _ (script : Lines) where
   -- the text of the caller's next step
-  pub text_at : (history : History) (who : Who) (items : List Step) (i : ℕ) (s : Step) → next_position script history who ≡ Some i
-      → map (λ x. source_of x.line) items ≡ script.steps → slice_get items i ≡ Some s
+  pub text_of_next : (history : History) (who : Who) (s : Step) → IsNextOf script history who s
       → option_map_or line_text (next_step script history who) [] ≡ string_bytes s.line.text
-  text_at history who items i s next lines found =
-      ap (λ o. option_map_or line_text (option_and_then (slice_get script.steps) o) []) next
-      ∙ ap (λ o. option_map_or line_text o []) (mapped_at (λ x. source_of x.line) items script.steps i s lines found)
+  text_of_next history who s is =
+      ap (λ o. option_map_or line_text (option_and_then (slice_get script.steps) o) []) is.next
+      ∙ ap (λ o. option_map_or line_text o []) is.line
       ∙ join_with_byte-slice_split 32 (string_bytes s.line.text)
 
   -- one more entry behind the declared objects, and one that makes such an object
@@ -55,7 +54,7 @@ module _ (script : Lines) where
       (add-one at)
       ∙ ap (λ l. written ++ object_lines_from script history tally at l) (sym (dropped names at given found))
 
--- what a trail tells behind so many entries
+-- what a follower tells behind so many entries
 module _ (p : Progress) (script : Lines) (journal : List (Entry (List ℕ))) (k : ℕ) (s : p.script ≡ script)
     (j : p.journal ≡ journal) (f : p.followed ≡ k) where
   pub begun_at : declared_count p.script ≤ length (history_of p) → declared_count script ≤ length (before journal k)

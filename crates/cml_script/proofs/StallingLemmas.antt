@@ -9,14 +9,15 @@ use Rattle.std.proofs.lemmas.Bool.{cases_lt}
 use Rattle.cml_board.specs.{Call, Fits, answer}
 use Rattle.cml_board.specs.declared.entry.Who.TheVariants.{Seat}
 use Rattle.cml_grammar.specs.{Step, SourceLine, Lines, names_of, seat_of_step, source_of, ReadsStep}
-use Rattle.cml_script.specs.declared.route.Route.TheVariants as route
-use Rattle.cml_script.specs.{one_if, how_many, History, declared_count, is_apart, is_by_ring, is_called, next_position, performed}
+use mir.Val.{bool_byte}
+use Rattle.cml_script.specs.{Route, one_if, how_many, History, declared_count, is_apart, is_by_ring, is_called, next_position, performed}
 use Rattle.cml_script.specs.{positions_where, route_of_line, step_call, Tallied, is_laid, HasSeats, route_at, WaitsOrIsDone, is_before}
 use Rattle.cml_script.specs.{is_passed, IsAllMoved, NobodyGoesOn, Progress, next_call}
+use Rattle.cml_script.specs.declared.route.Route.TheVariants as route
 use Rattle.cml_script.specs.Left.{is_by_lane}
 use Rattle.cml_script.proofs.ListLemmas.{how_many-append, mapped_at, taken_more}
 use Rattle.cml_script.proofs.QueueLemmas.{position_is, positions_pushed}
-use Rattle.cml_script.proofs.LineLemmas.{all_at, called_seated}
+use Rattle.cml_script.proofs.LineLemmas.{all_at, byte_more, called_seated, stands}
 
 pub one_more : (P : ℕ → Type 0) (n : ℕ) → ((k : ℕ) → k < n → P k) → P n → (k : ℕ) → k < n + 1 → P k
 one_more P n each last k lt =
@@ -61,6 +62,25 @@ apart_at script i line found = ap (λ o. is_by_ring (option_map_or (route_of_lin
 pub laid_at : (script : Lines) (i : ℕ) (line : SourceLine) → slice_get script.steps i ≡ Some line
     → is_by_lane (route_at script i) ≡ is_laid script line
 laid_at script i line found = ap (λ o. is_by_lane (option_map_or (route_of_line script) o route.Seat)) found
+
+-- so many of the first steps that pass a test are passed
+pub record ArePassed (test : SourceLine → Bool) (script : Lines) (history : History) (i n : ℕ) : Type 0 where
+  pub count : n ≡ how_many (is_passed script history) (positions_where test 0 (take i script.steps))
+  pub few : n ≤ i
+
+pub passed_on : (test : SourceLine → Bool) (goes : Route → Bool) (script : Lines) (history : History) (i n byte : ℕ) (t : Bool)
+    → ((line : SourceLine) → slice_get script.steps i ≡ Some line → goes (route_at script i) ≡ test line) → i < length script.steps
+    → ArePassed test script history i n → byte ≡ bool_byte t → t ≡ (goes (route_at script i) && is_passed script history i)
+    → ArePassed test script history (i + 1) (n + byte)
+passed_on test goes script history i n byte t same within so_far one told =
+    let passed = is_passed script history in
+    let there = stands script.steps i within in
+    let count = how_many passed (positions_where test 0 (take (i + 1) script.steps)) in
+    let all : count ≡ n + one_if (test there.0 && passed i) =
+    omega (arith, passed_more test passed script.steps i there.0 there.1, so_far.count) in
+    let is = told ∙ ap (λ u. u && passed i) (same there.0 there.1) in
+    let on = byte_more n count byte i t (test there.0 && passed i) all one is so_far.few in
+    record { count = on.0; few = on.1 }
 
 -- whether a step is passed, by the next one of its thread
 pub passed_is : (script : Lines) (history : History) (items : List Step) (i : ℕ) (s : Step) (next : Option ℕ)

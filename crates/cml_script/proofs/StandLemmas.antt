@@ -1,4 +1,4 @@
--- What a stage keeps, and how it goes on with one more entry.
+-- What an execution keeps, and how it goes on with one more entry.
 use Rattle.std.proofs.Common.{◌≡◌, ℕ, ◌+◌, ◌-◌, ◌<◌, ◌≤◌, ◌^◌, Bool, true, false, cond, eqb, ltb, List, [], ◌∷◌, length}
 use Rattle.std.proofs.Common.{take, get_or, slice_get, slice_set, replicate, Option, Some, None, MatchBool, IfSome, IsSome}
 use Rattle.std.proofs.Common.{refl, sym, ap, subst, ◌∙◌, arith, inl, inr}
@@ -16,9 +16,8 @@ use Rattle.cml_board.specs.declared.entry.Who.TheVariants.{Seat}
 use Rattle.cml_script.specs.{one_if, how_many, Binding, History, IsReady, IsStep, IsDeclaration, Follows, is_seated, is_seat, is_by}
 use Rattle.cml_script.specs.{is_object, performed, next_position, step_call, declared_count, declared_object, object_of, made_of, given_by}
 use Rattle.cml_script.specs.{bound_by, binding_of, port_bound, port_made, IsOfScript, IsKnown, NamesObjects, HasSeats, AsksForPorts}
-use Rattle.cml_script.specs.{IsObject, IsObjectAt, AreBindings, with_binding, Stands, IsNextObject, AreCounts, with_entry, IsStepAt}
-use Rattle.cml_script.specs.{IsLeast}
-use Rattle.cml_script.specs.Stage.{Play}
+use Rattle.cml_script.specs.{IsObject, IsObjectAt, AreBindings, with_binding, Executed, Stands, IsNextObject, AreCounts, with_entry}
+use Rattle.cml_script.specs.{IsStepAt, IsLeast}
 use Rattle.cml_script.specs.declared.binding.Binding.TheVariants as binding
 use Rattle.cml_grammar.specs.declared.names.Named.TheVariants as called
 use Rattle.cml_grammar.specs.declared.names.Users.TheVariants as users
@@ -28,8 +27,8 @@ use Rattle.cml_script.proofs.GivingLemmas.{giver, given_line, next_is, none_firs
 use Rattle.cml_script.proofs.BindingLemmas.{bound_more}
 use Rattle.cml_script.proofs.KindLemmas.{object_made, object_kind_is, declared_made}
 
-pub stands_at : {p q : Play} {counts : List ℕ} {bindings : List Binding} → p ≡ q → Stands p counts bindings → Stands q counts bindings
-stands_at {counts = counts} {bindings = bindings} e s = subst (λ (r : Play). Stands r counts bindings) e s
+pub stands_at : {p q : Executed} {counts : List ℕ} {bindings : List Binding} → p ≡ q → Stands p counts bindings → Stands q counts bindings
+stands_at {counts = counts} {bindings = bindings} e s = subst (λ (r : Executed). Stands r counts bindings) e s
 
 module _ (script : Lines) (history : History) (at : ℕ) where
   pub object_declared : at < length script.declarations → object_of script history at ≡ declared_object script history at
@@ -100,12 +99,12 @@ module _ (script : Lines) (history : History) (named : NamesObjects script) wher
         object_made script history at (declared_made script history at d.0 object.0 declared d.1 d.2),
       )
 
-module _ {play : Play} {counts : List ℕ} {bindings : List Binding} (stands : Stands play counts bindings) where
-  pub count_is : (thread n : ℕ) → thread < 64 → n ≡ get_or counts thread n → n ≡ performed play.history (thread + 1)
-  count_is thread n = count_at play.history counts thread n stands.counted
+module _ {executed : Executed} {counts : List ℕ} {bindings : List Binding} (stands : Stands executed counts bindings) where
+  pub count_is : (thread n : ℕ) → thread < 64 → n ≡ get_or counts thread n → n ≡ performed executed.history (thread + 1)
+  count_is thread n = count_at executed.history counts thread n stands.counted
 
-  pub performed_small : (seat : ℕ) → performed play.history seat ≤ length play.history
-  performed_small seat = how_many-le (is_by seat) play.history
+  pub performed_small : (seat : ℕ) → performed executed.history seat ≤ length executed.history
+  performed_small seat = how_many-le (is_by seat) executed.history
 
 -- counts
 
@@ -187,12 +186,12 @@ bindings_more script before entry bindings (Some n) asks seats e b = record {
   ];
 }
 
-pub stands_more : (play new : Play) (counts later : List ℕ) (bindings : List Binding) (g : Option ℕ) (entry : Entry (List ℕ))
-    → new ≡ with_entry play entry → Stands play counts bindings → Fits play.history entry.call → length play.history < play.limit
-    → answer play.history entry.call ≡ Some entry.reply → Follows play.script (entry ∷ play.history)
-    → AreCounts (entry ∷ play.history) later → giver play.script play.history entry.who ≡ g
-    → Stands new later (with_binding bindings g (bound_by entry.call entry.reply))
-stands_more play new counts later bindings g entry e s fits room answers follows counted gives =
+pub stands_more : (executed new : Executed) (counts later : List ℕ) (bindings : List Binding) (g : Option ℕ) (entry : Entry (List ℕ))
+    → new ≡ with_entry executed entry → Stands executed counts bindings → Fits executed.history entry.call
+    → length executed.history < executed.limit → answer executed.history entry.call ≡ Some entry.reply
+    → Follows executed.script (entry ∷ executed.history) → AreCounts (entry ∷ executed.history) later
+    → giver executed.script executed.history entry.who ≡ g → Stands new later (with_binding bindings g (bound_by entry.call entry.reply))
+stands_more executed new counts later bindings g entry e s fits room answers follows counted gives =
     subst (λ r. Stands r later (with_binding bindings g (bound_by entry.call entry.reply))) (sym e) (record {
       lawful = (fits, answers, s.lawful);
       room = room;
@@ -201,22 +200,22 @@ stands_more play new counts later bindings g entry e s fits room answers follows
       plain = s.plain;
       known = s.known;
       counted = counted;
-      bound = bindings_more play.script play.history entry bindings g s.known.asks s.known.seats gives s.bound;
+      bound = bindings_more executed.script executed.history entry bindings g s.known.asks s.known.seats gives s.bound;
     })
 
 pub new_play : (script : Lines) (history later : History) (limit same : ℕ) (entry : Entry (List ℕ)) → later ≡ entry ∷ history → same ≡ limit
-    → ◌≡◌ {A = Play} (record { script = script; history = later; limit = same })
+    → ◌≡◌ {A = Executed} (record { script = script; history = later; limit = same })
     (with_entry (record { script = script; history = history; limit = limit }) entry)
 new_play script history later limit same entry h l = rw (h, l) refl
 
 -- a declared object was made
-pub stands_declared : (p old : Play) (counts : List ℕ) (bindings : List Binding) (later : History) (same : ℕ) (asked : Call (List ℕ))
+pub stands_declared : (p old : Executed) (counts : List ℕ) (bindings : List Binding) (later : History) (same : ℕ) (asked : Call (List ℕ))
     (r : Reply (List ℕ)) → p ≡ old → Stands p counts bindings → IsNextObject old asked
     → later ≡ (record { who = Seat 0; call = asked; reply = r }) ∷ p.history → same ≡ p.limit → Fits p.history asked → length p.history
     < p.limit → answer p.history asked ≡ Some r → Stands (record { script = p.script; history = later; limit = same }) counts bindings
 stands_declared p old counts bindings later same asked r view s next grown kept fits room answers =
     let entry : Entry (List ℕ) = record { who = Seat 0; call = asked; reply = r } in
-    let here = subst (λ (q : Play). IsNextObject q asked) (sym view) next in
+    let here = subst (λ (q : Executed). IsNextObject q asked) (sym view) next in
     stands_more p (record { script = p.script; history = later; limit = same }) counts counts bindings None entry
     (new_play p.script p.history later p.limit same entry grown kept) s fits room answers
     (follows_declaration p.script p.history entry here.left (record {
@@ -255,7 +254,7 @@ step_at script history i seat asked reply l same calls = record {
   call = same_Some _ _ (sym calls ∙ l.ready.calls);
 }
 
-pub stands_performed : (p new : Play) (counts : List ℕ) (bindings : List Binding) (entry : Entry (List ℕ)) (i seat n : ℕ) (g : Option ℕ)
+pub stands_performed : (p new : Executed) (counts : List ℕ) (bindings : List Binding) (entry : Entry (List ℕ)) (i seat n : ℕ) (g : Option ℕ)
     → Stands p counts bindings → new ≡ with_entry p entry → Fits p.history entry.call → length p.history < p.limit
     → answer p.history entry.call ≡ Some entry.reply → declared_count p.script ≤ length p.history → IsStepAt p.script p.history entry i
     → entry.who ≡ Seat seat → 1 ≤ seat → seat ≤ 64 → n ≡ get_or counts (seat - 1) n → g ≡ given_by p.script i
@@ -270,25 +269,25 @@ stands_performed p new counts bindings entry i seat n g s e fits room answers de
     (counts_performed p.history entry counts (seat - 1) n (who ∙ ap Seat (sym here)) lt (count_is s (seat - 1) n lt read) s.counted)
     (ap (option_and_then (given_by p.script)) next ∙ sym given)
 
-pub count_fits : (p : Play) (counts : List ℕ) (bindings : List Binding) (seat n : ℕ) → Stands p counts bindings → 1 ≤ seat → seat ≤ 64
+pub count_fits : (p : Executed) (counts : List ℕ) (bindings : List Binding) (seat n : ℕ) → Stands p counts bindings → 1 ≤ seat → seat ≤ 64
     → n ≡ get_or counts (seat - 1) n → length p.history < p.limit → n + 1 < 2 ^ 64
 count_fits p counts bindings seat n s low high read room =
     let lt : seat - 1 < 64 = omega (arith, low, high) in
     omega (arith, count_is s (seat - 1) n lt read, performed_small s (seat - 1 + 1), room, s.bounded)
 
 -- the step that is performed, as it was read
-pub record IsPerformed (p : Play) (i : ℕ) (s : Step) (asked : Call (List ℕ)) : Type 0 where
+pub record IsPerformed (p : Executed) (i : ℕ) (s : Step) (asked : Call (List ℕ)) : Type 0 where
   pub low : 1 ≤ s.seat
   pub high : s.seat ≤ 64
   pub declared : declared_count p.script ≤ length p.history
   pub step : (reply : Reply (List ℕ)) → IsStepAt p.script p.history (record { who = Seat s.seat; call = asked; reply = reply }) i
 
-pub is_performed : (p old : Play) (items : List Step) (i : ℕ) (d : Step) (asked : Call (List ℕ)) → p ≡ old
+pub is_performed : (p old : Executed) (items : List Step) (i : ℕ) (d : Step) (asked : Call (List ℕ)) → p ≡ old
     → map (λ x. source_of x.line) items ≡ p.script.steps → All (ReadsStep (names_of p.script)) items → thread_count (names_of p.script) ≤ 64
     → IsLeast old.script old.history i → declared_count old.script ≤ length old.history → step_call old.script old.history i ≡ Some asked
     → IsPerformed p i (get_or items i d) asked
 is_performed p old items i d asked view lines reads few ready declared calls =
-    let l = subst (λ (r : Play). IsLeast r.script r.history i) (sym view) ready in
+    let l = subst (λ (r : Executed). IsLeast r.script r.history i) (sym view) ready in
     let within : i < length items = omega (
       arith,
       slice_get_within p.script.steps i l.ready.line l.ready.found,
@@ -301,18 +300,18 @@ is_performed p old items i d asked view lines reads few ready declared calls =
     record {
       low = read.seated.0;
       high = omega (arith, read.seated.1, few);
-      declared = subst (λ (r : Play). declared_count r.script ≤ length r.history) (sym view) declared;
+      declared = subst (λ (r : Executed). declared_count r.script ≤ length r.history) (sym view) declared;
       step = λ reply. step_at p.script p.history i s.seat asked reply l (seat_is p.script p.history items i s lines reads found l)
-          (subst (λ (r : Play). step_call r.script r.history i ≡ Some asked) (sym view) calls);
+          (subst (λ (r : Executed). step_call r.script r.history i ≡ Some asked) (sym view) calls);
     }
 
-pub performs : (p old new : Play) (i : ℕ) (s : Step) (asked : Call (List ℕ)) (reply : Reply (List ℕ)) → p ≡ old
+pub performs : (p old new : Executed) (i : ℕ) (s : Step) (asked : Call (List ℕ)) (reply : Reply (List ℕ)) → p ≡ old
     → new ≡ with_entry p (record { who = Seat s.seat; call = asked; reply = reply }) → IsPerformed p i s asked
     → (entry : Entry (List ℕ)) × (new ≡ with_entry old entry) × IsStepAt old.script old.history entry i
 performs p old new i s asked reply view e performed = (
   record { who = Seat s.seat; call = asked; reply = reply },
-  e ∙ ap (λ (r : Play). with_entry r (record { who = Seat s.seat; call = asked; reply = reply })) view,
-  subst (λ (r : Play). IsStepAt r.script r.history (record { who = Seat s.seat; call = asked; reply = reply }) i)
+  e ∙ ap (λ (r : Executed). with_entry r (record { who = Seat s.seat; call = asked; reply = reply })) view,
+  subst (λ (r : Executed). IsStepAt r.script r.history (record { who = Seat s.seat; call = asked; reply = reply }) i)
       view (performed.step reply),
 )
 

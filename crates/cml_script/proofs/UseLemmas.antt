@@ -13,9 +13,8 @@ use Rattle.cml_board.specs.declared.entry.Who.TheVariants.{Seat}
 use Rattle.cml_grammar.specs.{Action, Declaration, Step, Given, kind_named, SourceLine, Lines, names_of, IsGivenAt, is_giving, names_before}
 use Rattle.cml_grammar.specs.{source_of, ReadsStep, UsesWell, UsesEarlier, MayUse, used_by}
 use Rattle.cml_script.specs.{Binding, IsOfScript, History, is_seated, is_called, earlier, performed, next_position, declared_count}
-use Rattle.cml_script.specs.{object_of, made_of, binding_of, port_bound, port_made, IsKnown, IsObject, IsObjectAt, AreBindings, Stands}
-use Rattle.cml_script.specs.{IsNextStep, IsBound}
-use Rattle.cml_script.specs.Stage.{Play}
+use Rattle.cml_script.specs.{object_of, made_of, binding_of, port_bound, port_made, IsKnown, IsObject, IsObjectAt, AreBindings, Executed}
+use Rattle.cml_script.specs.{Stands, IsNextStep, IsBound}
 use Rattle.cml_script.specs.declared.binding.Binding.TheVariants as binding
 use Rattle.cml_script.proofs.ListLemmas.{mapped_at, counted_mono}
 use Rattle.cml_script.proofs.LineLemmas.{all_at, step_seated, called_seated, giving_called}
@@ -136,23 +135,24 @@ module _ (script : Lines) (history : History) (known : IsKnown script) where
 pub object_within : (names : List Given) (at : ℕ) → IsObject names at → at < length names
 object_within names at object = slice_get_within names at (object.1.0, object.1.1) object.1.2
 
-module _ {play : Play} {counts : List ℕ} {bindings : List Binding} (stands : Stands play counts bindings) where
-  pub used_is_bound : (items : List Step) (i seat : ℕ) (s : Step) → map (λ x. source_of x.line) items ≡ play.script.steps
-      → All (ReadsStep (names_of play.script)) items → UsesEarlier play.script items → slice_get items i ≡ Some s
-      → next_position play.script play.history (Seat seat) ≡ Some i
-      → declared_count play.script ≤ length play.history → IsBound play (used_by s.action)
+module _ {executed : Executed} {counts : List ℕ} {bindings : List Binding} (stands : Stands executed counts bindings) where
+  pub used_is_bound : (items : List Step) (i seat : ℕ) (s : Step) → map (λ x. source_of x.line) items ≡ executed.script.steps
+      → All (ReadsStep (names_of executed.script)) items → UsesEarlier executed.script items → slice_get items i ≡ Some s
+      → next_position executed.script executed.history (Seat seat) ≡ Some i → declared_count executed.script ≤ length executed.history
+      → IsBound executed (used_by s.action)
   used_is_bound items i seat s lines reads uses_earlier item next declared =
-      let own = follows_own play.script play.history stands.follows in
-      let object = used_stands_for play.script play.history stands.known items i seat s
-      (script_steps play.script play.history own stands.lawful) lines reads uses_earlier item next declared in
+      let own = follows_own executed.script executed.history stands.follows in
+      let object = used_stands_for executed.script executed.history stands.known items i seat s
+      (script_steps executed.script executed.history own stands.lawful) lines reads uses_earlier item next declared in
       record {
-        named = used_object (names_of play.script) s.action (all_at (ReadsStep (names_of play.script)) items i s reads item).uses;
+        named = used_object (names_of executed.script) s.action (all_at (ReadsStep (names_of executed.script)) items i s reads item).uses;
         object = object.0;
         stands = object.1;
-        kind = λ k is. object_kind_at play.script play.history stands.known (used_by s.action) object.0 k own stands.lawful object.1 is;
+        kind = λ k is. object_kind_at executed.script executed.history stands.known
+            (used_by s.action) object.0 k own stands.lawful object.1 is;
       }
 
-pub used_stands : (p old : Play) (counts : List ℕ) (bindings : List Binding) → p ≡ old → Stands p counts bindings
+pub used_stands : (p old : Executed) (counts : List ℕ) (bindings : List Binding) → p ≡ old → Stands p counts bindings
     → (items : List Step) (i : ℕ) (d : Step) → map (λ x. source_of x.line) items ≡ p.script.steps
     → All (ReadsStep (names_of p.script)) items → UsesEarlier p.script items
     → i < length old.script.steps → IsNextStep old i → declared_count old.script ≤ length old.history
@@ -161,14 +161,14 @@ used_stands p old counts bindings view stands items i d lines reads uses_earlier
     let here : i < length items = omega (
       arith,
       within,
-      ap (λ (r : Play). length r.script.steps) view,
+      ap (λ (r : Executed). length r.script.steps) view,
       ap length lines,
       length-map items (λ (x : Step). source_of x.line),
     ) in
-    let step = subst (λ (r : Play). IsNextStep r i) (sym view) next in
-    subst (λ (r : Play). IsBound r (used_by (get_or items i d).action)) view
+    let step = subst (λ (r : Executed). IsNextStep r i) (sym view) next in
+    subst (λ (r : Executed). IsBound r (used_by (get_or items i d).action)) view
     (used_is_bound stands items i step.0 (get_or items i d) lines reads uses_earlier (slice_get-get_or items i d here) step.1
-    (subst (λ (r : Play). declared_count r.script ≤ length r.history) (sym view) declared))
+    (subst (λ (r : Executed). declared_count r.script ≤ length r.history) (sym view) declared))
 
 pub declared_length : (items : List Declaration) (script other : Lines) → map (λ d. source_of d.line) items ≡ script.declarations
     → script ≡ other → length items ≡ length other.declarations
@@ -176,12 +176,12 @@ declared_length items script other lines same = sym (length-map items (λ (d : D
     ∙ ap (λ (s : Lines). length s.declarations) same
 
 -- what is looked up for a name that has an object
-pub bound_is : (p old : Play) (counts : List ℕ) (bindings slice : List Binding) (at made : ℕ) (r : Option Name) → p ≡ old
+pub bound_is : (p old : Executed) (counts : List ℕ) (bindings slice : List Binding) (at made : ℕ) (r : Option Name) → p ≡ old
     → Stands p counts bindings → (bound : IsBound old at) → length p.history ≡ made → slice ≡ bindings
     → ((history : History) → length history ≡ made → AreBindings p.script history slice
     → r ≡ option_map (λ o. record { 0 = o }) (object_of p.script history at)) → r ≡ Some (record { 0 = bound.object })
 bound_is p old counts bindings slice at made r view stands bound long same told =
     let named = λ (n : ℕ). let name : Name = record { 0 = n } in name in
     told p.history long (subst (AreBindings p.script p.history) (sym same) stands.bound)
-    ∙ ap (λ (q : Play). option_map named (object_of q.script q.history at)) view
+    ∙ ap (λ (q : Executed). option_map named (object_of q.script q.history at)) view
     ∙ ap (option_map named) bound.stands

@@ -4,6 +4,7 @@ use Rattle.std.proofs.Common.{Option, Some, None, Ok, Err, Result, IfSome, IsSom
 use Rattle.std.specs.Prelude.{All, ◌&&◌, ◌||◌, not, OnOk}
 use Rattle.std.specs.Option.{option_map, option_map_or, option_and_then}
 use Rattle.std.specs.declared.alloc.AllocError.{AllocError}
+use Rattle.std.proofs.lemmas.List.{length-map}
 use Rattle.std.proofs.lemmas.Option.{IfSome_then, slice_get_within}
 use Rattle.std.proofs.lemmas.Bool.{and_right, not_from_true, false≢true, eq-eqb}
 use Rattle.cml_board.specs.{Call, Reply, Entry, Refusal}
@@ -28,7 +29,7 @@ use Rattle.cml_script.proofs.GivingLemmas.{giver, next_at, none_other}
 use Rattle.cml_script.proofs.BindingLemmas.{AreSteps, asks_port, bound_more, maker_is_none, none_seated}
 use Rattle.cml_script.proofs.StandLemmas.{bindings_more}
 use Rattle.cml_script.proofs.UseLemmas.{used_stands_for}
-use Rattle.cml_script.proofs.TrailLemmas.{named, step_calls}
+use Rattle.cml_script.proofs.FollowerLemmas.{named, step_calls}
 
 -- An opening.
 
@@ -179,6 +180,9 @@ on_ok (Err e) f p = tt
 module _ (script : Lines) (seat i : ℕ) (turn : IsTurn script seat i) where
   pub turn_within : i < length script.steps
   turn_within = slice_get_within script.steps i turn.line turn.found
+
+  pub turn_listed : (items : List Step) → map (λ x. source_of x.line) items ≡ script.steps → i < length items
+  turn_listed items lines = omega (arith, turn_within, ap length lines, length-map items (λ (x : Step). source_of x.line))
 
   -- how it goes
   pub turn_goes : (w : Route) → route_at script i ≡ w → route_of_line script turn.line ≡ w

@@ -1,15 +1,17 @@
 -- The inside of `work`: how far a thread has come, and what one step does.
-use Rattle.std.specs.Prelude.{ℕ, ◌≡◌, ◌+◌, if◌then◌else◌, Bool, true, List, [], ◌∷◌, ◌++◌, length, take, Option, None, IfSome, ⊤}
+use Rattle.std.specs.Prelude.{ℕ, ◌≡◌, ◌+◌, ◌<◌, ◌^◌, if◌then◌else◌, Bool, true, List, [], ◌∷◌, ◌++◌, length, take, Option, None, IfSome, ⊤}
 use Rattle.std.specs.Option.{option_map}
 use Rattle.cml_board.specs.{Refusal, entries_in}
 use Rattle.cml_threads.specs.{suits}
 use Rattle.cml_grammar.specs.{Lines}
 use Rattle.cml_script.specs.declared.running.worker.Course.{Course}
+use Rattle.cml_script.specs.declared.running.worker.Turn.{Turn}
 use Rattle.cml_script.specs.Counting.{how_many}
 use Rattle.cml_script.specs.Schedule.{History, declared_count, is_seated, earlier}
 use Rattle.cml_script.specs.Apart.{Apart, AreNextApart, earlier_apart}
 use Rattle.cml_script.specs.Bindings.{AreBindings}
-use Rattle.cml_script.specs.Working.{Made, with_closed, with_refused, IsOpening, AreBySeat, AreNextSteps}
+use Rattle.cml_script.specs.Working.{Made, with_closed, with_refused, IsOpening, IsTurn, AreBySeat, AreNextSteps}
+use Rattle.cml_script.specs.Plan.{IsKnown}
 
 -- all its lanes are closed, if any are to be
 abbrev pub closed_if : Bool → Option Made → Option Made
@@ -45,3 +47,14 @@ pub record HasTaken (script : Lines) (seat taken : ℕ) (course : Course) (made 
   pub place : ℕ
   pub behind : how_many (is_seated script seat) (take place script.steps) ≡ taken
   pub way : IsUnderWay script seat place course made
+
+-- the turn's step is one of its thread, which is under way there, and has room for one entry more
+pub record IsAt (turn : Turn) (course : Course) (made : Option Made) : Type 0 where
+  pub known : IsKnown turn.plan.now
+  pub own : IsTurn turn.plan.now (turn.thread + 1) turn.step
+  pub room : course.made < 2 ^ 63
+  pub way : IsUnderWay turn.plan.now (turn.thread + 1) turn.step course made
+
+-- its thread is under way after that step
+abbrev pub IsAfter : Turn → Course → Option Made → Type 0
+IsAfter turn course made = IsUnderWay turn.plan.now (turn.thread + 1) (turn.step + 1) course made

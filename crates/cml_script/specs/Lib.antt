@@ -17,18 +17,19 @@ pub mod Plan
 pub mod Bindings
 pub mod Makes
 pub mod Objects
-pub mod Stage
+pub mod Execution
 pub mod Apart
 pub mod Audit
 pub mod Lanes
-pub mod Trail
-pub mod Scene
+pub mod Follower
+pub mod Snapshot
 pub mod Working
 pub mod Declaring
 pub mod Course
 pub mod Endings
 pub mod Replay
 pub mod Running
+pub mod Ran
 pub mod Laws
 -- the names that others import from here
 pub use Counting.{how_many, one_if}
@@ -50,25 +51,26 @@ pub use Plan.{NamesObjects, items_of, kind_declared, kind_made, object_among, ro
 pub use Bindings.{AreBindings, with_binding}
 pub use Makes.{IsMadeOfDeclared}
 pub use Objects.{AreLaid, AreMakers, AreObjects}
-pub use Stage.{AreCounts, IsBound, IsLeast, IsLeastBelow, IsNext, IsNextObject, IsNextPort, IsNextStep, IsReadyOf, IsStepAt, NoneReadyOf}
-pub use Stage.{Stands, WaitsIf, earlier_of, with_entry}
+pub use Execution.{AreCounts, Executed, IsBound, IsLeast, IsLeastBelow, IsNext, IsNextObject, IsNextPort, IsNextStep, IsReadyOf, IsStepAt}
+pub use Execution.{NoneReadyOf, Stands, WaitsIf, earlier_of, with_entry}
 pub use Apart.{act_of, act_of_line, by_feed, by_lane, earlier_apart, goes_apart}
 pub use Audit.{IsFirstForeign, IsNextOfThread, IsOfCaller, IsOfFeed, IsOfLane, IsOfScript, IsOwn, Judges, leads_to, sent_to}
 pub use Lanes.{AreOnLines, AreSentInOrder, IsAstray, IsBehind, IsInOrder, IsInOrderAt, IsNextLaid, IsNotSent, IsOnLine, IsSent, call_to}
 pub use Lanes.{is_laid_to, is_lane_of, is_moved_on, is_moved_to, is_of_name, is_sent_to, moved_to, sends_to}
-pub use Trail.{AreSmallCounts, CountsOneMore, IsFollowed, IsNoThread, IsThread, Progress, declared_call, history_of, next_call, next_given}
-pub use Trail.{next_text, with_next}
-pub use Scene.{Told}
+pub use Follower.{AreSmallCounts, CountsOneMore, IsFollowed, IsNextOf, IsNoThread, IsThread, Progress, declared_call, history_of, next_call}
+pub use Follower.{next_given, next_text, with_next}
+pub use Snapshot.{Told}
 pub use Working.{AreByMakers, AreBySeat, AreNextSteps, AreOpened, BeginsAt, Declares, IsOpening, IsStop, IsTurn, IsUnheld, IsUnrefused}
 pub use Working.{Made, MayCall, Works, capacity_made, ending_with, feed_capacity, first_of, is_of_feed, stop_of, waits, with_apart}
 pub use Working.{with_call, with_closed, with_feed, with_refused}
 pub use Declaring.{HasCapacity, HasMade, making}
-pub use Course.{AreSuiting, HasTaken, IsRefusedSo, IsUnderWay, closed_if}
+pub use Course.{AreSuiting, HasTaken, IsAfter, IsAt, IsRefusedSo, IsUnderWay, closed_if}
 pub use Endings.{ending_of_fault, ending_of_stop, ending_of_unread, status}
 pub use Replay.{AreAll, EndsUnplayed, EndsUnplayedText, IsPlayedText, IsPlayedTextAs, IsRead, IsTextForRun, Replays, ReplaysAs}
 pub use Replay.{ReplaysJournal, Writes}
-pub use Running.{AreScript, EndsUntold, IsOfRun, IsRefused, IsReportOf, IsRunText, IsTakenAt, IsTextOf, IsUnsettled, IsUntold, Leaves}
-pub use Running.{MayEnd, Runs, RunsAs, RunsJournal}
+pub use Running.{AreScript, EndsUntold, IsOfRun, IsRefused, IsReportOf, IsRunText, IsTakenAt, IsTextOf, IsUnsettled, IsUntold, Runs, RunsAs}
+pub use Running.{RunsJournal}
+pub use Ran.{IsRefusedRan, IsTextOfRan, RanLeaves, RanMayEnd, ran_text}
 pub use Laws.{ReportsTellWhatIsLeft, SchedulesAreOne, ScriptsHaveASchedule, SomeThreadIsStuck, SomeThreadWaits, StalledThreadsWait}
 pub use Laws.{steps_of_seat}
 pub use declared.binding.Binding.{Binding}

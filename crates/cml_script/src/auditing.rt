@@ -2,7 +2,7 @@
 ghost use Rattle.std.specs.Prelude.{◌≤◌, ◌^◌, length, reverse, IfOk, MatchOption};
 ghost use Rattle.cml_script.specs.{IsOfScript, IsFirstForeign, Judges};
 
-use crate::trail::Trail;
+use crate::follower::Follower;
 use crate::verdict::Verdict;
 use cml_board::{Entry, Text, check};
 use cml_grammar::Script;
@@ -34,12 +34,12 @@ fn first_foreign(
     ensures { IfOk result (λ first. MatchOption first (IsOfScript script.now (reverse entries.now))
         (IsFirstForeign script.now entries.now)) }
 {
-    let mut trail = Trail::new(alloc, script, entries)?;
+    let mut follower = Follower::new(alloc, script, entries)?;
     for (k, entry) in entries.iter().enumerate() {
-        if !trail.is_own(entry) {
+        if !follower.is_own(entry) {
             return Ok(Some(k));
         }
-        trail.follow();
+        follower.follow();
     }
     Ok(None)
 }

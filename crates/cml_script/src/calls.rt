@@ -57,16 +57,10 @@ pub fn is_call_on(action: &Action, object: Name, call: &Call<Text>) -> bool
 {
     match (action, call) {
         (Action::Ask(ask, _), _) => Call::ask(*ask, object).same(call),
-        (Action::Give(Give::Send, _, wanted), Call::Send(name, message)) => {
-            object == *name && wanted.same(message)
-        }
-        (Action::Give(Give::Cast, _, wanted), Call::Cast(name, message)) => {
-            object == *name && wanted.same(message)
-        }
-        (Action::Give(Give::Put, _, wanted), Call::Put(name, message)) => {
-            object == *name && wanted.same(message)
-        }
-        (Action::Give(Give::Swap, _, wanted), Call::Swap(name, message)) => {
+        (Action::Give(Give::Send, _, wanted), Call::Send(name, message))
+        | (Action::Give(Give::Cast, _, wanted), Call::Cast(name, message))
+        | (Action::Give(Give::Put, _, wanted), Call::Put(name, message))
+        | (Action::Give(Give::Swap, _, wanted), Call::Swap(name, message)) => {
             object == *name && wanted.same(message)
         }
         _ => false,

@@ -4,8 +4,9 @@ ghost use Rattle.cml_board.specs.{no_entries, entries_in};
 ghost use Rattle.cml_grammar.specs.{first_ring};
 ghost use Rattle.cml_script.specs.{declared_count, Ends, IsPlayed, IsPlayedAs};
 
+use crate::execution::Execution;
 use crate::form::Form;
-use crate::stage::Stage;
+use crate::ran::Ran;
 use crate::stop::Stop;
 use crate::tally::Tally;
 use crate::writing::text_as;
@@ -41,41 +42,47 @@ pub(crate) fn play_as(
     requires plain { first_ring script.now ≡ None }
     ensures { IfOk result (λ played. IsPlayedAs form script.now limit played.stop (string_bytes played.report)) }
 {
-    let mut stage = Stage::new(alloc, script, limit)?;
-    let stop = perform(&mut stage)?;
+    let mut execution = Execution::new(alloc, script, limit)?;
+    let stop = perform(&mut execution)?;
     let tally = Tally::no_rings(alloc);
-    let report = text_as(alloc, form, script, stage.board(), &tally, stop)?;
+    let ran = Ran {
+        plan: execution.plan(),
+        board: execution.board(),
+        tally: &tally,
+        stop,
+    };
+    let report = text_as(alloc, form, &ran)?;
     Ok(Played { report, stop })
 }
 
 /// Makes the declared objects, and then performs the steps.
-fn perform(stage: &mut Stage<'_>) -> Result<Stop, AllocError>
-    requires { stage.old.history ≡ no_entries }
-    ensures script { stage.new.script ≡ stage.old.script }
-    ensures limit { stage.new.limit ≡ stage.old.limit }
-    ensures ends { IfOk result (Ends stage.new.script stage.new.limit stage.new.history) }
+fn perform(execution: &mut Execution<'_>) -> Result<Stop, AllocError>
+    requires { execution.old.history ≡ no_entries }
+    ensures script { execution.new.script ≡ execution.old.script }
+    ensures limit { execution.new.limit ≡ execution.old.limit }
+    ensures ends { IfOk result (Ends execution.new.script execution.new.limit execution.new.history) }
 {
-    if !stage.declare()? {
+    if !execution.declare()? {
         return Ok(Stop::Full);
     }
-    perform_all(stage)
+    perform_all(execution)
 }
 
 /// Performs the steps of a script whose objects are made.
-fn perform_all(stage: &mut Stage<'_>) -> Result<Stop, AllocError>
-    requires { entries_in stage.old.history ≡ declared_count stage.old.script }
-    ensures script { stage.new.script ≡ stage.old.script }
-    ensures limit { stage.new.limit ≡ stage.old.limit }
-    ensures ends { IfOk result (Ends stage.new.script stage.new.limit stage.new.history) }
+fn perform_all(execution: &mut Execution<'_>) -> Result<Stop, AllocError>
+    requires { entries_in execution.old.history ≡ declared_count execution.old.script }
+    ensures script { execution.new.script ≡ execution.old.script }
+    ensures limit { execution.new.limit ≡ execution.old.limit }
+    ensures ends { IfOk result (Ends execution.new.script execution.new.limit execution.new.history) }
 {
-    for _ in 0..stage.script().steps().len() {
-        if stage.is_full() {
+    for _ in 0..execution.plan().script().steps().len() {
+        if execution.is_full() {
             return Ok(Stop::Full);
         }
-        let Some(i) = stage.least_ready() else {
+        let Some(i) = execution.least_ready() else {
             return Ok(Stop::Stalled);
         };
-        stage.perform(i)?;
+        execution.perform(i)?;
     }
     Ok(Stop::Done)
 }

@@ -4,17 +4,19 @@ ghost use Rattle.cml_script.specs.{AreAll, IsRunText, IsTextOf, IsUnsettled, IsU
 
 mod caller;
 mod concluding;
-mod crew;
 mod declaring;
 mod gate;
 mod lanes;
 mod rings;
 mod stalling;
 mod worker;
+mod workers;
 
 use crate::ending::Ending;
 use crate::form::Form;
 use crate::perform::Played;
+use crate::plan::Plan;
+use crate::ran::Ran;
 use crate::read::read_all;
 use crate::stop::Stop;
 use crate::tally::Tally;
@@ -25,7 +27,6 @@ use cml_grammar::{Script, read_script};
 use cml_threads::{PARTS, Settled, Switchboard};
 pub use concluding::conclude;
 use concluding::conclude_as;
-pub use crew::{Ended, perform_in_threads};
 pub use declaring::declare;
 pub use gate::{Gate, OpenGate};
 use std::alloc::{AllocError, Global};
@@ -35,6 +36,7 @@ use std::sync::Wait;
 use std::sync::ledger::{Blank, Ledger};
 use std::thread::Threads;
 pub use worker::work;
+pub use workers::{Ended, perform_in_threads};
 
 /// Runs a script: it reads the whole script, and performs each of its threads on an operating-system thread, all on one
 /// switchboard. Then it audits the journal and writes the report. The order of the threads differs from run to run.
@@ -115,9 +117,15 @@ fn run_read<I: Read, R: Threads + Wait + Sync, G: Gate + Sync>(
     let script = read_script(alloc, &text)?;
     let blank = Blank::new(PARTS);
     match settle_script::<Brand, R, G>(rt, alloc, &script, limit, gate, blank) {
-        Ok(ran) => {
-            let board = ran.settled.board();
-            conclude_settled(alloc, form, &script, limit, board, &ran.tally, ran.stop)
+        Ok(left) => {
+            let plan = Plan::new(alloc, &script)?;
+            let ran = Ran {
+                plan: &plan,
+                board: left.settled.board(),
+                tally: &left.tally,
+                stop: left.stop,
+            };
+            conclude_settled(alloc, form, limit, &ran)
         }
         Err(ending) => Err(ending),
     }
@@ -127,20 +135,18 @@ fn run_read<I: Read, R: Threads + Wait + Sync, G: Gate + Sync>(
 fn conclude_settled(
     alloc: Global,
     form: Form,
-    script: &Script,
     limit: u64,
-    board: &Board<Text, BoardLog<Text>>,
-    tally: &Tally,
-    stop: Stop,
+    ran: &Ran<'_, '_>,
 ) -> Result<Played, Ending>
-    ensures stop { IfOk result (λ played. played.stop ≡ stop) }
-    ensures text { IfOk result (λ played. IsTextOf form script.now limit board.now.history tally.now stop (string_bytes played.report)) }
-    ensures untold { IfErr result (λ ending. IsUntold script.now limit board.now tally.now stop ending) }
+    ensures stop { IfOk result (λ played. played.stop ≡ ran.now.stop) }
+    ensures text { IfOk result (λ played. IsTextOf form ran.now.plan.now limit ran.now.board.now.history ran.now.tally.now ran.now.stop
+        (string_bytes played.report)) }
+    ensures untold { IfErr result (λ ending. IsUntold ran.now.plan.now limit ran.now.board.now ran.now.tally.now ran.now.stop ending) }
 {
-    if !is_of_run(limit, board) {
-        return Err(Ending::NotLawful(board.journal().len()));
+    if !is_of_run(limit, ran.board) {
+        return Err(Ending::NotLawful(ran.board.journal().len()));
     }
-    conclude_as(alloc, form, script, board, tally, stop)
+    conclude_as(alloc, form, ran)
 }
 
 /// Whether the board has this limit, and was never cut.
@@ -152,7 +158,7 @@ fn is_of_run(limit: u64, board: &Board<Text, BoardLog<Text>>) -> bool
 
 /// What a run leaves.
 #[derive(Drop)]
-struct Ran {
+struct Remains {
     settled: Settled<Text, BoardLog<Text>>,
     tally: Tally,
     stop: Stop,
@@ -166,19 +172,19 @@ fn settle_script<Led: Ledger + Send + Sync, R: Threads + Wait + Sync, G: Gate + 
     limit: u64,
     gate: &G,
     blank: Blank,
-) -> Result<Ran, Ending>
+) -> Result<Remains, Ending>
     requires least { 1 ≤ limit }
     requires most { limit ≤ 2 ^ 32 }
     requires name { blank.name ≡ Led.name }
     requires parts { blank.parts ≡ Led.parts }
     requires enough { blank.parts ≡ 2 ^ 63 }
     ensures unsettled { IfErr result (λ ending. IsUnsettled ending) }
-    ensures open { IfOk result (λ ran. G.opens gate.now ≡ true → ran.stop ≢ Stop.Held) }
+    ensures open { IfOk result (λ left. G.opens gate.now ≡ true → left.stop ≢ Stop.Held) }
 {
     let switchboard = Switchboard::<Text, BoardLog<Text>, Led>::new(alloc, limit, blank)?;
     let ended = perform_in_threads(rt, alloc, script, &switchboard, gate)?;
     match switchboard.settle(ended.lefts) {
-        Ok(settled) => Ok(Ran {
+        Ok(settled) => Ok(Remains {
             settled,
             tally: ended.tally,
             stop: ended.stop,

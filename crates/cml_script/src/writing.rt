@@ -1,14 +1,13 @@
 //! What is written of a script: its report, or its journal as text.
 ghost use Rattle.std.specs.Prelude.{◌≡◌, IfOk, string_bytes};
 ghost use Rattle.cml_board.specs.{no_entries};
-ghost use Rattle.cml_script.specs.{IsOfScript, Writes, journal_text, text_as};
+ghost use Rattle.cml_script.specs.{IsOfScript, Writes, ran_text, journal_text};
 
 use crate::ending::Ending;
 use crate::form::Form;
 use crate::perform::Played;
+use crate::ran::Ran;
 use crate::report::report;
-use crate::stop::Stop;
-use crate::tally::Tally;
 use crate::whole::journal;
 use cml_board::{Board, BoardLog, Text};
 use cml_grammar::{Script, write_whole};
@@ -17,21 +16,14 @@ use std::alloc::{AllocError, Global};
 use std::io::Write;
 
 /// What is written in a form of a script whose journal was never cut.
-pub fn text_as(
-    alloc: Global,
-    form: Form,
-    script: &Script,
-    board: &Board<Text, BoardLog<Text>>,
-    tally: &Tally,
-    stop: Stop,
-) -> Result<String, AllocError>
-    requires own { IsOfScript script.now board.now.history }
-    requires whole { board.now.past ≡ no_entries }
-    ensures { IfOk result (λ text. string_bytes text ≡ text_as form script.now board.now.history tally.now stop) }
+pub(crate) fn text_as(alloc: Global, form: Form, ran: &Ran<'_, '_>) -> Result<String, AllocError>
+    requires own { IsOfScript ran.now.plan.now ran.now.board.now.history }
+    requires whole { ran.now.board.now.past ≡ no_entries }
+    ensures { IfOk result (λ text. string_bytes text ≡ ran_text form ran.now) }
 {
     match form {
-        Form::Report => report(alloc, script, board, tally, stop),
-        Form::Journal => journal_text(alloc, script, board),
+        Form::Report => report(alloc, ran),
+        Form::Journal => journal_text(alloc, ran.plan.script(), ran.board),
     }
 }
 

@@ -1,7 +1,8 @@
 //! What a run told, before it is reported.
 ghost use Rattle.std.specs.Prelude.{◌≡◌, ◌↔◌, ◌<◌, ℕ, length, IsTrue, IfOk, IfErr, string_bytes};
 ghost use Rattle.cml_board.specs.{no_entries};
-ghost use Rattle.cml_script.specs.{IsOfScript, HasLeft, IsAllDone, IsReportOf, IsTextOf, IsRefused, IsTakenAt, Leaves, MayEnd};
+ghost use Rattle.cml_script.specs.{IsOfScript, HasLeft, IsAllDone, IsRefusedRan, IsTextOfRan, RanLeaves, RanMayEnd, IsReportOf, IsRefused};
+ghost use Rattle.cml_script.specs.{IsTakenAt};
 
 use super::lanes::are_sent_in_order;
 use super::stalling::nobody_goes_on;
@@ -10,7 +11,8 @@ use crate::ending::Ending;
 use crate::form::Form;
 use crate::perform::Played;
 use crate::plan::{Plan, count_feeds};
-use crate::scene::{count_moved, unperformed};
+use crate::ran::Ran;
+use crate::snapshot::{count_moved, unperformed};
 use crate::stop::Stop;
 use crate::tally::Tally;
 use crate::verdict::Verdict;
@@ -34,124 +36,108 @@ pub fn conclude(
         (λ played. IsReportOf script.now board.now.limit board.now.history tally.now stop (string_bytes played.report)) }
     ensures refused { IfErr result (λ ending. IsRefused script.now board.now.limit board.now.history tally.now stop ending) }
 {
-    conclude_as(alloc, Form::Report, script, board, tally, stop)
+    let plan = Plan::new(alloc, script)?;
+    let ran = Ran {
+        plan: &plan,
+        board,
+        tally,
+        stop,
+    };
+    conclude_as(alloc, Form::Report, &ran)
 }
 
 /// Does as [`conclude`], and writes the journal's text in this form.
-pub(super) fn conclude_as(
-    alloc: Global,
-    form: Form,
-    script: &Script,
-    board: &Board<Text, BoardLog<Text>>,
-    tally: &Tally,
-    stop: Stop,
-) -> Result<Played, Ending>
-    requires { board.now.past ≡ no_entries }
-    ensures stop { IfOk result (λ played. played.stop ≡ stop) }
-    ensures text { IfOk result
-        (λ played. IsTextOf form script.now board.now.limit board.now.history tally.now stop (string_bytes played.report)) }
-    ensures refused { IfErr result (λ ending. IsRefused script.now board.now.limit board.now.history tally.now stop ending) }
+pub(super) fn conclude_as(alloc: Global, form: Form, ran: &Ran<'_, '_>) -> Result<Played, Ending>
+    requires { ran.now.board.now.past ≡ no_entries }
+    ensures stop { IfOk result (λ played. played.stop ≡ ran.now.stop) }
+    ensures text { IfOk result (λ played. IsTextOfRan form ran.now (string_bytes played.report)) }
+    ensures refused { IfErr result (λ ending. IsRefusedRan ran.now ending) }
 {
     // That no journal has more entries than an audit takes is what the limit's reader tells.
-    let _limit = board.limit();
-    match audit(alloc, script, journal(board))? {
-        Verdict::Lawful => tell_own(alloc, form, script, board, tally, stop),
+    let _limit = ran.board.limit();
+    match audit(alloc, ran.plan.script(), journal(ran.board))? {
+        Verdict::Lawful => tell_own(alloc, form, ran),
         Verdict::Unlawful(k) | Verdict::Foreign(k) => Err(Ending::NotLawful(k)),
     }
 }
 
 /// The text in this form of a script's journal, if it may end like this.
-fn tell_own(
-    alloc: Global,
-    form: Form,
-    script: &Script,
-    board: &Board<Text, BoardLog<Text>>,
-    tally: &Tally,
-    stop: Stop,
-) -> Result<Played, Ending>
-    requires own { IsOfScript script.now board.now.history }
-    requires whole { board.now.past ≡ no_entries }
-    ensures stop { IfOk result (λ played. played.stop ≡ stop) }
-    ensures text { IfOk result
-        (λ played. IsTextOf form script.now board.now.limit board.now.history tally.now stop (string_bytes played.report)) }
-    ensures refused { IfErr result (λ ending. IsRefused script.now board.now.limit board.now.history tally.now stop ending) }
+fn tell_own(alloc: Global, form: Form, ran: &Ran<'_, '_>) -> Result<Played, Ending>
+    requires own { IsOfScript ran.now.plan.now ran.now.board.now.history }
+    requires whole { ran.now.board.now.past ≡ no_entries }
+    ensures stop { IfOk result (λ played. played.stop ≡ ran.now.stop) }
+    ensures text { IfOk result (λ played. IsTextOfRan form ran.now (string_bytes played.report)) }
+    ensures refused { IfErr result (λ ending. IsRefusedRan ran.now ending) }
 {
     // That the history is lawful and within the limit is what the journal's reader tells.
-    let entries = journal(board).len();
-    let plan = Plan::new(alloc, script)?;
-    if !may_end(alloc, &plan, board, tally, stop)? {
+    let entries = journal(ran.board).len();
+    if !may_end(alloc, ran)? {
         return Err(Ending::NotLawful(entries));
     }
-    let report = text_as(alloc, form, script, board, tally, stop)?;
+    let report = text_as(alloc, form, ran)?;
+    let stop = ran.stop;
     Ok(Played { report, stop })
 }
 
 /// Whether a run may end so with this journal and this tally.
-fn may_end(
-    alloc: Global,
-    plan: &Plan<'_>,
-    board: &Board<Text, BoardLog<Text>>,
-    tally: &Tally,
-    stop: Stop,
-) -> Result<bool, AllocError>
-    requires { board.now.past ≡ no_entries }
-    ensures { IfOk result (λ may. IsTrue may ↔ MayEnd plan.now board.now.limit board.now.history tally.now stop) }
+fn may_end(alloc: Global, ran: &Ran<'_, '_>) -> Result<bool, AllocError>
+    requires { ran.now.board.now.past ≡ no_entries }
+    ensures { IfOk result (λ may. IsTrue may ↔ RanMayEnd ran.now) }
 {
+    let (plan, tally) = (ran.plan, ran.tally);
     Ok(
-        leaves(alloc, plan, board, tally, stop)?
+        leaves(alloc, ran)?
             && tally.apart <= plan.apart()
             && tally.taken.len() == count_feeds(plan.script())
-            && takes_what_was_got(plan, board, tally)
-            && are_sent_in_order(plan, &tally.lanes, journal(board)),
+            && takes_what_was_got(ran)
+            && are_sent_in_order(plan, &tally.lanes, journal(ran.board)),
     )
 }
 
 /// Whether as much is left as after this stop. If it is stalled, no thread could go on.
-fn leaves(
-    alloc: Global,
-    plan: &Plan<'_>,
-    board: &Board<Text, BoardLog<Text>>,
-    tally: &Tally,
-    stop: Stop,
-) -> Result<bool, AllocError>
-    requires { board.now.past ≡ no_entries }
-    ensures { IfOk result (λ may. IsTrue may ↔ Leaves plan.now board.now.limit board.now.history tally.now stop) }
+fn leaves(alloc: Global, ran: &Ran<'_, '_>) -> Result<bool, AllocError>
+    requires { ran.now.board.now.past ≡ no_entries }
+    ensures { IfOk result (λ may. IsTrue may ↔ RanLeaves ran.now) }
 {
-    let left = unperformed(plan.script(), board, tally);
-    match stop {
-        Stop::Done => Ok(is_all_done(plan, board, tally)),
-        Stop::Stalled => Ok(0 < left && nobody_goes_on(alloc, plan.script(), board, tally)?),
+    let board = ran.board;
+    let left = unperformed(ran.plan.script(), board, ran.tally);
+    match ran.stop {
+        Stop::Done => Ok(is_all_done(ran)),
+        Stop::Stalled => Ok(0 < left && nobody_goes_on(alloc, ran)?),
         Stop::Held => Ok(0 < left),
-        Stop::Full => Ok(board.entries() == board.limit() && has_left(plan, board, tally)),
+        Stop::Full => Ok(board.entries() == board.limit() && has_left(ran)),
     }
 }
 
 /// Whether each declared object was made, each step performed, and each message moved that was sent by a lane.
-fn is_all_done(plan: &Plan<'_>, board: &Board<Text, BoardLog<Text>>, tally: &Tally) -> bool
-    requires { board.now.past ≡ no_entries }
-    ensures { IsTrue result ↔ IsAllDone plan.now board.now.history tally.now }
+fn is_all_done(ran: &Ran<'_, '_>) -> bool
+    requires { ran.now.board.now.past ≡ no_entries }
+    ensures { IsTrue result ↔ IsAllDone ran.now.plan.now ran.now.board.now.history ran.now.tally.now }
 {
+    let (plan, board) = (ran.plan, ran.board);
     plan.declared() as u64 <= board.entries()
-        && unperformed(plan.script(), board, tally) == 0
+        && unperformed(plan.script(), board, ran.tally) == 0
         && count_moved(journal(board)) == plan.laid()
 }
 
 /// Whether a declared object was not made, a step was not performed, or a message sent by a lane was not moved.
-fn has_left(plan: &Plan<'_>, board: &Board<Text, BoardLog<Text>>, tally: &Tally) -> bool
-    requires { board.now.past ≡ no_entries }
-    ensures { IsTrue result ↔ HasLeft plan.now board.now.history tally.now }
+fn has_left(ran: &Ran<'_, '_>) -> bool
+    requires { ran.now.board.now.past ≡ no_entries }
+    ensures { IsTrue result ↔ HasLeft ran.now.plan.now ran.now.board.now.history ran.now.tally.now }
 {
+    let (plan, board) = (ran.plan, ran.board);
     board.entries() < plan.declared() as u64
-        || 0 < unperformed(plan.script(), board, tally)
+        || 0 < unperformed(plan.script(), board, ran.tally)
         || count_moved(journal(board)) < plan.laid()
 }
 
 /// Whether of each feed exactly what its port received was taken.
-fn takes_what_was_got(plan: &Plan<'_>, board: &Board<Text, BoardLog<Text>>, tally: &Tally) -> bool
-    ensures { IsTrue result ↔ ((at : ℕ) → at < length plan.now.declarations → IsTakenAt plan.now board.now.history tally.now at) }
+fn takes_what_was_got(ran: &Ran<'_, '_>) -> bool
+    ensures { IsTrue result ↔ ((at : ℕ) → at < length ran.now.plan.now.declarations
+        → IsTakenAt ran.now.plan.now ran.now.board.now.history ran.now.tally.now at) }
 {
-    for at in 0..plan.script().declarations().len() {
-        if !is_taken(plan, board, tally, at) {
+    for at in 0..ran.plan.script().declarations().len() {
+        if !is_taken(ran, at) {
             return false;
         }
     }
@@ -159,10 +145,11 @@ fn takes_what_was_got(plan: &Plan<'_>, board: &Board<Text, BoardLog<Text>>, tall
 }
 
 /// Whether of the feed with this name, if it is one that was opened, exactly what its port received was taken.
-fn is_taken(plan: &Plan<'_>, board: &Board<Text, BoardLog<Text>>, tally: &Tally, at: usize) -> bool
-    requires { at < length plan.now.declarations }
-    ensures { IsTrue result ↔ IsTakenAt plan.now board.now.history tally.now at }
+fn is_taken(ran: &Ran<'_, '_>, at: usize) -> bool
+    requires { at < length ran.now.plan.now.declarations }
+    ensures { IsTrue result ↔ IsTakenAt ran.now.plan.now ran.now.board.now.history ran.now.tally.now at }
 {
+    let (plan, board, tally) = (ran.plan, ran.board, ran.tally);
     let feed = plan.feed(at);
     if feed.is_none() {
         return true;

@@ -6,9 +6,9 @@ ghost use Rattle.cml_script.specs.{IsKnown, AreSentInOrder, IsOnLine, AreOnLines
 ghost use Rattle.cml_script.specs.{IsAstray, IsBehind, call_to, is_laid_to, is_moved_on, is_moved_to, is_lane_of, is_sent_to, sends_to};
 
 use crate::calls::{is_call_on, used_by};
+use crate::follower::sent_to;
 use crate::plan::Plan;
-use crate::scene::is_lane;
-use crate::trail::sent_to;
+use crate::snapshot::is_lane;
 use cml_board::{Call, Entry, Name, Text, Who};
 
 /// Whether what lanes moved is what threads sent by them. `lanes` tells by lane which seat opened it. It goes through the journal

@@ -2,8 +2,8 @@
 ghost use Rattle.std.specs.Prelude.{◌≡◌, ◌+◌, ◌<◌, ◌^◌, ◌⊎◌, ◌&&◌, not, true, Option, Some, Ok, length, IfSome, IfOk, IfErr, OnOk};
 ghost use Rattle.std.specs.Option.{option_map};
 ghost use Rattle.cml_board.specs.{entries_in};
-ghost use Rattle.cml_script.specs.{History, step_call, AreBindings, Made, BeginsAt, IsOpening, IsTurn, IsUnheld, Works, waits};
-ghost use Rattle.cml_script.specs.{with_refused, stop_of, first_of, ending_with, IsKnown, route_at, IsUnderWay, IsRefusedSo, closed_if};
+ghost use Rattle.cml_script.specs.{History, step_call, AreBindings, Made, BeginsAt, IsOpening, IsUnheld, Works, waits, with_refused};
+ghost use Rattle.cml_script.specs.{stop_of, first_of, ending_with, route_at, IsAfter, IsAt, IsRefusedSo, closed_if};
 ghost use Rattle.cml_grammar.specs.{IsCapacity};
 
 use super::caller::Caller;
@@ -26,6 +26,14 @@ struct Course {
     made: usize,
     // Whether the thread may have a lane open.
     is_sending: bool,
+}
+
+/// A step that a thread performs now.
+#[derive(Clone, Copy)]
+struct Turn<'a, 's> {
+    plan: &'a Plan<'s>,
+    thread: usize,
+    step: usize,
 }
 
 /// Performs the steps of a thread, in order, once the declared objects are made. It stops at the first that fails, or when
@@ -57,7 +65,8 @@ pub fn work<C: Caller, G: Gate>(
         if !gate.before(thread, nth) {
             return close(&course, caller, Stop::Held);
         }
-        if let Err(refusal) = perform(plan, thread, step, &mut course, caller) {
+        let turn = Turn { plan, thread, step };
+        if let Err(refusal) = perform(&turn, &mut course, caller) {
             return stop_of(refusal);
         }
         gate.after(thread, nth);
@@ -84,54 +93,42 @@ fn close<C: Caller>(course: &Course, caller: &mut C, stop: Stop) -> Result<Stop,
 
 /// Performs a step of the thread, by its seat or by a ring.
 fn perform<C: Caller>(
-    plan: &Plan<'_>,
-    thread: usize,
-    step: usize,
+    turn: &Turn<'_, '_>,
     course: &mut Course,
     caller: &mut C,
 ) -> Result<(), Refusal>
-    requires thread { thread < 64 }
-    requires known { IsKnown plan.now }
     requires goes_on { C.goes_on caller.old ≡ true }
-    requires turn { IsTurn plan.now (thread + 1) step }
-    requires room { course.old.made < 2 ^ 63 }
-    requires way { IsUnderWay plan.now (thread + 1) step course.old (C.made caller.old) }
+    requires at { IsAt turn.now course.old (C.made caller.old) }
     ensures goes_on { OnOk result (C.goes_on caller.new ≡ true) }
-    ensures way { OnOk result (IsUnderWay plan.now (thread + 1) (step + 1) course.new (C.made caller.new)) }
+    ensures way { OnOk result (IsAfter turn.now course.new (C.made caller.new)) }
     ensures refused { IfErr result (λ refusal. IsRefusedSo refusal (C.made caller.old) (C.made caller.new)) }
 {
-    match plan.route(step) {
-        Route::Seat => perform_seated(plan, thread, step, course, caller),
-        Route::Lane(capacity) => send_apart(plan, thread, step, capacity, course, caller),
+    match turn.plan.route(turn.step) {
+        Route::Seat => perform_seated(turn, course, caller),
+        Route::Lane(capacity) => send_apart(turn, capacity, course, caller),
         Route::Feed(feed) => caller.poll_apart(feed),
     }
 }
 
 /// Performs a step by the thread's seat.
 fn perform_seated<C: Caller>(
-    plan: &Plan<'_>,
-    thread: usize,
-    step: usize,
+    turn: &Turn<'_, '_>,
     course: &mut Course,
     caller: &mut C,
 ) -> Result<(), Refusal>
-    requires thread { thread < 64 }
-    requires known { IsKnown plan.now }
     requires goes_on { C.goes_on caller.old ≡ true }
-    requires turn { IsTurn plan.now (thread + 1) step }
-    requires room { course.old.made < 2 ^ 63 }
-    requires called { route_at plan.now step ≡ Route.Seat }
-    requires way { IsUnderWay plan.now (thread + 1) step course.old (C.made caller.old) }
+    requires at { IsAt turn.now course.old (C.made caller.old) }
+    requires called { route_at turn.now.plan.now turn.now.step ≡ Route.Seat }
     ensures goes_on { OnOk result (C.goes_on caller.new ≡ true) }
-    ensures way { OnOk result (IsUnderWay plan.now (thread + 1) (step + 1) course.new (C.made caller.new)) }
+    ensures way { OnOk result (IsAfter turn.now course.new (C.made caller.new)) }
     ensures refused { IfErr result (λ refusal. IsRefusedSo refusal (C.made caller.old) (C.made caller.new)) }
 {
-    let Ok(call) = call_of(plan, thread, step, course) else {
+    let Ok(call) = call_of(turn, course) else {
         return Err(caller.lack_memory());
     };
     close_before(&call, course, caller)?;
     let answer = caller.call(call)?;
-    let given = plan.given(step);
+    let given = turn.plan.given(turn.step);
     bind(&mut course.bindings, given, answer.call(), answer.reply());
     course.made += 1;
     Ok(())
@@ -165,52 +162,41 @@ fn may_wait(call: &Call<Text>) -> bool
 
 /// Performs a step by the thread's lane.
 fn send_apart<C: Caller>(
-    plan: &Plan<'_>,
-    thread: usize,
-    step: usize,
+    turn: &Turn<'_, '_>,
     capacity: usize,
     course: &mut Course,
     caller: &mut C,
 ) -> Result<(), Refusal>
-    requires thread { thread < 64 }
-    requires known { IsKnown plan.now }
     requires goes_on { C.goes_on caller.old ≡ true }
-    requires turn { IsTurn plan.now (thread + 1) step }
-    requires laid { route_at plan.now step ≡ Route.Lane capacity }
+    requires at { IsAt turn.now course.old (C.made caller.old) }
+    requires laid { route_at turn.now.plan.now turn.now.step ≡ Route.Lane capacity }
     requires capacity { IsCapacity capacity }
-    requires way { IsUnderWay plan.now (thread + 1) step course.old (C.made caller.old) }
     ensures goes_on { OnOk result (C.goes_on caller.new ≡ true) }
-    ensures way { OnOk result (IsUnderWay plan.now (thread + 1) (step + 1) course.new (C.made caller.new)) }
+    ensures way { OnOk result (IsAfter turn.now course.new (C.made caller.new)) }
     ensures refused { IfErr result (λ refusal. C.made caller.new ≡ option_map (with_refused refusal) (C.made caller.old)) }
 {
-    match &plan.script().steps()[step].action {
+    match &turn.plan.script().steps()[turn.step].action {
         Action::Give(_, at, message) => {
             let Ok(message) = message.clone() else {
                 return Err(caller.lack_memory());
             };
             course.is_sending = true;
-            caller.send_apart(plan.number(*at), capacity, message)
+            caller.send_apart(turn.plan.number(*at), capacity, message)
         }
         Action::Ask(_, _) => unreachable!(),
     }
 }
 
 /// The call of a step that the thread's seat performs next, with a copy of its message.
-fn call_of(
-    plan: &Plan<'_>,
-    thread: usize,
-    step: usize,
-    course: &Course,
-) -> Result<Call<Text>, AllocError>
-    requires known { IsKnown plan.now }
-    requires turn { IsTurn plan.now (thread + 1) step }
-    requires called { route_at plan.now step ≡ Route.Seat }
-    requires way { (made : Option Made) × IsUnderWay plan.now (thread + 1) step course.now made }
+fn call_of(turn: &Turn<'_, '_>, course: &Course) -> Result<Call<Text>, AllocError>
+    requires called { route_at turn.now.plan.now turn.now.step ≡ Route.Seat }
+    requires at { (made : Option Made) × IsAt turn.now course.now made }
     ensures { IfOk result (λ call. (history : History) → entries_in history ≡ course.now.made
-        → AreBindings plan.now history course.now.bindings.items
-        → step_call plan.now history step ≡ Some call) }
+        → AreBindings turn.now.plan.now history course.now.bindings.items
+        → step_call turn.now.plan.now history turn.now.step ≡ Some call) }
 {
-    let action = &plan.script().steps()[step].action;
+    let plan = turn.plan;
+    let action = &plan.script().steps()[turn.step].action;
     let object = plan.object(used_by(action), course.made as u64, &course.bindings);
     let call = call_on(action, object.unwrap())?;
     Ok(call)

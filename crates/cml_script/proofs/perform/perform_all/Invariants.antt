@@ -4,7 +4,7 @@ use Rattle.cml_script.proofs.perform.perform_all.Given as goal
 
 abbrev pub invariant-loop : goal.invariant-loop
 invariant-loop l = record {
-  script : l.stage.script ≡ l.fn.stage.script;
-  limit : l.stage.limit ≡ l.fn.stage.limit;
-  performed : length l.stage.history ≡ declared_count l.stage.script + l.counter;
+  script : l.execution.script ≡ l.fn.execution.script;
+  limit : l.execution.limit ≡ l.fn.execution.limit;
+  performed : length l.execution.history ≡ declared_count l.execution.script + l.counter;
 }

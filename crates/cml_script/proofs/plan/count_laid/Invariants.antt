@@ -1,9 +1,6 @@
-use Rattle.std.proofs.Common.{◌≡◌, ◌≤◌, take}
-use Rattle.cml_script.specs.{how_many, is_laid}
+use Rattle.cml_script.specs.{is_laid}
+use Rattle.cml_script.proofs.LineLemmas.{AreCounted}
 use Rattle.cml_script.proofs.plan.count_laid.Given as goal
 
 abbrev pub invariant-loop-step : goal.invariant-loop-step
-invariant-loop-step l = record {
-  laid : l.laid ≡ how_many (is_laid l.script) (take l.step-index l.script.steps);
-  few : l.laid ≤ l.step-index;
-}
+invariant-loop-step l = AreCounted (is_laid l.script) l.script.steps l.step-index l.laid

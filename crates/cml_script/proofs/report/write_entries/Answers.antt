@@ -13,8 +13,8 @@ use Rattle.cml_script.proofs.report.write_entries.Goals.{then-has_begun+in_ok-wr
 pub loop-entry-preserved : goal.loop-entry-preserved
 loop-entry-preserved c =
     let so_far = c.loop-entry.invariant in
-    let trail = c.loop-entry.trail in
-    let script = c.args.trail.now.script in
+    let follower = c.loop-entry.follower in
+    let script = c.args.follower.now.script in
     let journal = c.args.journal.now in
     let k = c.loop-entry.entry-index in
     let entry = c.entry-item.result in
@@ -27,15 +27,15 @@ loop-entry-preserved c =
       text = elim c.if-has_begun.branch [
         | then-has_begun+in_ok-write_entry w ↦
             let begun =
-            begun_at trail script journal k so_far.script so_far.journal so_far.followed (c.has_begun.ensures.0 w.if-has_begun.true) in
+            begun_at follower script journal k so_far.script so_far.journal so_far.followed (c.has_begun.ensures.0 w.if-has_begun.true) in
             ap (λ (r : String Global). string_bytes r) w.report-is ∙ w.in_ok-write_entry.ensures
-            ∙ ap (λ t. t ++ entry_line trail.script (before trail.journal trail.followed) entry) so_far.text
+            ∙ ap (λ t. t ++ entry_line follower.script (before follower.journal follower.followed) entry) so_far.text
             ∙ ap (λ t. entry_lines script (before journal k) ++ t)
-            (entry_at trail script journal k so_far.script so_far.journal so_far.followed entry)
+            (entry_at follower script journal k so_far.script so_far.journal so_far.followed entry)
             ∙ sym (line_more script (before journal k) entry begun)
             ∙ sym (ap (entry_lines script) more)
         | else-has_begun w ↦
-            let early = not_begun_at trail script journal k so_far.script so_far.journal so_far.followed
+            let early = not_begun_at follower script journal k so_far.script so_far.journal so_far.followed
             (λ ge. false≢true (sym w.if-has_begun.false ∙ c.has_begun.ensures.1 ge)) in
             ap (λ (r : String Global). string_bytes r) w.report-is ∙ so_far.text
             ∙ sym (no_line script (before journal k) entry early) ∙ sym (ap (entry_lines script) more)

@@ -5,8 +5,8 @@ use Rattle.cml_script.proofs.report.write_entries.Given as goal
 
 abbrev pub invariant-loop-entry : goal.invariant-loop-entry
 invariant-loop-entry l = record {
-  script : l.trail.script ≡ l.fn.trail.script;
-  journal : l.trail.journal ≡ l.journal;
-  followed : l.trail.followed ≡ l.entry-index;
-  text : string_bytes l.report ≡ entry_lines l.fn.trail.script (before l.journal l.entry-index);
+  script : l.follower.script ≡ l.fn.follower.script;
+  journal : l.follower.journal ≡ l.journal;
+  followed : l.follower.followed ≡ l.entry-index;
+  text : string_bytes l.report ≡ entry_lines l.fn.follower.script (before l.journal l.entry-index);
 }

@@ -10,9 +10,9 @@ use Rattle.cml_script.proofs.report.write_objects.Goals as goal
 
 pub loop-at-preserved : goal.loop-at-preserved
 loop-at-preserved c =
-    let script = c.args.scene.now.script in
-    let history = c.args.scene.now.history in
-    let tally = c.args.scene.now.tally in
+    let script = c.args.snapshot.now.script in
+    let history = c.args.snapshot.now.history in
+    let tally = c.args.snapshot.now.tally in
     let at = c.loop-at.at in
     let names = c.names-names.ensures.names ∙ ap names_of c.script.ensures in
     let entry = sym c.get_index.ensures.entry ∙ ap (option_map (λ p. (p.0.now, p.1.now))) c.unwrap.ensures in

@@ -5,5 +5,6 @@ use Rattle.cml_script.proofs.report.write_objects.Given as goal
 
 abbrev pub invariant-loop-at : goal.invariant-loop-at
 invariant-loop-at l =
-    string_bytes l.report ++ object_lines_from l.scene.script l.scene.history l.scene.tally l.at (drop l.at (names_of l.scene.script))
-    ≡ string_bytes l.fn.report ++ object_lines_from l.scene.script l.scene.history l.scene.tally 0 (names_of l.scene.script)
+    string_bytes l.report ++ object_lines_from l.snapshot.script l.snapshot.history l.snapshot.tally l.at
+    (drop l.at (names_of l.snapshot.script))
+    ≡ string_bytes l.fn.report ++ object_lines_from l.snapshot.script l.snapshot.history l.snapshot.tally 0 (names_of l.snapshot.script)

@@ -8,13 +8,15 @@ use Rattle.cml_script.proofs.running.concluding.takes_what_was_got.Goals as goal
 
 pub loop-at-preserved : goal.loop-at-preserved
 loop-at-preserved c =
-    one_more (IsTakenAt c.args.plan.now c.args.board.now.history c.args.tally.now) c.loop-at.at c.loop-at.invariant
+    let ran = c.args.ran.now in
+    one_more (IsTakenAt ran.plan.now ran.board.now.history ran.tally.now) c.loop-at.at c.loop-at.invariant
     (c.if-not-is_taken.ensures.0 refl)
 
 pub returns-then-not-is_taken : goal.returns-then-not-is_taken
 returns-then-not-is_taken c =
     let declarations = rw c.script.ensures at c.declarations-at-end.ensures in
-    let within : c.loop-at.at < length c.args.plan.now.declarations = omega (
+    let within : c.loop-at.at < length c.args.ran.now.plan.now.declarations =
+    omega (
       arith,
       c.loop-at-test.true,
       ap length declarations.lines,

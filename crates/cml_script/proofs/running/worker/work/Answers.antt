@@ -34,31 +34,22 @@ returns-then-not-before-clause-works g c =
     (g.C.Caller.made c.close-then-not-before.new.caller)
     (turn_at script seat c.loop-nth.nth c.in-Some.step next) c.close-then-not-before.ensures.ends
 
-pub perform-requires-clause-turn : goal.perform-requires-clause-turn
-perform-requires-clause-turn g c = turn_at c.args.plan.now (c.args.thread + 1) c.loop-nth.nth c.in-Some.step (sym c.in-Some.ensures)
-
-pub perform-requires-clause-room : goal.perform-requires-clause-room
-perform-requires-clause-room g c =
+pub perform-requires-clause-at : goal.perform-requires-clause-at
+perform-requires-clause-at g c =
     let script = c.args.plan.now in
     let seat = c.args.thread + 1 in
-    let few = under_way_few script seat c.loop-nth.invariant.way.place c.loop-nth.invariant.way.way in
+    let nth = c.loop-nth.nth in
+    let next = sym c.in-Some.ensures in
+    let way = c.loop-nth.invariant.way in
+    let few = under_way_few script seat way.place way.way in
     let steps = rw c.script.ensures at c.steps-nth-end.ensures in
-    omega (
-      arith,
-      few,
-      c.declared.ensures.count,
-      c.declared.ensures.few,
-      steps.few,
-      ap length steps.lines,
-      length-map c.steps-nth-end.result.now (λ (x : Step). source_of x.line),
-    )
-
-pub perform-requires-clause-way : goal.perform-requires-clause-way
-perform-requires-clause-way g c =
-    let script = c.args.plan.now in
-    let seat = c.args.thread + 1 in
-    under_way_at script seat c.loop-nth.nth c.loop-nth.invariant.way c.in-Some.step
-    (turns_before script seat c.loop-nth.nth c.in-Some.step (sym c.in-Some.ensures))
+    let long = length-map c.steps-nth-end.result.now (λ (x : Step). source_of x.line) in
+    record {
+      known = c.declared.ensures.known;
+      own = turn_at script seat nth c.in-Some.step next;
+      room = omega (arith, few, c.declared.ensures.count, c.declared.ensures.few, steps.few, ap length steps.lines, long);
+      way = under_way_at script seat nth way c.in-Some.step (turns_before script seat nth c.in-Some.step next);
+    }
 
 pub returns-in-Err-clause-open : goal.returns-in-Err-clause-open
 returns-in-Err-clause-open g c = λ opens. subst IsUnheld (sym c.stop_of.ensures) (stop_unheld c.in-Err.refusal)

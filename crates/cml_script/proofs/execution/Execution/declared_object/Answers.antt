@@ -1,0 +1,14 @@
+use Rattle.std.proofs.Common.{◌∙◌, ap, take}
+use Rattle.cml_script.specs.{how_many, is_object, Executed}
+use Rattle.cml_script.proofs.StandLemmas.{stands_at, declared_kind, declared_is}
+use Rattle.cml_script.proofs.GivingLemmas.{follows_own}
+use Rattle.cml_script.proofs.execution.Execution.declared_object.Goals as goal
+
+pub returns-clause-kind : goal.returns-clause-kind
+returns-clause-kind c = λ k is.
+    let number =
+    c.number.ensures ∙ ap (λ (p : Executed). how_many (is_object p.script) (take c.args.at p.script.declarations)) c.self.view_is in
+    let stands = stands_at c.self.view_is c.self.invariant.0 in
+    declared_kind c.args.self.now.script c.args.self.now.history stands.known.named c.args.at c.number.result.0 k
+    (follows_own _ _ stands.follows) stands.lawful c.requires.within
+    (declared_is c.args.self.now.script c.args.self.now.history c.args.at c.number.result.0 number c.requires.made) is
