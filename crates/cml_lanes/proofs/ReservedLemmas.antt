@@ -167,40 +167,29 @@ module _ {M : Type 0} where
       (lasts_all chunk sure calls old new run keeps)
 
   -- nor does want of memory stop a lane or a feed
-  pub lane_served : (chunk : ℕ) (sure : Bool) (old : Shown M) (new after : FloorShown M) (lane count : ℕ) → Lasts old new.board
-      → added_since old after.board < old.reserved → LaneTakesEntryAlone chunk sure after lane
-      → ¬ (HoldsUp chunk sure lane count new after NoMemory)
-  lane_served chunk sure old new after lane count lasts fewer takes = λ held.
-      let to = held.place.to in
-      let stops = held.place.does.stops in
-      let stays : slice_get after.lanes lane ≡ Some (Some to) = ap (λ slots. slice_get slots lane) held.place.places
-      ∙ slice_get-set_same new.lanes lane (Some held.place.from) (Some to) held.place.opened in
-      let now = lasts_on old new.board stops.at lasts (lasts_moved lane count new.board stops.at held.place.does.looked to stops.moves) in
-      stops.refused.3 (spared chunk sure old stops.at after.board (way_call to.way to.target stops.message) now stops.after.history fewer
-      (takes to stops.message stays stops.next))
-
   pub lanes_served : (chunk : ℕ) (sure : Bool) (calls : List (FloorCall M)) (old new after : FloorShown M) (lane count : ℕ)
       → AreCalled chunk sure calls old new → keeps_journal calls ≡ true
       → added_since old.board after.board < old.board.reserved → LaneTakesEntryAlone chunk sure after lane
       → ¬ (HoldsUp chunk sure lane count new after NoMemory)
-  lanes_served chunk sure calls old new after lane count run keeps =
-      lane_served chunk sure old.board new after lane count (lasts_all chunk sure calls old new run keeps)
-
-  pub feed_served : (chunk : ℕ) (sure : Bool) (old : Shown M) (new after : FloorShown M) (feed count : ℕ) → Lasts old new.board
-      → added_since old after.board < old.reserved → FeedTakesEntryAlone chunk sure after feed
-      → ¬ (Starves chunk sure feed count new after NoMemory)
-  feed_served chunk sure old new after feed count lasts fewer takes = λ starved.
-      let to = starved.place.to in
-      let balks = starved.place.does.balks in
-      let stays : slice_get after.feeds feed ≡ Some (Some to) = ap (λ slots. slice_get slots feed) starved.place.places
-      ∙ slice_get-set_same new.feeds feed (Some starved.place.from) (Some to) starved.place.opened in
-      let now =
-      lasts_on old new.board balks.at lasts (lasts_pumped feed count new.board balks.at starved.place.does.looked to balks.pumps) in
-      balks.refused.3 (spared chunk sure old balks.at after.board (Recv to.port) now balks.after.history fewer (takes to stays))
+  lanes_served chunk sure calls old new after lane count run keeps fewer takes = λ held.
+      let to = held.place.to in
+      let stops = held.place.does.stops in
+      let stays : slice_get after.lanes lane ≡ Some (Some to) = ap (λ slots. slice_get slots lane) held.place.places
+      ∙ slice_get-set_same new.lanes lane (Some held.place.from) (Some to) held.place.opened in
+      let now = lasts_on old.board new.board stops.at (lasts_all chunk sure calls old new run keeps)
+      (lasts_moved lane count new.board stops.at held.place.does.looked to stops.moves) in
+      stops.refused.3 (spared chunk sure old.board stops.at after.board (way_call to.way to.target stops.message) now stops.after.history
+      fewer (takes to stops.message stays stops.next))
 
   pub feeds_served : (chunk : ℕ) (sure : Bool) (calls : List (FloorCall M)) (old new after : FloorShown M) (feed count : ℕ)
       → AreCalled chunk sure calls old new → keeps_journal calls ≡ true
       → added_since old.board after.board < old.board.reserved → FeedTakesEntryAlone chunk sure after feed
       → ¬ (Starves chunk sure feed count new after NoMemory)
-  feeds_served chunk sure calls old new after feed count run keeps =
-      feed_served chunk sure old.board new after feed count (lasts_all chunk sure calls old new run keeps)
+  feeds_served chunk sure calls old new after feed count run keeps fewer takes = λ starved.
+      let to = starved.place.to in
+      let balks = starved.place.does.balks in
+      let stays : slice_get after.feeds feed ≡ Some (Some to) = ap (λ slots. slice_get slots feed) starved.place.places
+      ∙ slice_get-set_same new.feeds feed (Some starved.place.from) (Some to) starved.place.opened in
+      let now = lasts_on old.board new.board balks.at (lasts_all chunk sure calls old new run keeps)
+      (lasts_pumped feed count new.board balks.at starved.place.does.looked to balks.pumps) in
+      balks.refused.3 (spared chunk sure old.board balks.at after.board (Recv to.port) now balks.after.history fewer (takes to stays))
