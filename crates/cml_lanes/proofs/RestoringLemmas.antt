@@ -57,27 +57,6 @@ module _ {M : Type 0} where
       fed_other entry before number (another_feed entry.who number (omega (arith, past)))
       ∙ none_fed_behind before number (omega (arith, past))
 
-  pub keeps_closed_lanes : (history : List (Entry M)) (lanes : List (Option (LaneSide M))) (count : ℕ)
-      → lanes ≡ replicate count None → count ≡ lanes_of history
-      → KeepsLanes history lanes
-  keeps_closed_lanes history lanes count closed all =
-      subst (λ ls. KeepsLanes history ls) (sym closed) (record {
-        lane = λ number side found. absurd (none_there count number side found);
-        no_lane =
-            λ number past. none_laned history number (omega (arith, past, all, length-replicate {A = Option (LaneSide M)} count None));
-      })
-
-  pub keeps_closed_feeds : (history : List (Entry M)) (feeds : List (Option (FeedSide M))) (count : ℕ)
-      → feeds ≡ replicate count None → count ≡ feeds_of history
-      → KeepsFeeds history feeds
-  keeps_closed_feeds history feeds count closed all =
-      subst (λ fs. KeepsFeeds history fs) (sym closed) (record {
-        feed = λ number side found. absurd (none_there count number side found);
-        no_feed =
-            λ number past. none_fed_behind history number (omega (arith, past, all, length-replicate {A = Option (FeedSide M)} count None));
-        apart = λ one two a b first second ports. absurd (none_there count one a first);
-      })
-
   pub closed_ports : (ports : List ℕ) (feeds : List (Option (FeedSide M))) (count : ℕ) → ports ≡ []
       → feeds ≡ replicate count None → HasPorts ports feeds
   closed_ports ports feeds count none closed =
@@ -93,7 +72,18 @@ module _ {M : Type 0} where
       → feeds ≡ replicate makers.feeds None → makers.feeds < 2 ^ 64 - 1
       → KeepsLanes board.history lanes × KeepsFeeds board.history feeds
   restored_keeps board was makers lanes feeds same are no_lanes few_lanes no_feeds few_feeds =
+      let all_lanes = exact (lanes_of was.history) makers.lanes are.lanes few_lanes in
+      let all_feeds = exact (feeds_of was.history) makers.feeds are.feeds few_feeds in
       subst (λ (b : Shown M). KeepsLanes b.history lanes × KeepsFeeds b.history feeds) (sym same) (
-        keeps_closed_lanes was.history lanes makers.lanes no_lanes (exact (lanes_of was.history) makers.lanes are.lanes few_lanes),
-        keeps_closed_feeds was.history feeds makers.feeds no_feeds (exact (feeds_of was.history) makers.feeds are.feeds few_feeds),
+        subst (λ ls. KeepsLanes was.history ls) (sym no_lanes) (record {
+          lane = λ number side found. absurd (none_there makers.lanes number side found);
+          no_lane = λ number past. none_laned was.history number
+              (omega (arith, past, all_lanes, length-replicate {A = Option (LaneSide M)} makers.lanes None));
+        }),
+        subst (λ fs. KeepsFeeds was.history fs) (sym no_feeds) (record {
+          feed = λ number side found. absurd (none_there makers.feeds number side found);
+          no_feed = λ number past. none_fed_behind was.history number
+              (omega (arith, past, all_feeds, length-replicate {A = Option (FeedSide M)} makers.feeds None));
+          apart = λ one two a b first second ports. absurd (none_there makers.feeds one a first);
+        }),
       )
