@@ -37,14 +37,12 @@ module _ {M : Type 0} where
 
   -- what is done to the place is done to the feed
   pub on_feed : {lanes : List (Option (LaneSide M))} (left : FeedSide M → Option (FeedSide M)) (number : ℕ) (board after : Shown M)
-      (feeds news : List (Option (FeedSide M))) (old : FloorShown M)
-      (Does : Shown M → FeedSide M → FeedSide M → Type 0) → record { board = board; lanes = lanes; feeds = feeds } ≡ old
-      → OnPlace left number feeds news (Does board)
+      (feeds news : List (Option (FeedSide M))) (old : FloorShown M) (Does : Shown M → FeedSide M → FeedSide M → Type 0)
+      → record { board = board; lanes = lanes; feeds = feeds } ≡ old → OnPlace left number feeds news (Does board)
       → OnFeed left number old (record { board = after; lanes = lanes; feeds = news }) (Does old.board)
   on_feed {lanes} left number board after feeds news old Does view on =
-      let all : OnFeed left number (record { board = board; lanes = lanes; feeds = feeds })
-      (record { board = after; lanes = lanes; feeds = news }) (Does board) = record { place = on; lanes = refl } in
-      subst (λ (f : FloorShown M). OnFeed left number f (record { board = after; lanes = lanes; feeds = news }) (Does f.board)) view all
+      subst (λ (f : FloorShown M). OnFeed left number f (record { board = after; lanes = lanes; feeds = news }) (Does f.board)) view
+      (record { place = on; lanes = refl })
 
   -- and keeps the rings
   pub pumped_rings : (chunk : ℕ) (sure : Bool) (number count : ℕ) (stopped : Option Refusal) (old new : FloorShown M)

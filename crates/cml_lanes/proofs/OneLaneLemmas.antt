@@ -30,14 +30,12 @@ module _ {M : Type 0} where
 
   -- what is done to the place is done to the lane
   pub on_lane : {feeds : List (Option (FeedSide M))} (left : LaneSide M → Option (LaneSide M)) (number : ℕ) (board after : Shown M)
-      (lanes news : List (Option (LaneSide M))) (old : FloorShown M)
-      (Does : Shown M → LaneSide M → LaneSide M → Type 0) → record { board = board; lanes = lanes; feeds = feeds } ≡ old
-      → OnPlace left number lanes news (Does board)
+      (lanes news : List (Option (LaneSide M))) (old : FloorShown M) (Does : Shown M → LaneSide M → LaneSide M → Type 0)
+      → record { board = board; lanes = lanes; feeds = feeds } ≡ old → OnPlace left number lanes news (Does board)
       → OnLane left number old (record { board = after; lanes = news; feeds = feeds }) (Does old.board)
   on_lane {feeds} left number board after lanes news old Does view on =
-      let all : OnLane left number (record { board = board; lanes = lanes; feeds = feeds })
-      (record { board = after; lanes = news; feeds = feeds }) (Does board) = record { place = on; feeds = refl } in
-      subst (λ (f : FloorShown M). OnLane left number f (record { board = after; lanes = news; feeds = feeds }) (Does f.board)) view all
+      subst (λ (f : FloorShown M). OnLane left number f (record { board = after; lanes = news; feeds = feeds }) (Does f.board)) view
+      (record { place = on; feeds = refl })
 
   -- and keeps the rings
   same_ring : (number count : ℕ) (old new : Shown M) (from to : LaneSide M) → DrainsRing number count old new from to → to.ring ≡ from.ring
@@ -70,37 +68,40 @@ module _ {M : Type 0} where
   gives_all number after news feeds end keeps all =
       λ side found. ap (λ ms. ms ++ side.seen) (keeps.lane number side found).laned ∙ all side found
 
-  -- all that was seen went, and then the lane was let go
-  pub empties_off : (number lane count : ℕ) (old mid new : FloorShown M) → number ≡ lane → EmptiesLane stays number count old mid
-      → new ≡ record mid { lanes = slice_set mid.lanes number None } → EmptiesLane goes lane count old new
-  empties_off number lane count old mid new same on gone = subst (λ n. EmptiesLane goes n count old new) same (record {
-    place = record {
-      from = on.place.from;
-      to = on.place.to;
-      opened = on.place.opened;
-      places = ap (λ (f : FloorShown M). f.lanes) gone ∙ ap (λ ls. slice_set ls number None) on.place.places
-          ∙ set_again old.lanes number (Some on.place.to) None;
-      does = subst (λ (b : Shown M). Empties number count old.board b on.place.from on.place.to)
-          (sym (ap (λ (f : FloorShown M). f.board) gone)) on.place.does;
-    };
-    feeds = ap (λ (f : FloorShown M). f.feeds) gone ∙ on.feeds;
-  })
-
-  pub all_stands : (number lane count : ℕ) (old mid new : FloorShown M) (end : Ended M) → number ≡ lane
-      → EmptiesLane stays number count old mid
-      → GivesAll number mid end → new ≡ record mid { lanes = slice_set mid.lanes number None } → laned new.board.history lane ≡ end.sent
-  all_stands number lane count old mid new end same on gives gone =
-      let here : slice_get mid.lanes number ≡ Some (Some on.place.to) =
-      ap (λ ls. slice_get ls number) on.place.places
-      ∙ slice_get-set_same old.lanes number (Some on.place.from) (Some on.place.to) on.place.opened in
-      ap (laned new.board.history) (sym same) ∙ ap (λ (f : FloorShown M). laned f.board.history number) gone
-      ∙ sym (append-nil (laned mid.board.history number))
-      ∙ ap (λ ms. laned mid.board.history number ++ ms) (sym on.place.does.none) ∙ gives on.place.to here
-
   -- where none was refused
-  pub until_none : (chunk : ℕ) (sure : Bool) (number count : ℕ) (old new : FloorShown M) (stopped : Option Refusal)
-      → is_some stopped ≡ false
+  until_none : (chunk : ℕ) (sure : Bool) (number count : ℕ) (old new : FloorShown M) (stopped : Option Refusal) → is_some stopped ≡ false
       → OnLane stays number old new (DrainsUntil chunk sure number count stopped old.board new.board)
       → EmptiesLane stays number count old new
   until_none chunk sure number count old new None is on = on
   until_none chunk sure number count old new (Some refusal) is on = absurd (true≢false is)
+
+  -- all that was seen went, and then the lane was let go
+  module _ (chunk : ℕ) (sure : Bool) (number lane count : ℕ) (old mid new : FloorShown M) (stopped : Option Refusal)
+      (same : number ≡ lane) (none : is_some stopped ≡ false)
+      (until : OnLane stays number old mid (DrainsUntil chunk sure number count stopped old.board mid.board))
+      (gone : new ≡ record mid { lanes = slice_set mid.lanes number None }) where
+    on : EmptiesLane stays number count old mid
+    on = until_none chunk sure number count old mid stopped none until
+
+    pub empties_off : EmptiesLane goes lane count old new
+    empties_off = subst (λ n. EmptiesLane goes n count old new) same (record {
+      place = record {
+        from = on.place.from;
+        to = on.place.to;
+        opened = on.place.opened;
+        places = ap (λ (f : FloorShown M). f.lanes) gone ∙ ap (λ ls. slice_set ls number None) on.place.places
+            ∙ set_again old.lanes number (Some on.place.to) None;
+        does = subst (λ (b : Shown M). Empties number count old.board b on.place.from on.place.to)
+            (sym (ap (λ (f : FloorShown M). f.board) gone)) on.place.does;
+      };
+      feeds = ap (λ (f : FloorShown M). f.feeds) gone ∙ on.feeds;
+    })
+
+    pub all_stands : (end : Ended M) → GivesAll number mid end → laned new.board.history lane ≡ end.sent
+    all_stands end gives =
+        let here : slice_get mid.lanes number ≡ Some (Some on.place.to) =
+        ap (λ ls. slice_get ls number) on.place.places
+        ∙ slice_get-set_same old.lanes number (Some on.place.from) (Some on.place.to) on.place.opened in
+        ap (laned new.board.history) (sym same) ∙ ap (λ (f : FloorShown M). laned f.board.history number) gone
+        ∙ sym (append-nil (laned mid.board.history number))
+        ∙ ap (λ ms. laned mid.board.history number ++ ms) (sym on.place.does.none) ∙ gives on.place.to here
