@@ -174,7 +174,7 @@ fn follow_all<M: Message, L: MessageLog<M>>(
 }
 
 /// Makes an entry's call again. If the answer differs, returns what the board did with the call.
-#[tactic(auto, using(crate::proofs::NumberingLemmas::makers_with, crate::proofs::Numbering::rings_within))]
+#[tactic(auto, using(crate::proofs::NumberingLemmas::makers_with, crate::proofs::NumberingLemmas::rings_within))]
 fn follow<M: Message, L: MessageLog<M>>(
     alloc: Global,
     board: &mut Board<M, L>,

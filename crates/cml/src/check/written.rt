@@ -29,7 +29,7 @@ pub fn check<S: Wait, R: Read, W: Write>(
 }
 
 /// Writes a verdict, if this is one.
-#[tactic(auto, using(crate::proofs::EndingsLemmas::writes_line, crate::proofs::Telling::writes_nothing))]
+#[tactic(auto, using(crate::proofs::EndingsLemmas::writes_line, crate::proofs::EndingsLemmas::writes_nothing))]
 fn tell<W: Write>(alloc: Global, writer: &mut W, ending: &Ending) -> Result<(), Ending>
     ensures written { OnOk result (Writes ending.now (W.contents writer.old) (W.contents writer.new)) }
     ensures unwritten { IfErr result (λ why. IsSilent why × Writes why (W.contents writer.old) (W.contents writer.new)) }
