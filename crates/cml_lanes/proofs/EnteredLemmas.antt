@@ -1,8 +1,9 @@
 -- What an entry for each message does to a history, by what each of them does.
-use Rattle.std.proofs.Common.{◌≡◌, ℕ, ◌+◌, ◌≤◌, List, [], ◌∷◌, ◌++◌, length, refl, sym, ap, ◌∙◌, append_assoc, arith}
+use Rattle.std.proofs.Common.{◌≡◌, ℕ, ◌+◌, ◌≤◌, List, [], ◌∷◌, ◌++◌, length, refl, sym, ap, ◌∙◌, append_assoc, arith, length-append}
 use Rattle.std.proofs.lemmas.List.{append-nil}
-use Rattle.cml_board.specs.{Entry}
-use Rattle.cml_lanes.specs.{with_entries}
+use Rattle.cml_board.specs.{Entry, IsAsBefore}
+use Rattle.cml_board.specs.Shown.{Shown}
+use Rattle.cml_lanes.specs.{with_entries, Enters}
 
 module _ {M : Type 0} (entry : M → Entry M) where
   -- what none of them changes stays
@@ -42,6 +43,32 @@ module _ {M : Type 0} (entry : M → Entry M) where
       → with_entries entry (messages ++ more) history ≡ with_entries entry more (with_entries entry messages history)
   with_more [] more history = refl
   with_more (message ∷ messages) more history = with_more messages more (entry message ∷ history)
+
+  -- none were entered
+  pub none_entered : (board : Shown M) → Enters entry [] 0 board board
+  none_entered board = record { as_many = refl; history = refl; past = refl; limit = refl; reserved = omega arith }
+
+  -- some were entered, and then more
+  pub enters_more : {messages later : List M} {count more total : ℕ} {old mid new : Shown M} → count + more ≡ total
+      → Enters entry messages count old mid → Enters entry later more mid new → Enters entry (messages ++ later) total old new
+  enters_more {messages} {later} {old = old} sum a b = record {
+    as_many = omega (arith, length-append messages later, a.as_many, b.as_many, sum);
+    history = b.history ∙ ap (with_entries entry later) a.history ∙ sym (with_more messages later old.history);
+    past = b.past ∙ a.past;
+    limit = b.limit ∙ a.limit;
+    reserved = omega (arith, a.reserved, b.reserved, sum);
+  }
+
+  -- and then nothing was
+  pub enters_before : {messages : List M} {count : ℕ} {old at new : Shown M} → Enters entry messages count old at → IsAsBefore at new
+      → Enters entry messages count old new
+  enters_before a after = record {
+    as_many = a.as_many;
+    history = after.history ∙ a.history;
+    past = after.past ∙ a.past;
+    limit = after.limit ∙ a.limit;
+    reserved = omega (arith, a.reserved, after.reserved);
+  }
 
   -- the newest entry is that of the last message
   pub newest : (message : M) (messages : List M) (history : List (Entry M))

@@ -1,6 +1,6 @@
 -- Moves of messages, one after another.
-use Rattle.std.proofs.Common.{◌≡◌, ℕ, ◌+◌, ◌<◌, Bool, false, List, [], ◌∷◌, ◌++◌, length, slice_get, Option, Some, None, IfNone}
-use Rattle.std.proofs.Common.{is_some, subst, refl, sym, ap, ◌∙◌, arith, length-append, append_assoc}
+use Rattle.std.proofs.Common.{◌≡◌, ℕ, ◌+◌, ◌<◌, Bool, false, List, [], ◌∷◌, ◌++◌, length, slice_get, Option, Some, None, IfNone, is_some}
+use Rattle.std.proofs.Common.{subst, refl, sym, ap, ◌∙◌, arith, append_assoc}
 use Rattle.std.proofs.lemmas.Option.{same_Some, none-some}
 use Rattle.std.proofs.lemmas.List.{append-nil}
 use Rattle.std.proofs.lemmas.Bool.{true≢false}
@@ -10,9 +10,9 @@ use Rattle.cml_board.specs.declared.entry.Who.TheVariants.{Lane}
 use Rattle.cml_board.specs.declared.entry.Reply.TheVariants.{Done}
 use Rattle.cml_board.specs.declared.outcome.Refusal.TheVariants.{Gone, Busy, NoSuch, WrongKind, JournalFull, Stalled, NoMemory, Unseen}
 use Rattle.cml_board.proofs.SparingLemmas.{call_takes}
-use Rattle.cml_lanes.specs.{LaneSide, way_call, way_kind, laned, lane_entry, with_lane, IsLimit, KeepsLane, MovesOut, Stops, DrainsRing}
+use Rattle.cml_lanes.specs.{LaneSide, way_call, way_kind, laned, lane_entry, Enters, IsLimit, KeepsLane, MovesOut, Stops, DrainsRing}
 use Rattle.cml_lanes.specs.{DrainsUntil}
-use Rattle.cml_lanes.proofs.EnteredLemmas.{with_more}
+use Rattle.cml_lanes.proofs.EnteredLemmas.{none_entered, enters_more, enters_before}
 use Rattle.cml_lanes.proofs.LaningLemmas.{laned_more, kind_more, fits_way, answer_way, way_has_message}
 
 -- what holds where there is no value holds where none is
@@ -35,11 +35,7 @@ module _ {M : Type 0} where
   pub none_move : (number : ℕ) (board : Shown M) (side : LaneSide M) → MovesOut number 0 board board side side
   none_move number board side = record {
     moved = [];
-    as_many = refl;
-    history = refl;
-    past = refl;
-    limit = refl;
-    reserved = omega arith;
+    entered = none_entered (lane_entry number side.way side.target) board;
     side = ap (λ received. record side { received = received }) (sym (append-nil side.received));
     seen = refl;
   }
@@ -56,13 +52,15 @@ module _ {M : Type 0} where
       same_Some _ _ (sym answers ∙ ap (answer old.history) call_is ∙ answer_way old.history from.way from.target message) in
       record {
         moved = taken ∷ [];
-        as_many = refl;
-        history = adds.history ∙ ap (λ c. record { who = Lane number; call = c; reply = reply } ∷ old.history) call_is
-            ∙ ap (λ r. record { who = Lane number; call = way_call from.way from.target message; reply = r } ∷ old.history) replied
-            ∙ ap (λ m. lane_entry number from.way from.target m ∷ old.history) same;
-        past = adds.past;
-        limit = adds.limit;
-        reserved = adds.reserved;
+        entered = record {
+          as_many = refl;
+          history = adds.history ∙ ap (λ c. record { who = Lane number; call = c; reply = reply } ∷ old.history) call_is
+              ∙ ap (λ r. record { who = Lane number; call = way_call from.way from.target message; reply = r } ∷ old.history) replied
+              ∙ ap (λ m. lane_entry number from.way from.target m ∷ old.history) same;
+          past = adds.past;
+          limit = adds.limit;
+          reserved = adds.reserved;
+        };
         side = side;
         seen = seen;
       }
@@ -72,14 +70,8 @@ module _ {M : Type 0} where
       → MovesOut number count old mid from via → MovesOut number more mid new via to → MovesOut number total old new from to
   moves_more number count more total old mid new from via to sum a b = record {
     moved = a.moved ++ b.moved;
-    as_many = omega (arith, length-append a.moved b.moved, a.as_many, b.as_many, sum);
-    history = b.history
-        ∙ ap (λ (side : LaneSide M). with_lane number side.way side.target b.moved mid.history) a.side
-        ∙ ap (λ h. with_lane number from.way from.target b.moved h) a.history
-        ∙ sym (with_more (lane_entry number from.way from.target) a.moved b.moved old.history);
-    past = b.past ∙ a.past;
-    limit = b.limit ∙ a.limit;
-    reserved = omega (arith, a.reserved, b.reserved, sum);
+    entered = enters_more (lane_entry number from.way from.target) sum a.entered
+        (subst (λ (side : LaneSide M). Enters (lane_entry number side.way side.target) b.moved more mid new) a.side b.entered);
     side = b.side
         ∙ ap (λ (side : LaneSide M). record side { received = side.received ++ b.moved; seen = to.seen }) a.side
         ∙ ap (λ received. record from { received = received; seen = to.seen }) (append_assoc from.received a.moved b.moved);
@@ -158,23 +150,12 @@ module _ {M : Type 0} where
       (limit_refuses chunk sure old (way_call side.way side.target message) refusal
       (fits_way old.history side.way side.target message kind) refused) refused
 
-  -- so many went out until one was refused
-  pub stopped_moves : {chunk : ℕ} {sure : Bool} {number count : ℕ} {old new : Shown M} {from to : LaneSide M} {refusal : Refusal}
-      → Stops chunk sure number count old new from to refusal → MovesOut number count old new from to
-  stopped_moves {chunk} {sure} {number} {count} {old} {new} {from} {to} {refusal} s = record {
-    moved = s.moves.moved;
-    as_many = s.moves.as_many;
-    history = s.after.history ∙ s.moves.history;
-    past = s.after.past ∙ s.moves.past;
-    limit = s.after.limit ∙ s.moves.limit;
-    reserved = omega (arith, s.moves.reserved, s.after.reserved);
-    side = s.moves.side;
-    seen = s.moves.seen;
-  }
-
-  -- either way nothing else was done
+  -- until one was refused or not, nothing else was done
   pub until_drains : (chunk : ℕ) (sure : Bool) (number count : ℕ) (stopped : Option Refusal) (old new : Shown M) (from to : LaneSide M)
       → DrainsUntil chunk sure number count stopped old new from to → DrainsRing number count old new from to
   until_drains chunk sure number count None old new from to until = until.drains
   until_drains chunk sure number count (Some refusal) old new from to until =
-      record { looked = until.looked; looks = until.looks; moves = stopped_moves until.stops; most = omega (arith, until.fewer) }
+      let m = until.stops.moves in
+      let moves : MovesOut number count old new until.looked to =
+      record { moved = m.moved; entered = enters_before _ m.entered until.stops.after; side = m.side; seen = m.seen } in
+      record { looked = until.looked; looks = until.looks; moves = moves; most = omega (arith, until.fewer) }

@@ -1,16 +1,16 @@
 -- What is done to the slots of lanes, as what is done to the floor.
-use Rattle.std.proofs.Common.{◌≡◌, ℕ, Bool, true, false, List, ◌++◌, slice_get, slice_set, Option, Some, None, is_some}
-use Rattle.std.proofs.Common.{subst, refl, sym, ap, ◌∙◌}
+use Rattle.std.proofs.Common.{◌≡◌, ℕ, Bool, true, false, List, ◌++◌, slice_get, slice_set, Option, Some, None, is_some, subst, refl, sym}
+use Rattle.std.proofs.Common.{ap, ◌∙◌}
 use Rattle.std.proofs.lemmas.Option.{same_Some, none-some}
 use Rattle.std.proofs.lemmas.Bool.{true≢false}
 use Rattle.std.proofs.lemmas.List.{append-nil}
 use Rattle.cml_board.specs.{Refusal}
 use Rattle.cml_board.specs.Shown.{Shown}
-use Rattle.cml_board.proofs.ListLemmas.{slice_get-set_same}
 use Rattle.cml_lanes.specs.{Ended, LaneSide, FeedSide, laned, DrainsRing, Empties, FloorShown, is_taken, KeepsLanes, KeepsFeeds, KeepsRings}
 use Rattle.cml_lanes.specs.{GivesAll, stays, goes, OnPlace, OnLane, DrainsUntil, LeavesAll, EmptiesLane}
 use Rattle.cml_lanes.proofs.MovesLemmas.{until_drains}
 use Rattle.cml_lanes.proofs.SlotsLemmas.{taken_slot, set_again}
+use Rattle.cml_lanes.proofs.OneSlotLemmas.{stays_there}
 use Rattle.cml_lanes.proofs.EachRingLemmas.{lane_rings}
 use Rattle.cml_lanes.proofs.KeptLanesLemmas.{drain_keeps}
 use Rattle.cml_lanes.proofs.KeptFeedsLemmas.{drained_keeps_feeds}
@@ -99,9 +99,6 @@ module _ {M : Type 0} where
 
     pub all_stands : (end : Ended M) → GivesAll number mid end → laned new.board.history lane ≡ end.sent
     all_stands end gives =
-        let here : slice_get mid.lanes number ≡ Some (Some on.place.to) =
-        ap (λ ls. slice_get ls number) on.place.places
-        ∙ slice_get-set_same old.lanes number (Some on.place.from) (Some on.place.to) on.place.opened in
         ap (laned new.board.history) (sym same) ∙ ap (λ (f : FloorShown M). laned f.board.history number) gone
         ∙ sym (append-nil (laned mid.board.history number))
-        ∙ ap (λ ms. laned mid.board.history number ++ ms) (sym on.place.does.none) ∙ gives on.place.to here
+        ∙ ap (λ ms. laned mid.board.history number ++ ms) (sym on.place.does.none) ∙ gives on.place.to (stays_there on.place)

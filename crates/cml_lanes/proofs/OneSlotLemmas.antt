@@ -1,6 +1,6 @@
 -- What is done to one place of a list of slots, of lanes or of feeds.
-use Rattle.std.proofs.Common.{◌≡◌, ℕ, true, List, get_or, slice_get, slice_set, Option, Some, is_some, count_by}
-use Rattle.std.proofs.Common.{IfSome, subst, sym, ap, ◌∙◌}
+use Rattle.std.proofs.Common.{◌≡◌, ℕ, true, List, get_or, slice_get, slice_set, Option, Some, is_some, count_by, IfSome, subst, sym, ap}
+use Rattle.std.proofs.Common.{◌∙◌}
 use Rattle.std.proofs.lemmas.Option.{same_Some}
 use Rattle.cml_board.proofs.ListLemmas.{slice_get-set_same}
 use Rattle.cml_lanes.specs.{is_taken, stays, OnPlace, OnSlot}
@@ -34,6 +34,12 @@ module _ {Side : Type 0} where
     places = ap (slice_set items number) on.stays ∙ ap (λ s. slice_set s number (Some on.to)) view;
     does = on.does;
   }
+
+  -- and stays there
+  pub stays_there : {number : ℕ} {old new : List (Option Side)} {Does : Side → Side → Type 0} (on : OnPlace stays number old new Does)
+      → slice_get new number ≡ Some (Some on.to)
+  stays_there {number} {old} on =
+      ap (λ slots. slice_get slots number) on.places ∙ slice_get-set_same old number (Some on.from) (Some on.to) on.opened
 
   -- who does this does that
   pub does_so : {left : Side → Option Side} {number : ℕ} {old new : List (Option Side)}

@@ -1,22 +1,18 @@
 -- Messages that are pumped, one after another.
-use Rattle.std.proofs.Common.{◌≡◌, ℕ, ◌+◌, [], ◌++◌, Bool, Option, Some, None, refl, sym, ap, ◌∙◌, arith, length-append, append_assoc}
+use Rattle.std.proofs.Common.{◌≡◌, ℕ, ◌+◌, [], ◌++◌, Bool, Option, Some, None, subst, sym, ap, ◌∙◌, arith, append_assoc}
 use Rattle.std.proofs.lemmas.List.{append-nil}
 use Rattle.cml_calls.specs.declared.kind.Kind.TheVariants.{Port}
 use Rattle.cml_board.specs.{Refusal, kind_of, is_open, got}
 use Rattle.cml_board.specs.Shown.{Shown}
-use Rattle.cml_lanes.specs.{feed_entry, FeedSide, fed, with_feed, KeepsFeed, PumpsIn, Balks, PumpsRing, PumpsUntil}
-use Rattle.cml_lanes.proofs.EnteredLemmas.{with_more}
+use Rattle.cml_lanes.specs.{feed_entry, FeedSide, fed, Enters, KeepsFeed, PumpsIn, PumpsRing, PumpsUntil}
+use Rattle.cml_lanes.proofs.EnteredLemmas.{none_entered, enters_more, enters_before}
 use Rattle.cml_lanes.proofs.FeedEntriesLemmas.{fed_more, got_more, kind_fed, open_fed}
 
 module _ {M : Type 0} where
   pub none_pumped : (number : ℕ) (board : Shown M) (side : FeedSide M) → PumpsIn number 0 board board side side
   none_pumped number board side = record {
     pumped = [];
-    as_many = refl;
-    history = refl;
-    past = refl;
-    limit = refl;
-    reserved = omega arith;
+    entered = none_entered (feed_entry number side.port) board;
     side = ap (λ pushed. record side { pushed = pushed; free = side.free }) (sym (append-nil side.pushed));
     free = omega arith;
   }
@@ -26,14 +22,8 @@ module _ {M : Type 0} where
       → PumpsIn number count old mid from via → PumpsIn number more mid new via to → PumpsIn number total old new from to
   pumps_more number count more total old mid new from via to sum a b = record {
     pumped = a.pumped ++ b.pumped;
-    as_many = omega (arith, length-append a.pumped b.pumped, a.as_many, b.as_many, sum);
-    history = b.history
-        ∙ ap (λ (side : FeedSide M). with_feed number side.port b.pumped mid.history) a.side
-        ∙ ap (λ h. with_feed number from.port b.pumped h) a.history
-        ∙ sym (with_more (feed_entry number from.port) a.pumped b.pumped old.history);
-    past = b.past ∙ a.past;
-    limit = b.limit ∙ a.limit;
-    reserved = omega (arith, a.reserved, b.reserved, sum);
+    entered = enters_more (feed_entry number from.port) sum a.entered
+        (subst (λ (side : FeedSide M). Enters (feed_entry number side.port) b.pumped more mid new) a.side b.entered);
     side = b.side
         ∙ ap (λ (side : FeedSide M). record side { pushed = side.pushed ++ b.pumped; free = to.free }) a.side
         ∙ ap (λ pushed. record from { pushed = pushed; free = to.free }) (append_assoc from.pushed a.pumped b.pumped);
@@ -57,24 +47,15 @@ module _ {M : Type 0} where
             ∙ open_fed number from.port p.pumped old.history from.port.0 ∙ keeps.opened;
       }
 
-  -- so many were pumped until one was refused
-  pub balked_pumps : {chunk : ℕ} {sure : Bool} {number count : ℕ} {old new : Shown M} {from to : FeedSide M} {refusal : Refusal}
-      → Balks chunk sure number count old new from to refusal → PumpsIn number count old new from to
-  balked_pumps {chunk} {sure} {number} {count} {old} {new} {from} {to} {refusal} b = record {
-    pumped = b.pumps.pumped;
-    as_many = b.pumps.as_many;
-    history = b.after.history ∙ b.pumps.history;
-    past = b.after.past ∙ b.pumps.past;
-    limit = b.after.limit ∙ b.pumps.limit;
-    reserved = omega (arith, b.pumps.reserved, b.after.reserved);
-    side = b.pumps.side;
-    free = b.pumps.free;
-  }
-
-  -- either way nothing else was done
+  -- until one was refused or not, nothing else was done
   pub until_pumps : (chunk : ℕ) (sure : Bool) (number count : ℕ) (stopped : Option Refusal) (old new : Shown M) (from to : FeedSide M)
       → PumpsUntil chunk sure number count stopped old new from to → PumpsRing number count old new from to
   until_pumps chunk sure number count None old new from to until =
       record { looked = until.looked; looks = until.looks; pumps = until.pumps }
   until_pumps chunk sure number count (Some refusal) old new from to until =
-      record { looked = until.looked; looks = until.looks; pumps = balked_pumps until.balks }
+      let p = until.balks.pumps in
+      record {
+        looked = until.looked;
+        looks = until.looks;
+        pumps = record { pumped = p.pumped; entered = enters_before _ p.entered until.balks.after; side = p.side; free = p.free };
+      }

@@ -1,23 +1,23 @@
 -- What was reserved lasts over a run of a floor's calls.
-use Rattle.std.proofs.Common.{◌≡◌, ℕ, ◌+◌, ◌<◌, ◌≤◌, Bool, true, false, List, [], ◌∷◌, length, slice_get, Some, refl}
-use Rattle.std.proofs.Common.{subst, ap, ◌∙◌, arith, not, Result, Ok, Err}
+use Rattle.std.proofs.Common.{◌≡◌, ℕ, ◌+◌, ◌<◌, ◌≤◌, Bool, true, false, List, [], ◌∷◌, length, refl, subst, ap, ◌∙◌, arith, not, Result, Ok}
+use Rattle.std.proofs.Common.{Err}
 use Rattle.std.specs.Prelude.{⊤}
 use Rattle.std.proofs.lemmas.Bool.{and_parts, false≢true}
-use Rattle.cml_board.specs.{Call, Name, Entry, Who, Refusal, entries_in, IsSpared, IsAsBefore, Applies}
+use Rattle.cml_board.specs.{Call, Entry, Who, Refusal, entries_in, IsSpared, IsAsBefore, Applies}
 use Rattle.cml_board.specs.declared.outcome.Outcome.{Outcome}
 use Rattle.cml_board.specs.Shown.{Shown}
 use Rattle.cml_board.specs.declared.call.Call.TheVariants.{Recv}
 use Rattle.cml_board.specs.declared.outcome.Outcome.TheVariants.{Answered, WouldWait, Refused}
 use Rattle.cml_board.specs.declared.outcome.Refusal.TheVariants.{NoMemory}
-use Rattle.cml_board.proofs.ListLemmas.{slice_get-set_same}
-use Rattle.cml_lanes.specs.{Way, LaneSide, FeedSide, way_call, lane_entry, with_entries, feed_entry, MovesOut, PumpsIn, FloorShown}
-use Rattle.cml_lanes.specs.{is_barred, HoldsUp, Starves, added_since, TakesEntryAlone, LaneTakesEntryAlone, FeedTakesEntryAlone, CutsAFloor}
-use Rattle.cml_lanes.specs.{FloorCall, Apply, Reserve, OpenLane, Drain, CloseLane, CloseCounted, DropLane, AbandonLane, OpenFeed, Pump}
-use Rattle.cml_lanes.specs.{EndFeed, Cut, TakeJournal, AppliesSeat, IsCalled, AreCalled, takes_journal, keeps_journal, Deed, as_it_was}
-use Rattle.cml_lanes.specs.{lane_drained, lane_gone, lane_opened, feed_pumped, feed_gone, feed_opened}
+use Rattle.cml_lanes.specs.{way_call, with_entries, Enters, FloorShown, is_barred, HoldsUp, Starves, added_since, TakesEntryAlone}
+use Rattle.cml_lanes.specs.{LaneTakesEntryAlone, FeedTakesEntryAlone, CutsAFloor, FloorCall, Apply, Reserve, OpenLane, Drain, CloseLane}
+use Rattle.cml_lanes.specs.{CloseCounted, DropLane, AbandonLane, OpenFeed, Pump, EndFeed, Cut, TakeJournal, AppliesSeat, IsCalled}
+use Rattle.cml_lanes.specs.{AreCalled, takes_journal, keeps_journal, Deed, as_it_was, lane_drained, lane_gone, lane_opened, feed_pumped}
+use Rattle.cml_lanes.specs.{feed_gone, feed_opened}
+use Rattle.cml_lanes.proofs.OneSlotLemmas.{stays_there}
 use Rattle.cml_lanes.proofs.EnteredLemmas.{counted}
-use Rattle.cml_lanes.proofs.DeedsLemmas.{still, reserves, opens_lane, drains, drops, abandons, closes, closes_counted}
-use Rattle.cml_lanes.proofs.DeedsLemmas.{opens_feed, pumps, ends}
+use Rattle.cml_lanes.proofs.DeedsLemmas.{still, reserves, opens_lane, drains, drops, abandons, closes, closes_counted, opens_feed, pumps}
+use Rattle.cml_lanes.proofs.DeedsLemmas.{ends}
 
 module _ {M : Type 0} where
   pub entries_more : (entry : M → Entry M) (messages : List M) (history : List (Entry M))
@@ -44,27 +44,20 @@ module _ {M : Type 0} where
   pub lasts_on : (old mid new : Shown M) → Lasts old mid → Lasts mid new → Lasts old new
   lasts_on old mid new one two = record { grown = omega (arith, one.grown, two.grown); kept = omega (arith, one.kept, two.kept) }
 
-  lasts_moved : (number count : ℕ) (old new : Shown M) (from to : LaneSide M) → MovesOut number count old new from to → Lasts old new
-  lasts_moved number count old new from to m =
-      let entries : entries_in new.history ≡ entries_in old.history + length m.moved =
-      ap entries_in m.history ∙ entries_more (lane_entry number from.way from.target) m.moved old.history in
-      record { grown = omega (arith, entries); kept = omega (arith, entries, m.as_many, m.reserved) }
-
-  lasts_pumped : (number count : ℕ) (old new : Shown M) (from to : FeedSide M) → PumpsIn number count old new from to → Lasts old new
-  lasts_pumped number count old new from to p =
-      let entries : entries_in new.history ≡ entries_in old.history + length p.pumped =
-      ap entries_in p.history ∙ entries_more (feed_entry number from.port) p.pumped old.history in
-      record { grown = omega (arith, entries); kept = omega (arith, entries, p.as_many, p.reserved) }
+  lasts_entered : {entry : M → Entry M} {messages : List M} {count : ℕ} {old new : Shown M} → Enters entry messages count old new
+      → Lasts old new
+  lasts_entered {entry} {messages} {old = old} {new = new} e =
+      let entries : entries_in new.history ≡ entries_in old.history + length messages =
+      ap entries_in e.history ∙ entries_more entry messages old.history in
+      record { grown = omega (arith, entries); kept = omega (arith, entries, e.as_many, e.reserved) }
 
   -- whatever was done
   lasts_done : (old new : FloorShown M) → Deed old new → Lasts old.board new.board
   lasts_done old new (as_it_was after lanes feeds) = lasts_before old.board new.board after
-  lasts_done old new (lane_drained left number count on) =
-      lasts_moved number count old.board new.board on.place.does.looked on.place.to on.place.does.moves
+  lasts_done old new (lane_drained left number count on) = lasts_entered on.place.does.moves.entered
   lasts_done old new (lane_gone number same) = lasts_same old.board new.board (ap (λ (f : FloorShown M). f.board) same)
   lasts_done old new (lane_opened side board lanes feeds) = lasts_same old.board new.board board
-  lasts_done old new (feed_pumped number count on) =
-      lasts_pumped number count old.board new.board on.place.does.looked on.place.to on.place.does.pumps
+  lasts_done old new (feed_pumped number count on) = lasts_entered on.place.does.pumps.entered
   lasts_done old new (feed_gone number same) = lasts_same old.board new.board (ap (λ (f : FloorShown M). f.board) same)
   lasts_done old new (feed_opened number channel port side makes lanes feeds) = record {
     grown = omega (arith, ap entries_in makes.entry.history);
@@ -172,24 +165,17 @@ module _ {M : Type 0} where
       → added_since old.board after.board < old.board.reserved → LaneTakesEntryAlone chunk sure after lane
       → ¬ (HoldsUp chunk sure lane count new after NoMemory)
   lanes_served chunk sure calls old new after lane count run keeps fewer takes = λ held.
-      let to = held.place.to in
       let stops = held.place.does.stops in
-      let stays : slice_get after.lanes lane ≡ Some (Some to) = ap (λ slots. slice_get slots lane) held.place.places
-      ∙ slice_get-set_same new.lanes lane (Some held.place.from) (Some to) held.place.opened in
-      let now = lasts_on old.board new.board stops.at (lasts_all chunk sure calls old new run keeps)
-      (lasts_moved lane count new.board stops.at held.place.does.looked to stops.moves) in
-      stops.refused.3 (spared chunk sure old.board stops.at after.board (way_call to.way to.target stops.message) now stops.after.history
-      fewer (takes to stops.message stays stops.next))
+      let now = lasts_on old.board new.board stops.at (lasts_all chunk sure calls old new run keeps) (lasts_entered stops.moves.entered) in
+      stops.refused.3 (spared chunk sure old.board stops.at after.board (way_call held.place.to.way held.place.to.target stops.message) now
+      stops.after.history fewer (takes held.place.to stops.message (stays_there held.place) stops.next))
 
   pub feeds_served : (chunk : ℕ) (sure : Bool) (calls : List (FloorCall M)) (old new after : FloorShown M) (feed count : ℕ)
       → AreCalled chunk sure calls old new → keeps_journal calls ≡ true
       → added_since old.board after.board < old.board.reserved → FeedTakesEntryAlone chunk sure after feed
       → ¬ (Starves chunk sure feed count new after NoMemory)
   feeds_served chunk sure calls old new after feed count run keeps fewer takes = λ starved.
-      let to = starved.place.to in
       let balks = starved.place.does.balks in
-      let stays : slice_get after.feeds feed ≡ Some (Some to) = ap (λ slots. slice_get slots feed) starved.place.places
-      ∙ slice_get-set_same new.feeds feed (Some starved.place.from) (Some to) starved.place.opened in
-      let now = lasts_on old.board new.board balks.at (lasts_all chunk sure calls old new run keeps)
-      (lasts_pumped feed count new.board balks.at starved.place.does.looked to balks.pumps) in
-      balks.refused.3 (spared chunk sure old.board balks.at after.board (Recv to.port) now balks.after.history fewer (takes to stays))
+      let now = lasts_on old.board new.board balks.at (lasts_all chunk sure calls old new run keeps) (lasts_entered balks.pumps.entered) in
+      balks.refused.3 (spared chunk sure old.board balks.at after.board (Recv starved.place.to.port) now balks.after.history fewer
+      (takes starved.place.to (stays_there starved.place)))

@@ -1,6 +1,6 @@
 -- What a floor keeps whose lanes and feeds are those of its board's history, and are no longer open.
-use Rattle.std.proofs.Common.{◌≡◌, ℕ, zero, suc, ◌-◌, ◌^◌, ◌<◌, ◌≤◌, false, cond, List, [], ◌∷◌, slice_get, replicate, Option}
-use Rattle.std.proofs.Common.{Some, None, is_some, count_by, refl, sym, subst, ◌∙◌, arith}
+use Rattle.std.proofs.Common.{◌≡◌, ℕ, zero, suc, ◌-◌, ◌^◌, ◌<◌, ◌≤◌, false, cond, List, [], ◌∷◌, slice_get, replicate, Option, Some, None}
+use Rattle.std.proofs.Common.{is_some, count_by, refl, sym, subst, ◌∙◌, arith}
 use Rattle.std.proofs.lemmas.Option.{same_Some, none-some}
 use Rattle.std.proofs.lemmas.Bool.{ne_eqb}
 use Rattle.std.proofs.lemmas.List.{length-replicate}

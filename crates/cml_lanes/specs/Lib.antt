@@ -19,7 +19,7 @@ pub mod Steps
 pub use Ring.{ring_of}
 pub use Ends.{Ended, FeedShown, LaneShown}
 pub use Sides.{FeedSide, LaneSide, NoLane, way_call, way_kind}
-pub use Entered.{with_entries}
+pub use Entered.{Enters, with_entries}
 pub use Laned.{is_lane, lane_entry, laned, moved_by, with_lane}
 pub use Fed.{fed, feed_entry, is_feed, with_feed}
 pub use Moving.{DrainsRing, Empties, IsLimit, KeepsLane, Looks, MovesOut, Stops}

@@ -1,11 +1,12 @@
 -- How messages go out of a lane's ring into the journal.
-use Rattle.std.specs.Prelude.{ℕ, ◌≡◌, ◌+◌, ◌<◌, ◌≤◌, Bool, List, [], ◌++◌, length, slice_get, Some, ⊤}
+use Rattle.std.specs.Prelude.{ℕ, ◌≡◌, ◌<◌, ◌≤◌, Bool, List, [], ◌++◌, length, slice_get, Some, ⊤}
 use mathlib.Core.List.{IsPrefix}
 use Rattle.cml_board.specs.{Refusal, Entry, kind_of, IsAsBefore, Refuses}
 use Rattle.cml_board.specs.Shown.{Shown}
 use Rattle.cml_board.specs.declared.outcome.Refusal.TheVariants.{JournalFull, NoMemory}
 use Rattle.cml_lanes.specs.Sides.{LaneSide, way_call, way_kind}
-use Rattle.cml_lanes.specs.Laned.{laned, with_lane}
+use Rattle.cml_lanes.specs.Entered.{Enters}
+use Rattle.cml_lanes.specs.Laned.{laned, lane_entry}
 
 -- the only reasons to refuse a message of an open lane: a full journal, whose limit counts the entries since the last cut,
 -- and want of memory
@@ -25,11 +26,8 @@ module _ {M : Type 0} where
   -- changed
   pub record MovesOut (number count : ℕ) (old new : Shown M) (from to : LaneSide M) : Type 0 where
     pub moved : List M
-    pub as_many : length moved ≡ count
-    pub history : new.history ≡ with_lane number from.way from.target moved old.history
-    pub past : new.past ≡ old.past
-    pub limit : new.limit ≡ old.limit
-    pub reserved : old.reserved ≤ new.reserved + count
+    pub entered : Enters (lane_entry number from.way from.target) moved count old new
+    pub open entered use *
     pub side : to ≡ record from { received = from.received ++ moved; seen = to.seen }
     pub seen : from.seen ≡ moved ++ to.seen
 

@@ -1,12 +1,13 @@
 -- How messages go from a port into a feed's ring.
-use Rattle.std.specs.Prelude.{ℕ, ◌≡◌, ◌+◌, ◌<◌, ◌≤◌, ◌⊎◌, Bool, true, List, ◌++◌, length, Some, None}
+use Rattle.std.specs.Prelude.{ℕ, ◌≡◌, ◌+◌, ◌<◌, ◌≤◌, ◌⊎◌, Bool, true, List, ◌++◌, Some, None}
 use Rattle.cml_calls.specs.declared.kind.Kind.TheVariants.{Port}
 use Rattle.cml_board.specs.declared.call.Call.TheVariants.{Recv}
 use Rattle.cml_board.specs.declared.entry.Reply.TheVariants.{Got}
 use Rattle.cml_board.specs.{Entry, Refusal, kind_of, is_open, got, answer, IsAsBefore, Refuses}
 use Rattle.cml_board.specs.Shown.{Shown}
 use Rattle.cml_lanes.specs.Sides.{FeedSide}
-use Rattle.cml_lanes.specs.Fed.{fed, with_feed}
+use Rattle.cml_lanes.specs.Entered.{Enters}
+use Rattle.cml_lanes.specs.Fed.{fed, feed_entry}
 use Rattle.cml_lanes.specs.Moving.{IsLimit}
 
 module _ {M : Type 0} where
@@ -22,11 +23,8 @@ module _ {M : Type 0} where
   -- the ring; the journal and the feed changed in nothing else
   pub record PumpsIn (number count : ℕ) (old new : Shown M) (from to : FeedSide M) : Type 0 where
     pub pumped : List M
-    pub as_many : length pumped ≡ count
-    pub history : new.history ≡ with_feed number from.port pumped old.history
-    pub past : new.past ≡ old.past
-    pub limit : new.limit ≡ old.limit
-    pub reserved : old.reserved ≤ new.reserved + count
+    pub entered : Enters (feed_entry number from.port) pumped count old new
+    pub open entered use *
     pub side : to ≡ record from { pushed = from.pushed ++ pumped; free = to.free }
     pub free : from.free ≡ to.free + count
 
