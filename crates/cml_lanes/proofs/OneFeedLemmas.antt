@@ -36,12 +36,12 @@ module _ {M : Type 0} where
       )
 
   -- what is done to the place is done to the feed
-  pub on_feed : {lanes : List (Option (LaneSide M))} (left : FeedSide M → Option (FeedSide M)) (number : ℕ) (board after : Shown M)
-      (feeds news : List (Option (FeedSide M))) (old : FloorShown M) (Does : Shown M → FeedSide M → FeedSide M → Type 0)
+  pub on_feed : {board after : Shown M} {lanes : List (Option (LaneSide M))} {feeds news : List (Option (FeedSide M))} {old : FloorShown M}
+      {left : FeedSide M → Option (FeedSide M)} {number : ℕ} (Does : Shown M → FeedSide M → FeedSide M → Type 0)
       → record { board = board; lanes = lanes; feeds = feeds } ≡ old → OnPlace left number feeds news (Does board)
       → OnFeed left number old (record { board = after; lanes = lanes; feeds = news }) (Does old.board)
-  on_feed {lanes} left number board after feeds news old Does view on =
-      subst (λ (f : FloorShown M). OnFeed left number f (record { board = after; lanes = lanes; feeds = news }) (Does f.board)) view
+  on_feed {after = after} {lanes = lanes} {news = news} {left = left} {number = number} Does view on =
+      subst (λ f. OnFeed left number f (record { board = after; lanes = lanes; feeds = news }) (Does f.board)) view
       (record { place = on; lanes = refl })
 
   -- and keeps the rings
@@ -113,4 +113,4 @@ module _ {M : Type 0} where
       let gone : OnPlace goes number feeds news (λ from to. to ≡ from) =
       record { from = slot.0; to = slot.0; opened = slot.1; places = written; does = refl } in
       feed_rings (λ from to side same is. absurd (none-some side is))
-      (on_feed goes number board board feeds news old (λ b from to. to ≡ from) view gone)
+      (on_feed {after = board} (λ b from to. to ≡ from) view gone)

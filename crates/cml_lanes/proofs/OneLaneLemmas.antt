@@ -29,12 +29,12 @@ module _ {M : Type 0} where
       )
 
   -- what is done to the place is done to the lane
-  pub on_lane : {feeds : List (Option (FeedSide M))} (left : LaneSide M → Option (LaneSide M)) (number : ℕ) (board after : Shown M)
-      (lanes news : List (Option (LaneSide M))) (old : FloorShown M) (Does : Shown M → LaneSide M → LaneSide M → Type 0)
+  pub on_lane : {board after : Shown M} {lanes news : List (Option (LaneSide M))} {feeds : List (Option (FeedSide M))} {old : FloorShown M}
+      {left : LaneSide M → Option (LaneSide M)} {number : ℕ} (Does : Shown M → LaneSide M → LaneSide M → Type 0)
       → record { board = board; lanes = lanes; feeds = feeds } ≡ old → OnPlace left number lanes news (Does board)
       → OnLane left number old (record { board = after; lanes = news; feeds = feeds }) (Does old.board)
-  on_lane {feeds} left number board after lanes news old Does view on =
-      subst (λ (f : FloorShown M). OnLane left number f (record { board = after; lanes = news; feeds = feeds }) (Does f.board)) view
+  on_lane {after = after} {news = news} {feeds = feeds} {left = left} {number = number} Does view on =
+      subst (λ f. OnLane left number f (record { board = after; lanes = news; feeds = feeds }) (Does f.board)) view
       (record { place = on; feeds = refl })
 
   -- and keeps the rings
@@ -58,7 +58,7 @@ module _ {M : Type 0} where
       let gone : OnPlace goes number lanes news (λ from to. to ≡ from) =
       record { from = slot.0; to = slot.0; opened = slot.1; places = written; does = refl } in
       lane_rings (λ from to side same is. absurd (none-some side is))
-      (on_lane goes number board board lanes news old (λ b from to. to ≡ from) view gone)
+      (on_lane {after = board} (λ b from to. to ≡ from) view gone)
 
   -- what the journal has and what is left
   pub gives_all : (number : ℕ) (after : Shown M) (news : List (Option (LaneSide M))) (feeds : List (Option (FeedSide M))) (end : Ended M)

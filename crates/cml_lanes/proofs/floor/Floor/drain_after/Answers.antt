@@ -1,5 +1,5 @@
 use Rattle.std.proofs.Common.{slice_get, sym, ap, ◌∙◌}
-use Rattle.cml_lanes.specs.{FloorShown, is_open_lane, stays, DrainsUntil}
+use Rattle.cml_lanes.specs.{FloorShown, is_open_lane, DrainsUntil}
 use Rattle.cml_lanes.proofs.OneLaneLemmas.{floor_drained, on_lane, drained_rings, gives_all}
 use Rattle.cml_lanes.proofs.floor.Floor.drain_after.Goals as goal
 
@@ -18,15 +18,13 @@ invariant_of-self g c =
 
 pub returns-clause-until : goal.returns-clause-until
 returns-clause-until g c =
-    on_lane stays c.args.lane c.self.inside.board c.drain_after.new.board c.self.inside.lanes c.drain_after.new.self c.args.self.now
-    (λ b. DrainsUntil g.L.MessageLog.CHUNK g.M.Message.SURE c.args.lane c.drain_after.result.0 c.drain_after.result.1 b
+    on_lane (λ b. DrainsUntil g.L.MessageLog.CHUNK g.M.Message.SURE c.args.lane c.drain_after.result.0 c.drain_after.result.1 b
     c.drain_after.new.board) c.self.view_is c.drain_after.ensures.until
 
 pub returns-clause-rings : goal.returns-clause-rings
 returns-clause-rings g c =
     drained_rings g.L.MessageLog.CHUNK g.M.Message.SURE c.args.lane c.drain_after.result.0 c.drain_after.result.1 c.args.self.now _
-    (on_lane stays c.args.lane c.self.inside.board c.drain_after.new.board c.self.inside.lanes c.drain_after.new.self c.args.self.now
-    (λ b. DrainsUntil g.L.MessageLog.CHUNK g.M.Message.SURE c.args.lane c.drain_after.result.0 c.drain_after.result.1 b
+    (on_lane (λ b. DrainsUntil g.L.MessageLog.CHUNK g.M.Message.SURE c.args.lane c.drain_after.result.0 c.drain_after.result.1 b
     c.drain_after.new.board) c.self.view_is c.drain_after.ensures.until)
 
 pub returns-clause-all : goal.returns-clause-all

@@ -1,5 +1,5 @@
 use Rattle.std.proofs.Common.{ap, ◌∙◌}
-use Rattle.cml_lanes.specs.{FloorShown, is_open_lane, stays, DrainsUntil}
+use Rattle.cml_lanes.specs.{FloorShown, is_open_lane, DrainsUntil}
 use Rattle.cml_lanes.proofs.OneLaneLemmas.{floor_drained, on_lane, drained_rings}
 use Rattle.cml_lanes.proofs.floor.Floor.drain_open.Goals as goal
 
@@ -17,13 +17,11 @@ invariant_of-self g c =
 
 pub returns-clause-until : goal.returns-clause-until
 returns-clause-until g c =
-    on_lane stays c.args.lane c.self.inside.board c.drain.new.board c.self.inside.lanes c.drain.new.self c.args.self.now
-    (λ b. DrainsUntil g.L.MessageLog.CHUNK g.M.Message.SURE c.args.lane c.drain.result.0 c.drain.result.1 b c.drain.new.board)
+    on_lane (λ b. DrainsUntil g.L.MessageLog.CHUNK g.M.Message.SURE c.args.lane c.drain.result.0 c.drain.result.1 b c.drain.new.board)
     c.self.view_is c.drain.ensures
 
 pub returns-clause-rings : goal.returns-clause-rings
 returns-clause-rings g c =
     drained_rings g.L.MessageLog.CHUNK g.M.Message.SURE c.args.lane c.drain.result.0 c.drain.result.1 c.args.self.now _
-    (on_lane stays c.args.lane c.self.inside.board c.drain.new.board c.self.inside.lanes c.drain.new.self c.args.self.now
-    (λ b. DrainsUntil g.L.MessageLog.CHUNK g.M.Message.SURE c.args.lane c.drain.result.0 c.drain.result.1 b c.drain.new.board)
+    (on_lane (λ b. DrainsUntil g.L.MessageLog.CHUNK g.M.Message.SURE c.args.lane c.drain.result.0 c.drain.result.1 b c.drain.new.board)
     c.self.view_is c.drain.ensures)

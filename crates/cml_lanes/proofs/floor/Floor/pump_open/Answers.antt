@@ -1,4 +1,4 @@
-use Rattle.cml_lanes.specs.{stays, PumpsUntil}
+use Rattle.cml_lanes.specs.{PumpsUntil}
 use Rattle.cml_lanes.proofs.OneFeedLemmas.{open_feed_slot, floor_pumped, on_feed, pumped_rings}
 use Rattle.cml_lanes.proofs.floor.Floor.pump_open.Goals as goal
 
@@ -17,13 +17,11 @@ invariant_of-self g c =
 
 pub returns-clause-until : goal.returns-clause-until
 returns-clause-until g c =
-    on_feed stays c.args.feed c.self.inside.board c.pump.new.board c.self.inside.feeds.feeds c.pump.new.self.feeds c.args.self.now
-    (λ b. PumpsUntil g.L.MessageLog.CHUNK g.M.Message.SURE c.args.feed c.pump.result.0 c.pump.result.1 b c.pump.new.board)
+    on_feed (λ b. PumpsUntil g.L.MessageLog.CHUNK g.M.Message.SURE c.args.feed c.pump.result.0 c.pump.result.1 b c.pump.new.board)
     c.self.view_is c.pump.ensures
 
 pub returns-clause-rings : goal.returns-clause-rings
 returns-clause-rings g c =
     pumped_rings g.L.MessageLog.CHUNK g.M.Message.SURE c.args.feed c.pump.result.0 c.pump.result.1 c.args.self.now _
-    (on_feed stays c.args.feed c.self.inside.board c.pump.new.board c.self.inside.feeds.feeds c.pump.new.self.feeds c.args.self.now
-    (λ b. PumpsUntil g.L.MessageLog.CHUNK g.M.Message.SURE c.args.feed c.pump.result.0 c.pump.result.1 b c.pump.new.board)
+    (on_feed (λ b. PumpsUntil g.L.MessageLog.CHUNK g.M.Message.SURE c.args.feed c.pump.result.0 c.pump.result.1 b c.pump.new.board)
     c.self.view_is c.pump.ensures)
