@@ -94,7 +94,7 @@ module _ {M : Type 0} (version : ℕ) (meaning : List ℕ → Option M) where
   -- all before a line that was not read is as it was
   shows_so_far : (old new : Progress M) (front bytes : List ℕ) → new.state.lines ≡ old.state.lines → new.checker ≡ old.checker
       → IsSoFar version meaning front old
-      → ShowsFront version meaning (front ++ bytes) new
+      → ShowsFront version meaning (front ++ bytes) new.state.lines new.checker
   shows_so_far old new front bytes lines checker so = record {
     front = front;
     rest = bytes;
@@ -112,7 +112,7 @@ module _ {M : Type 0} (version : ℕ) (meaning : List ℕ → Option M) where
   shows_fault : (old new : Progress M) (front bytes : List ℕ) (line : ℕ) (what : What) → HasFault version meaning old.state bytes what
       → new.state.lines ≡ old.state.lines
       → new.checker ≡ old.checker → line ≡ (new.state.lines + 1) % 2 ^ 64 → IsSoFar version meaning front old
-      → ShowsFault version meaning (front ++ bytes) line what new
+      → ShowsFault version meaning (front ++ bytes) line what new.state.lines new.checker
   shows_fault old new front bytes line what has lines checker next so =
       let same = lines ∙ sym has.same_line in record {
         is = record {
@@ -244,10 +244,10 @@ module _ {M : Type 0} (version : ℕ) (meaning : List ℕ → Option M) where
       (so : IsSoFar version meaning bytes old)
       → reading version meaning old.state taken ≡ Ok (next, entry ∷ []) → new.state ≡ next
       → (new.checker ≡ Ok (reverse so.entries)) ⊎ Pauses (Ok (reverse so.entries)) (entry ∷ []) new.checker
-      → ShowsFront version meaning (bytes ++ (taken ++ rest)) new
+      → ShowsFront version meaning (bytes ++ (taken ++ rest)) new.state.lines new.checker
   shows_at_entry old new next bytes taken rest entry so read state = by
     where
-      waits : new.checker ≡ Ok (reverse so.entries) → ShowsFront version meaning (bytes ++ (taken ++ rest)) new
+      waits : new.checker ≡ Ok (reverse so.entries) → ShowsFront version meaning (bytes ++ (taken ++ rest)) new.state.lines new.checker
       waits checked = record {
         front = bytes ++ taken;
         rest = rest;
@@ -263,7 +263,7 @@ module _ {M : Type 0} (version : ℕ) (meaning : List ℕ → Option M) where
       }
 
       passed : new.checker ≡ Ok (entry ∷ reverse so.entries) → Lawful (entry ∷ reverse so.entries)
-          → ShowsFront version meaning (bytes ++ (taken ++ rest)) new
+          → ShowsFront version meaning (bytes ++ (taken ++ rest)) new.state.lines new.checker
       passed checked lawful =
           let more = sym (one_more so.entries entry) in record {
             front = bytes ++ taken;
@@ -281,14 +281,14 @@ module _ {M : Type 0} (version : ℕ) (meaning : List ℕ → Option M) where
 
       counted : (k : ℕ) → new.checker ≡ Ok (followed_by (reverse so.entries) (entry ∷ []) k)
           → Lawful (followed_by (reverse so.entries) (entry ∷ []) k)
-          → ShowsFront version meaning (bytes ++ (taken ++ rest)) new
+          → ShowsFront version meaning (bytes ++ (taken ++ rest)) new.state.lines new.checker
       counted zero checked lawful = waits checked
       counted (suc k) checked lawful =
           passed (checked ∙ ap (λ (l : List (Entry M)). Ok (reverse (entry ∷ l) ++ reverse so.entries)) (nothing_taken k))
           (subst (λ (l : List (Entry M)). Lawful (reverse (entry ∷ l) ++ reverse so.entries)) (nothing_taken k) lawful)
 
       by : (new.checker ≡ Ok (reverse so.entries)) ⊎ Pauses (Ok (reverse so.entries)) (entry ∷ []) new.checker
-          → ShowsFront version meaning (bytes ++ (taken ++ rest)) new
+          → ShowsFront version meaning (bytes ++ (taken ++ rest)) new.state.lines new.checker
       by (inl checked) = waits checked
       by (inr paused) = counted paused.0 paused.1 paused.2
 
@@ -331,8 +331,8 @@ module _ {M : Type 0} (version : ℕ) (meaning : List ℕ → Option M) where
   stops_as_told text old new bytes (halt.Unlawful at) stop.NoMemory same halts front so = inr (at, halts front so)
   stops_as_told text old new bytes (halt.Unlawful at) (stop.Fault number what) same halts front so = absurd same
   stops_as_told text old new bytes (halt.Fault line what) (stop.Fault number fault) same halts front so =
-      subst (λ (n : ℕ). ShowsFault version meaning (front ++ bytes) n fault new) (sym same.0)
-      (subst (λ (w : What). ShowsFault version meaning (front ++ bytes) line w new) (sym same.1) (halts front so))
+      subst (λ (n : ℕ). ShowsFault version meaning (front ++ bytes) n fault new.state.lines new.checker) (sym same.0)
+      (subst (λ (w : What). ShowsFault version meaning (front ++ bytes) line w new.state.lines new.checker) (sym same.1) (halts front so))
   stops_as_told text old new bytes (halt.Fault line what) stop.NoMemory same halts front so = absurd same
   stops_as_told text old new bytes (halt.Fault line what) (stop.Unlawful position words) same halts front so = absurd same
   stops_as_told text old new bytes halt.NoMemory stop.NoMemory same halts front so = inl (halts front so)
@@ -351,22 +351,8 @@ module _ {M : Type 0} (version : ℕ) (meaning : List ℕ → Option M) where
         last = shows.last;
         shown = shows.shown;
       }
-  halts_on old new kept bytes (halt.Fault line what) halts front so =
-      let shows = halts front so in record { is = shows.is; lines = shows.lines; checked = shows.checked }
-  halts_on old new kept bytes halt.NoMemory halts front so =
-      let shows = halts front so in record {
-        front = shows.front;
-        rest = shows.rest;
-        whole = shows.whole;
-        state = shows.state;
-        done = shows.done;
-        left = shows.left;
-        few = shows.few;
-        read = shows.read;
-        lawful = shows.lawful;
-        lines = shows.lines;
-        checked = shows.checked;
-      }
+  halts_on old new kept bytes (halt.Fault line what) halts front so = halts front so
+  halts_on old new kept bytes halt.NoMemory halts front so = halts front so
 
   -- a check that has stopped was never at some bytes
   pub stops_no_more : (text : M → List ℕ) (old new : Progress M) (bytes : List ℕ) (halted : Halt) (told : Stop) → old.halt ≡ Some halted
