@@ -1,6 +1,6 @@
 -- A change of one object is a change of the list of all.
 use Rattle.std.proofs.Common.{◌≡◌, ℕ, zero, suc, ◌-◌, ◌<◌, List, [], ◌∷◌, ◌++◌, length, get_or, slice_get, slice_set}
-use Rattle.std.proofs.Common.{Option, Some, sym, ap, ◌∙◌, arith}
+use Rattle.std.proofs.Common.{Option, Some, sym, ap, subst, ◌∙◌, arith}
 use Rattle.std.specs.Option.{option_and_then}
 use Rattle.std.proofs.lemmas.List.{length-map, map-append, map-set}
 use Rattle.std.proofs.lemmas.Option.{same_Some, none-some, slice_get_within}
@@ -54,25 +54,40 @@ module _ {A M : Type 0} where
     changed = seen_set log (λ _. opens.log) xs i x y within read opens.changed;
   }
 
-  -- a port was added behind it
-  pub adds_port : (log : A → Log M) (xs ys : List (Object M A)) (source : Name) (x y : Object M A)
+  pub log_within : (log : A → Log M) (xs : List (Object M A)) (i : ℕ) → HasLog (seen_all log xs) i → i < length xs
+  log_within log xs i stands = by_length xs i stands.log stands.found
+    where
+      by_length : (xs : List (Object M A)) (i : ℕ) (l : Log M) → log_at (seen_all log xs) i ≡ Some l → i < length xs
+      by_length [] i l found = absurd (none-some l found)
+      by_length (x ∷ xs) zero l found = omega arith
+      by_length (x ∷ xs) (suc i) l found = omega (arith, by_length xs i l found)
+
+  -- memory was reserved, and the object in whose log it is shows the same
+  pub kept_reserved : (log : A → Log M) (olds xs : List (Object M A)) (i : ℕ) (x y : Object M A) → HasLog (seen_all log olds) i
+      → xs ≡ olds → x ≡ get_or xs i x → map_log log y ≡ map_log log x → seen_all log (slice_set xs i y) ≡ seen_all log olds
+  kept_reserved log olds xs i x y stands same read kept =
+      seen_kept log xs i x y (omega (arith, log_within log olds i stands, ap length same)) read kept ∙ ap (seen_all log) same
+
+  -- memory was reserved, and a port was added behind it
+  pub adds_port : (log : A → Log M) (olds xs ys : List (Object M A)) (source : Name) (x y : Object M A)
       (key start : ℕ) (from : Log M → ℕ) (was : Log M)
-      → source.0 < length xs → x ≡ get_or xs source.0 x → OpensIn (map_log log x) (map_log log y) key from
+      → HasLog (seen_all log olds) source.0 → xs ≡ olds → x ≡ get_or xs source.0 x → OpensIn (map_log log x) (map_log log y) key from
       → log_in (map_log log x) ≡ Some was → start ≡ from was
       → ys ≡ slice_set xs source.0 y ++ Port (record { channel = source; start = start; reading = Open key }) ∷ []
-      → AddsPort (seen_all log xs) (seen_all log ys) source.0 from
+      → AddsPort (seen_all log olds) (seen_all log ys) source.0 from
   unfolding opens_at
-  adds_port log xs ys source x y key start from was within read opens found starts pushed =
+  adds_port log olds xs ys source x y key start from was stands reserved read opens found starts pushed =
+      let within : source.0 < length xs = omega (arith, log_within log olds source.0 stands, ap length reserved) in
       let after = slice_set xs source.0 y in
       let same : was ≡ opens.was = same_Some _ _ (sym found ∙ opens.found) in
-      record {
+      subst (λ os. AddsPort (seen_all log os) (seen_all log ys) source.0 from) reserved (record {
         key = key;
         after = seen_all log after;
         opens = opens_at log xs source.0 x y key from within read opens;
         changed =
             seen_pushed log after ys (Port (record { channel = source; start = start; reading = Open key })) pushed
             ∙ ap (λ s. seen_all log after ++ open_port source.0 s key ∷ []) (starts ∙ ap from same);
-      }
+      })
 
   -- a port was closed
   pub closes_port : (chunk : ℕ) (log : A → Log M) (xs : List (Object M A)) (name source : Name) (x y : Object M A)
@@ -115,11 +130,3 @@ module _ {A M : Type 0} where
   pub variable_within : (log : A → Log M) (xs : List (Object M A)) (i : ℕ) → HasVariable (seen_all log xs) i → i < length xs
   variable_within log xs i stands =
       omega (arith, slice_get_within (seen_all log xs) i (Variable stands.form stands.held) stands.found, length-map xs (map_log log))
-
-  pub log_within : (log : A → Log M) (xs : List (Object M A)) (i : ℕ) → HasLog (seen_all log xs) i → i < length xs
-  log_within log xs i stands = by_length xs i stands.log stands.found
-    where
-      by_length : (xs : List (Object M A)) (i : ℕ) (l : Log M) → log_at (seen_all log xs) i ≡ Some l → i < length xs
-      by_length [] i l found = absurd (none-some l found)
-      by_length (x ∷ xs) zero l found = omega arith
-      by_length (x ∷ xs) (suc i) l found = omega (arith, by_length xs i l found)
