@@ -11,7 +11,8 @@ use Rattle.cml_journal.specs.{What, Unread, IsWritten, who_text, call_text, repl
 use Rattle.cml_journal.specs.{cut, name_in, who_at, call_at, made_known, told_by, told_in, reply_in, entry_in}
 use Rattle.cml_journal.specs.declared.fault.What.TheVariants.{UnknownWord, BadMessage, WrongReply}
 use Rattle.cml_journal.proofs.CutWordsLemmas.{cut_again, cut_none, cut_takes, printed_no_space}
-use Rattle.cml_journal.proofs.WordLemmas.{bind_ok, ok_is, some_from_ok, chosen, passed, same_bytes, name_takes, name_again, who_takes, who_again}
+use Rattle.cml_journal.proofs.WordLemmas.{bind_ok, ok_is, some_from_ok, chosen, passed, same_bytes, name_takes, name_again}
+use Rattle.cml_journal.proofs.WordLemmas.{who_takes, who_again}
 use Rattle.cml_journal.proofs.CallLemmas.{call_takes, call_again}
 
 -- ---- replies

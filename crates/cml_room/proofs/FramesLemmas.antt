@@ -55,7 +55,8 @@ module _ {M : Type 0} where
   -- a seat's turn
   pub turns : (room : RoomShown M) (floor floor' : FloorShown M) (olds lates : SeatsShown) (number : ℕ) (news : Option News)
       → with_seats floor olds ≡ room → HasAsked number (notices_in olds.places) (notices_in lates.places)
-      → RisesFew floor'.board.history news (λ on. slice_get (states_in olds.places) number ≡ Some (state.Parked on)) olds.places lates.places
+      → RisesFew floor'.board.history news
+      (λ on. slice_get (states_in olds.places) number ≡ Some (state.Parked on)) olds.places lates.places
       → (HasRoom floor'.board → lates.all_due ≡ olds.all_due)
       → Turns number (AskOf number) news room (with_seats floor' lates)
   turns room floor floor' olds lates number news view asked few alarm = record {

@@ -305,7 +305,8 @@ not_so {So} {row} {olds} {news} was listed seen number waiter quiet here so =
     not_noted waiter.notice quiet.nothing (seen number in_it waiter quiet.here so)
 
 pub not_reached : (object source : ℕ) {olds news : SeatsShown} {next : Option ℕ} {count : ℕ}
-    → RowRoused (λ waiter. reaches object source waiter ≡ true) (row_of source) olds news next count → AreListed olds.rows row_in olds.places
+    → RowRoused (λ waiter. reaches object source waiter ≡ true) (row_of source) olds news next count
+    → AreListed olds.rows row_in olds.places
     → ((k : ℕ) → is_in olds.rows (row_of source) k ≡ true → IsSeen (λ waiter. reaches object source waiter ≡ true) news.places k)
     → (number : ℕ) (waiter : Waiter) → IsQuiet news.places number waiter → reaches object source waiter ≡ false
 not_reached object source was listed seen number waiter quiet = by_test (reaches object source waiter) refl

@@ -29,7 +29,8 @@ returns-clause-roused c = c.loop.invariant.roused
 pub returns-clause-each : goal.returns-clause-each
 returns-clause-each c =
     λ number waiter quiet here. not_so c.loop.invariant c.first_at-next.ensures.listed
-    (walk_ends c.loop.invariant.walked (omega (arith, c.most-end.ensures (row_of c.args.source), c.loop-test.false))) number waiter quiet here tt
+    (walk_ends c.loop.invariant.walked (omega (arith, c.most-end.ensures (row_of c.args.source), c.loop-test.false))) number
+    waiter quiet here tt
 
 pub returns-clause-due : goal.returns-clause-due
 returns-clause-due c = c.loop.invariant.due
