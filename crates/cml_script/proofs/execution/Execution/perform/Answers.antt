@@ -47,18 +47,11 @@ invariant_of-self c =
 pub returns-in-Answered-clause-performed : goal.returns-in-Answered-clause-performed
 returns-in-Answered-clause-performed c =
     let steps = rw c.script.ensures at c.steps.ensures in
-    let performed = is_performed _ c.args.self.now c.steps.result.now c.args.i c.index-steps-i.result c.in_ok-call.call c.self.view_is
-    steps.lines steps.asked steps.threads c.requires.ready c.requires.declared c.in_ok-call.ensures.call in
-    let answer = c.in-Answered.answer in
-    let adds = c.in-Answered.ensures.5 in
-    let entry : Entry (List ℕ) = record {
-      who = Seat (get_or c.steps.result.now c.args.i c.index-steps-i.result).seat;
-      call = c.in_ok-call.call;
-      reply = answer.reply;
-    } in
-    performs _ c.args.self.now _ c.args.i _ c.in_ok-call.call answer.reply c.self.view_is
-    (new_play c.self.inside.plan c.self.inside.board.history _ c.self.inside.board.limit _ entry adds.history adds.limit)
-    performed
+    performs _ c.args.self.now _ c.args.i _ c.in_ok-call.call c.in-Answered.answer.reply c.self.view_is
+    (new_play c.self.inside.plan c.self.inside.board.history _ c.self.inside.board.limit _ _
+    c.in-Answered.ensures.5.history c.in-Answered.ensures.5.limit)
+    (is_performed _ c.args.self.now c.steps.result.now c.args.i c.index-steps-i.result c.in_ok-call.call c.self.view_is
+    steps.lines steps.asked steps.threads c.requires.ready c.requires.declared c.in_ok-call.ensures.call)
 
 pub call-requires-clause-next : goal.call-requires-clause-next
 call-requires-clause-next c =
