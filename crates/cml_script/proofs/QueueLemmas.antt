@@ -205,3 +205,12 @@ pub get_is : {X : Type 0} (xs : List X) (i : ℕ) (r : Option (Bor X)) (Q : Bor 
     → MatchOption r (length xs ≤ i) (λ x. (i < length xs) × Q x) → option_map (λ x. x.now) r ≡ slice_get xs i
 get_is xs i None Q reads past = sym (slice_get_past xs i past)
 get_is xs i (Some x) Q reads within = sym (slice_get_read xs (length xs) i x.now refl within.0 reads)
+
+-- so the nth item of a thread's queue is the position of its nth step
+pub nth_is : (test : ℕ → SourceLine → Bool) (steps : List SourceLine) (vecs : List (Vec ℕ Global)) (queue : Vec ℕ Global) (items : List ℕ)
+    (thread nth : ℕ) (r : Option (Bor ℕ)) (Q : Bor ℕ → Type 0) → AreQueues test steps (items_of vecs) → thread < 64
+    → queue ≡ get_or vecs thread queue → items ≡ queue.items → IfSome r (λ x. x.now ≡ get_or items nth x.now)
+    → MatchOption r (length items ≤ nth) (λ x. (nth < length items) × Q x)
+    → option_map (λ x. x.now) r ≡ slice_get (positions_where (test (thread + 1)) 0 steps) nth
+nth_is test steps vecs queue items thread nth r Q queues lt read same reads past =
+    get_is items nth r Q reads past ∙ ap (λ l. slice_get l nth) (same ∙ queue_is test steps vecs queue thread queues lt read)
