@@ -8,10 +8,8 @@ use Rattle.cml_calls.specs.declared.kind.Kind.TheVariants.{Mailbox, Channel, Por
 use Rattle.cml_board.specs.{Call, Answer, Who, Reply, Entry, Refusal, Want, Fits, answer, is_open, want_in, Waits, Applies, IsAsBefore}
 use Rattle.cml_board.specs.Shown.{Shown}
 use Rattle.cml_board.specs.declared.call.Call.TheVariants.{ClosePort, CopyPort, Send, Cast, Recv, Poll, Put, Get, Take, Swap}
-use Rattle.cml_board.specs.declared.entry.Who.TheVariants.{Seat}
 use Rattle.cml_board.specs.declared.outcome.Outcome.TheVariants as board
-use Rattle.cml_board.specs.declared.outcome.Refusal.TheVariants.{WrongKind}
-use Rattle.cml_lanes.specs.{FloorShown, is_barred}
+use Rattle.cml_lanes.specs.{FloorShown}
 use Rattle.cml_lanes.proofs.MovesLemmas.{unchanged}
 use Rattle.cml_room.specs.declared.news.News.{News}
 use Rattle.cml_room.specs.{Place, State, MayTurn, news_in, IsOf, news_by, NoneOpen, RoomShown, MayAsk, MayAskAgain, WouldWait, Follows}

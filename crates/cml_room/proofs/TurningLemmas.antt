@@ -1,5 +1,5 @@
 -- What becomes of the call of a seat that may make it.
-use Rattle.std.proofs.Common.{◌≡◌, ℕ, ◌⊎◌, inl, inr, Bool, true, false, List, slice_set, Some, refl, sym, ap, subst, ◌∙◌}
+use Rattle.std.proofs.Common.{◌≡◌, ℕ, ◌⊎◌, inl, inr, Bool, true, false, List, slice_set, Some, refl, sym, ap, subst}
 use Rattle.std.specs.Prelude.{⊤}
 use Rattle.cml_board.specs.{Call, Answer, Refusal, Want, want_in, Applies}
 use Rattle.cml_board.specs.declared.outcome.Outcome.{Outcome}
