@@ -1,6 +1,7 @@
 -- Each ring stays, whatever a call does to one lane or one feed.
-use Rattle.std.proofs.Common.{◌≡◌, ℕ, Option, Some}
-use Rattle.cml_lanes.specs.{LaneSide, FeedSide, FloorShown, KeepsRings, OnLane, OnFeed}
+use Rattle.std.proofs.Common.{◌≡◌, ℕ, List, Option, Some, refl, subst}
+use Rattle.cml_lanes.specs.{LaneSide, FeedSide, FloorShown, KeepsRings, OnPlace}
+use Rattle.cml_board.specs.Shown.{Shown}
 use Rattle.cml_lanes.proofs.SlotsLemmas.{same_places}
 use Rattle.cml_lanes.proofs.OneSlotLemmas.{told_before}
 
@@ -12,18 +13,18 @@ module _ {M : Type 0} where
     same_places (λ (side : FeedSide M). side.ring) old.feeds new.feeds feeds,
   )
 
-  pub lane_rings : {left : LaneSide M → Option (LaneSide M)} {number : ℕ} {old new : FloorShown M} {Does : LaneSide M → LaneSide M → Type 0}
+module _ {M : Type 0} {board : Shown M} {lanes : List (Option (LaneSide M))} {feeds : List (Option (FeedSide M))}
+    {old : FloorShown M} {number : ℕ} where
+  pub lane_rings : {news : List (Option (LaneSide M))} {left : LaneSide M → Option (LaneSide M)} {Does : LaneSide M → LaneSide M → Type 0}
       → ((from to side : LaneSide M) → Does from to → left to ≡ Some side → side.ring ≡ from.ring)
-      → OnLane left number old new Does → KeepsRings old new
-  lane_rings {left} {number} {old} {new} same on = (
-    told_before (λ (side : LaneSide M). side.ring) same on.place,
-    same_places (λ (side : FeedSide M). side.ring) old.feeds new.feeds on.feeds,
-  )
+      → record { board = board; lanes = lanes; feeds = feeds } ≡ old → OnPlace left number lanes news Does
+      → KeepsRings old (record { board = board; lanes = news; feeds = feeds })
+  lane_rings {news} same view on = subst (λ f. KeepsRings f (record { board = board; lanes = news; feeds = feeds })) view
+      (told_before (λ (side : LaneSide M). side.ring) same on, same_places (λ (side : FeedSide M). side.ring) feeds feeds refl)
 
-  pub feed_rings : {left : FeedSide M → Option (FeedSide M)} {number : ℕ} {old new : FloorShown M} {Does : FeedSide M → FeedSide M → Type 0}
+  pub feed_rings : {news : List (Option (FeedSide M))} {left : FeedSide M → Option (FeedSide M)} {Does : FeedSide M → FeedSide M → Type 0}
       → ((from to side : FeedSide M) → Does from to → left to ≡ Some side → side.ring ≡ from.ring)
-      → OnFeed left number old new Does → KeepsRings old new
-  feed_rings {left} {number} {old} {new} same on = (
-    same_places (λ (side : LaneSide M). side.ring) old.lanes new.lanes on.lanes,
-    told_before (λ (side : FeedSide M). side.ring) same on.place,
-  )
+      → record { board = board; lanes = lanes; feeds = feeds } ≡ old → OnPlace left number feeds news Does
+      → KeepsRings old (record { board = board; lanes = lanes; feeds = news })
+  feed_rings {news} same view on = subst (λ f. KeepsRings f (record { board = board; lanes = lanes; feeds = news })) view
+      (same_places (λ (side : LaneSide M). side.ring) lanes lanes refl, told_before (λ (side : FeedSide M). side.ring) same on)

@@ -4,7 +4,7 @@ use Rattle.std.proofs.lemmas.Option.{same_Some, none-some}
 use Rattle.cml_board.specs.{Refusal, Entry}
 use Rattle.cml_board.specs.Shown.{Shown}
 use Rattle.cml_lanes.specs.{Ended, LaneSide, FeedSide, fed, with_feed, PumpsIn, FloorShown, is_taken, is_open_feed, KeepsLanes, KeepsFeeds}
-use Rattle.cml_lanes.specs.{KeepsRings, stays, goes, OnPlace, OnFeed, is_feeds_port, PumpsUntil, EndsFeed}
+use Rattle.cml_lanes.specs.{KeepsRings, stays, goes, OnPlace, is_feeds_port, PumpsUntil, EndsFeed}
 use Rattle.cml_lanes.proofs.FeedEntriesLemmas.{laned_fed, keeps_lane_fed}
 use Rattle.cml_lanes.proofs.SlotsLemmas.{taken_slot}
 use Rattle.cml_lanes.proofs.PumpsLemmas.{until_pumps}
@@ -35,23 +35,12 @@ module _ {M : Type 0} where
             (pumped_keeps_feeds number count board after feeds on.from pumps.looked on.to on.opened pumps.looks pumps.pumps keeps.1),
       )
 
-  -- what is done to the place is done to the feed
-  pub on_feed : {board after : Shown M} {lanes : List (Option (LaneSide M))} {feeds news : List (Option (FeedSide M))} {old : FloorShown M}
-      {left : FeedSide M → Option (FeedSide M)} {number : ℕ} (Does : Shown M → FeedSide M → FeedSide M → Type 0)
-      → record { board = board; lanes = lanes; feeds = feeds } ≡ old → OnPlace left number feeds news (Does board)
-      → OnFeed left number old (record { board = after; lanes = lanes; feeds = news }) (Does old.board)
-  on_feed {after = after} {lanes = lanes} {news = news} {left = left} {number = number} Does view on =
-      subst (λ f. OnFeed left number f (record { board = after; lanes = lanes; feeds = news }) (Does f.board)) view
-      (record { place = on; lanes = refl })
-
-  -- and keeps the rings
-  pub pumped_rings : (chunk : ℕ) (sure : Bool) (number count : ℕ) (stopped : Option Refusal) (old new : FloorShown M)
-      → OnFeed stays number old new (PumpsUntil chunk sure number count stopped old.board new.board) → KeepsRings old new
-  pumped_rings chunk sure number count stopped old new =
-      feed_rings (λ from to side until is.
-      let pumps = until_pumps chunk sure number count stopped old.board new.board from to until in
-      sym (ap (λ (s : FeedSide M). s.ring) (same_Some _ _ is)) ∙ ap (λ (s : FeedSide M). s.ring) pumps.pumps.side
-      ∙ ap (λ (s : FeedSide M). s.ring) pumps.looks.side)
+  -- the feed keeps its ring
+  pub pumped_ring : (chunk : ℕ) (sure : Bool) (number count : ℕ) (stopped : Option Refusal) (old new : Shown M)
+      (from to side : FeedSide M) → PumpsUntil chunk sure number count stopped old new from to → Some to ≡ Some side → side.ring ≡ from.ring
+  pumped_ring chunk sure number count stopped old new from to side until is =
+      let p = until_pumps chunk sure number count stopped old new from to until in
+      ap (λ (s : FeedSide M). s.ring) (sym (same_Some _ _ is) ∙ p.pumps.side) ∙ ap (λ (s : FeedSide M). s.ring) p.looks.side
 
   -- an open feed's slot
   pub open_feed_slot : {lanes : List (Option (LaneSide M))} (number : ℕ) (board : Shown M)
@@ -112,5 +101,4 @@ module _ {M : Type 0} where
       let slot = taken_slot feeds number taken in
       let gone : OnPlace goes number feeds news (λ from to. to ≡ from) =
       record { from = slot.0; to = slot.0; opened = slot.1; places = written; does = refl } in
-      feed_rings (λ from to side same is. absurd (none-some side is))
-      (on_feed {after = board} (λ b from to. to ≡ from) view gone)
+      feed_rings (λ from to side same is. absurd (none-some side is)) view gone

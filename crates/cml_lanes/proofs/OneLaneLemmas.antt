@@ -6,8 +6,8 @@ use Rattle.std.proofs.lemmas.Bool.{true≢false}
 use Rattle.std.proofs.lemmas.List.{append-nil}
 use Rattle.cml_board.specs.{Refusal}
 use Rattle.cml_board.specs.Shown.{Shown}
-use Rattle.cml_lanes.specs.{Ended, LaneSide, FeedSide, laned, DrainsRing, Empties, FloorShown, is_taken, KeepsLanes, KeepsFeeds, KeepsRings}
-use Rattle.cml_lanes.specs.{GivesAll, stays, goes, OnPlace, OnLane, DrainsUntil, LeavesAll, EmptiesLane}
+use Rattle.cml_lanes.specs.{Ended, LaneSide, FeedSide, laned, Empties, FloorShown, is_taken, KeepsLanes, KeepsFeeds, KeepsRings, GivesAll}
+use Rattle.cml_lanes.specs.{stays, goes, OnPlace, OnLane, DrainsUntil, LeavesAll, EmptiesLane}
 use Rattle.cml_lanes.proofs.MovesLemmas.{until_drains}
 use Rattle.cml_lanes.proofs.SlotsLemmas.{taken_slot, set_again}
 use Rattle.cml_lanes.proofs.OneSlotLemmas.{stays_there}
@@ -37,16 +37,13 @@ module _ {M : Type 0} where
       subst (λ f. OnLane left number f (record { board = after; lanes = news; feeds = feeds }) (Does f.board)) view
       (record { place = on; feeds = refl })
 
-  -- and keeps the rings
-  same_ring : (number count : ℕ) (old new : Shown M) (from to : LaneSide M) → DrainsRing number count old new from to → to.ring ≡ from.ring
-  same_ring number count old new from to d = ap (λ (side : LaneSide M). side.ring) d.moves.side
-      ∙ ap (λ (side : LaneSide M). side.ring) d.looks.side
-
-  pub drained_rings : (chunk : ℕ) (sure : Bool) (number count : ℕ) (stopped : Option Refusal) (old new : FloorShown M)
-      → OnLane stays number old new (DrainsUntil chunk sure number count stopped old.board new.board) → KeepsRings old new
-  drained_rings chunk sure number count stopped old new =
-      lane_rings (λ from to side until is. sym (ap (λ (s : LaneSide M). s.ring) (same_Some _ _ is))
-      ∙ same_ring number count old.board new.board from to (until_drains chunk sure number count stopped old.board new.board from to until))
+  -- and it keeps its ring
+  pub drained_ring : (chunk : ℕ) (sure : Bool) (number count : ℕ) (stopped : Option Refusal) (old new : Shown M)
+      (from to side : LaneSide M) → DrainsUntil chunk sure number count stopped old new from to
+      → Some to ≡ Some side → side.ring ≡ from.ring
+  drained_ring chunk sure number count stopped old new from to side until is =
+      let d = until_drains chunk sure number count stopped old new from to until in
+      ap (λ (s : LaneSide M). s.ring) (sym (same_Some _ _ is) ∙ d.moves.side) ∙ ap (λ (s : LaneSide M). s.ring) d.looks.side
 
   pub gone_rings : {feeds : List (Option (FeedSide M))} (number : ℕ) (board : Shown M)
       (lanes news : List (Option (LaneSide M))) (old : FloorShown M)
@@ -57,8 +54,7 @@ module _ {M : Type 0} where
       let slot = taken_slot lanes number taken in
       let gone : OnPlace goes number lanes news (λ from to. to ≡ from) =
       record { from = slot.0; to = slot.0; opened = slot.1; places = written; does = refl } in
-      lane_rings (λ from to side same is. absurd (none-some side is))
-      (on_lane {after = board} (λ b from to. to ≡ from) view gone)
+      lane_rings (λ from to side same is. absurd (none-some side is)) view gone
 
   -- what the journal has and what is left
   pub gives_all : (number : ℕ) (after : Shown M) (news : List (Option (LaneSide M))) (feeds : List (Option (FeedSide M))) (end : Ended M)

@@ -1,6 +1,7 @@
 use Rattle.std.proofs.Common.{slice_get, sym, ap, ◌∙◌}
 use Rattle.cml_lanes.specs.{FloorShown, is_open_lane, DrainsUntil}
-use Rattle.cml_lanes.proofs.OneLaneLemmas.{floor_drained, on_lane, drained_rings, gives_all}
+use Rattle.cml_lanes.proofs.EachRingLemmas.{lane_rings}
+use Rattle.cml_lanes.proofs.OneLaneLemmas.{floor_drained, on_lane, drained_ring, gives_all}
 use Rattle.cml_lanes.proofs.floor.Floor.drain_after.Goals as goal
 
 pub drain_after-requires-clause-opened : goal.drain_after-requires-clause-opened
@@ -23,9 +24,8 @@ returns-clause-until g c =
 
 pub returns-clause-rings : goal.returns-clause-rings
 returns-clause-rings g c =
-    drained_rings g.L.MessageLog.CHUNK g.M.Message.SURE c.args.lane c.drain_after.result.0 c.drain_after.result.1 c.args.self.now _
-    (on_lane (λ b. DrainsUntil g.L.MessageLog.CHUNK g.M.Message.SURE c.args.lane c.drain_after.result.0 c.drain_after.result.1 b
-    c.drain_after.new.board) c.self.view_is c.drain_after.ensures.until)
+    lane_rings (drained_ring g.L.MessageLog.CHUNK g.M.Message.SURE c.args.lane c.drain_after.result.0 c.drain_after.result.1
+    c.self.inside.board c.drain_after.new.board) c.self.view_is c.drain_after.ensures.until
 
 pub returns-clause-all : goal.returns-clause-all
 returns-clause-all g c =

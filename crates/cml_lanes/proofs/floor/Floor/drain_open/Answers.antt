@@ -1,6 +1,7 @@
 use Rattle.std.proofs.Common.{ap, ◌∙◌}
 use Rattle.cml_lanes.specs.{FloorShown, is_open_lane, DrainsUntil}
-use Rattle.cml_lanes.proofs.OneLaneLemmas.{floor_drained, on_lane, drained_rings}
+use Rattle.cml_lanes.proofs.EachRingLemmas.{lane_rings}
+use Rattle.cml_lanes.proofs.OneLaneLemmas.{floor_drained, on_lane, drained_ring}
 use Rattle.cml_lanes.proofs.floor.Floor.drain_open.Goals as goal
 
 pub drain-requires-clause-opened : goal.drain-requires-clause-opened
@@ -22,6 +23,5 @@ returns-clause-until g c =
 
 pub returns-clause-rings : goal.returns-clause-rings
 returns-clause-rings g c =
-    drained_rings g.L.MessageLog.CHUNK g.M.Message.SURE c.args.lane c.drain.result.0 c.drain.result.1 c.args.self.now _
-    (on_lane (λ b. DrainsUntil g.L.MessageLog.CHUNK g.M.Message.SURE c.args.lane c.drain.result.0 c.drain.result.1 b c.drain.new.board)
-    c.self.view_is c.drain.ensures)
+    lane_rings (drained_ring g.L.MessageLog.CHUNK g.M.Message.SURE c.args.lane c.drain.result.0 c.drain.result.1
+    c.self.inside.board c.drain.new.board) c.self.view_is c.drain.ensures

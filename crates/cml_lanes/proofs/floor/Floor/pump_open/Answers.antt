@@ -1,5 +1,7 @@
-use Rattle.cml_lanes.specs.{PumpsUntil}
-use Rattle.cml_lanes.proofs.OneFeedLemmas.{open_feed_slot, floor_pumped, on_feed, pumped_rings}
+use Rattle.std.proofs.Common.{refl, subst}
+use Rattle.cml_lanes.specs.{FloorShown, OnFeed, stays, PumpsUntil}
+use Rattle.cml_lanes.proofs.EachRingLemmas.{feed_rings}
+use Rattle.cml_lanes.proofs.OneFeedLemmas.{open_feed_slot, floor_pumped, pumped_ring}
 use Rattle.cml_lanes.proofs.floor.Floor.pump_open.Goals as goal
 
 pub pump-requires-clause-opened : goal.pump-requires-clause-opened
@@ -17,11 +19,12 @@ invariant_of-self g c =
 
 pub returns-clause-until : goal.returns-clause-until
 returns-clause-until g c =
-    on_feed (λ b. PumpsUntil g.L.MessageLog.CHUNK g.M.Message.SURE c.args.feed c.pump.result.0 c.pump.result.1 b c.pump.new.board)
-    c.self.view_is c.pump.ensures
+    subst (λ (f : FloorShown g.row.M.Denot). OnFeed stays c.args.feed f
+    (record { board = c.pump.new.board; lanes = c.self.inside.lanes; feeds = c.pump.new.self.feeds })
+    (PumpsUntil g.L.MessageLog.CHUNK g.M.Message.SURE c.args.feed c.pump.result.0 c.pump.result.1 f.board c.pump.new.board))
+    c.self.view_is (record { place = c.pump.ensures; lanes = refl })
 
 pub returns-clause-rings : goal.returns-clause-rings
 returns-clause-rings g c =
-    pumped_rings g.L.MessageLog.CHUNK g.M.Message.SURE c.args.feed c.pump.result.0 c.pump.result.1 c.args.self.now _
-    (on_feed (λ b. PumpsUntil g.L.MessageLog.CHUNK g.M.Message.SURE c.args.feed c.pump.result.0 c.pump.result.1 b c.pump.new.board)
-    c.self.view_is c.pump.ensures)
+    feed_rings (pumped_ring g.L.MessageLog.CHUNK g.M.Message.SURE c.args.feed c.pump.result.0 c.pump.result.1
+    c.self.inside.board c.pump.new.board) c.self.view_is c.pump.ensures
