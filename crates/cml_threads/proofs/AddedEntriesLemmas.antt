@@ -1,5 +1,5 @@
 -- How many entries a call on lanes or feeds adds, and that all of them are of lanes and feeds.
-use Rattle.std.proofs.Common.{◌≡◌, ℕ, ◌+◌, ◌≤◌, List, [], ◌∷◌, length, ap, ◌∙◌, arith}
+use Rattle.std.proofs.Common.{◌≡◌, ℕ, ◌+◌, ◌≤◌, List, length, ap, ◌∙◌, arith, refl}
 use Rattle.cml_board.specs.{Entry, entries_in, ring_by, rings_in}
 use Rattle.cml_board.specs.Shown.{Shown}
 use Rattle.cml_lanes.specs.{lane_entry, feed_entry, with_entries, FloorShown, Deed, as_it_was, lane_drained, lane_gone, lane_opened}
