@@ -1,5 +1,6 @@
 -- A run of a hall's calls.
-use Rattle.std.specs.Prelude.{◌≡◌, ℕ, Bool, true, false, not, ◌&&◌, List, [], ◌∷◌}
+use Rattle.std.specs.Prelude.{◌≡◌, ℕ, Bool, true, false, not, List, [], ◌∷◌}
+use Rattle.std.specs.List.{list_all}
 use Rattle.cml_board.specs.{Call}
 use Rattle.cml_board.specs.declared.outcome.Outcome.{Outcome}
 use Rattle.cml_lanes.specs.{FloorCall, IsCalled, takes_journal}
@@ -43,8 +44,7 @@ module _ {M : Type 0} where
 
   -- none of the calls does
   abbrev pub keeps_entries : List (HallCall M) → Bool
-  keeps_entries [] = true
-  keeps_entries (call ∷ later) = not (hands_over call) && keeps_entries later
+  keeps_entries calls = list_all (λ call. not (hands_over call)) calls
 
   -- the calls were made in turn, and this became of the hall
   abbrev pub AreMade : ℕ → Bool → List (HallCall M) → Hosted M → Hosted M → Type 0
