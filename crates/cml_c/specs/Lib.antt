@@ -4,7 +4,7 @@ pub mod Lending
 pub mod Codes
 pub mod Handles
 pub mod Asking
-pub mod Blocks
+pub mod Needing
 pub mod Messages
 pub mod Opening
 pub mod Seats
@@ -13,7 +13,7 @@ pub mod Floors
 pub mod Reserved
 pub mod Lanes
 pub mod Feeds
-pub mod Reading
+pub mod Readers
 pub mod Entries
 pub mod Journals
 pub mod Checkers
@@ -28,7 +28,7 @@ pub use Codes.{number, of_refusal, written_count}
 pub use Handles.{OnBoth, OnBytes, OnChecker, OnEither, OnEitherKept, OnFeed, OnJournal, OnNumbers, OnReading, OnRoom}
 pub use Asking.{Calls, CallsPlain, Makes, MayMake, MayWant, Names, NamesNothing, chunk, named_outcome, sending_call, told_reply}
 pub use Asking.{written_outcome}
-pub use Blocks.{GivesShort, HoldsLong, IsGiven, IsOwed, IsShortReply, IsThere, MayBeLong, NeedsBlock, WouldGive}
+pub use Needing.{GivesShort, HoldsLong, IsGiven, IsOwed, IsShortReply, IsThere, MayBeLong, NeedsBlock, WouldGive}
 pub use Messages.{CallsBytes, FillsBytes, HandsHeld, HandsOutcome, HandsShare, IsHanded, MakesBytes, MakesCopied, NotCopied, SwapsBytes}
 pub use Messages.{SwapsCopied}
 pub use Opening.{IsLimit, IsNew, OpensAChecker, OpensARoom, Writes}
@@ -38,8 +38,8 @@ pub use Floors.{Counts, Does}
 pub use Reserved.{CutsReserved, ReservesSome}
 pub use Lanes.{Closes, ClosesEnd, ClosesLane, DropsLane, Finishes, OpensLane, Sends, SendsCopied, told_dropped, told_sent, written_dropped}
 pub use Feeds.{EndsFeed, OpensFeed, TakesBytes, TakesNumber, TellsPort}
-pub use Reading.{Holds, HoldsBytes, Reads, ReadsOn, TellsFull, TellsOpen, bare, found_in, number_of_kind, told_found, told_held, told_open}
-pub use Reading.{written_found, written_held}
+pub use Readers.{Holds, HoldsBytes, Reads, ReadsOn, TellsFull, TellsOpen, bare, found_in, number_of_kind, told_found, told_held, told_open}
+pub use Readers.{written_found, written_held}
 pub use Entries.{Finds, FindsBytes, FindsBytesIn, FindsIn, IsAt, IsShown, call_kind, call_object, call_of, count_of, flat, given_by}
 pub use Entries.{maker_of, or_zero, reply_kind, reply_message, reply_name, reply_of}
 pub use Journals.{TakesJournal}

@@ -12,7 +12,7 @@ use Rattle.cml_c.specs.declared.messages.SeryugoBytes.{SeryugoBytes}
 use Rattle.cml_c.specs.Codes.{number}
 use Rattle.cml_c.specs.Handles.{OnBytes, OnRoom}
 use Rattle.cml_c.specs.Asking.{MayMake, Makes, named_outcome}
-use Rattle.cml_c.specs.Blocks.{NeedsBlock}
+use Rattle.cml_c.specs.Needing.{NeedsBlock}
 
 -- up to 14 bytes lie in the struct
 abbrev pub LiesIn : List ℕ → SeryugoBytes → Type 0

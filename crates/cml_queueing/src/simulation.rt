@@ -38,7 +38,7 @@ pub(crate) struct Simulation {
 }
 
 impl Model for Simulation {
-    ghost use Rattle.cml_queueing.specs.Course.{Course};
+    ghost use Rattle.cml_queueing.specs.Stations.{Course};
 
     ghost Value = { Course };
 
