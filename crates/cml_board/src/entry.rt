@@ -2,7 +2,7 @@ ghost use Rattle.std.specs.Prelude.{◌≡◌, ◌↔◌, IsTrue};
 
 use crate::call::{Call, Name};
 use crate::message::Message;
-use cml_messages::Text;
+use cml_messages::{Bytes, Text};
 use std::mem;
 
 /// The maker of a call, by its number: a seat, or a lane or a feed on its thread's behalf.
@@ -56,5 +56,7 @@ pub struct Entry<M> {
 /// An entry of a board of numbers is at most 56 bytes.
 const _: () = prove!(mem::size_of::<Entry<u64>>() <= 56);
 
-/// An entry of a board of texts is at most 88 bytes. Those of a long text lie elsewhere.
-const _: () = prove!(mem::size_of::<Entry<Text>>() <= 88);
+/// So is one of a board of bytes or of texts: each message is one pointer.
+const _: () = prove!(mem::size_of::<Entry<Bytes>>() <= 56);
+
+const _: () = prove!(mem::size_of::<Entry<Text>>() <= 56);

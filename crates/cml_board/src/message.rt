@@ -30,7 +30,7 @@ impl Message for u64 {
     }
 }
 
-/// A share of more than 14 bytes copies none: it shares their memory, and fails if there are too many shares.
+/// A share copies no bytes: it shares their memory, and fails if there are too many shares.
 impl Message for Bytes {
     ghost SURE = { false };
 

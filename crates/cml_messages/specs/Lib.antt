@@ -1,6 +1,7 @@
 pub mod Sizes
-pub mod Place
+pub mod Body
 pub mod Text
 -- the names that others import from here
-pub use Sizes.{IsLong, IsShort, IsTooLong}
+pub use Sizes.{IsTooLong}
+pub use Body.{bytes_of}
 pub use Text.{is_text, is_text_byte}

@@ -55,13 +55,4 @@ impl<const N: usize> Few<N> {
     {
         &self.bytes[..self.count as usize]
     }
-
-    pub(crate) fn copy(&self) -> Few<N>
-        ensures { result ≡ self.now }
-    {
-        Few {
-            count: self.count,
-            bytes: self.bytes,
-        }
-    }
 }

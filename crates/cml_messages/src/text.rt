@@ -1,7 +1,7 @@
 //! A text: one word, short enough for a line.
-ghost use Rattle.std.specs.Prelude.{◌≡◌, ◌<◌, ◌^◌, true, false, IfOk};
+ghost use Rattle.std.specs.Prelude.{◌≡◌, true, false, IfOk};
 ghost use Rattle.std.specs.Fmt.{decimal};
-ghost use Rattle.cml_messages.specs.{IsShort, is_text_byte, is_text};
+ghost use Rattle.cml_messages.specs.{is_text_byte, is_text};
 
 use crate::bytes::Bytes;
 use itoa::Buffer;
@@ -16,7 +16,7 @@ const MAX_BYTES: usize = 64;
 
 /// A word of 1 to 64 bytes from 0x21 to 0x7E. Contracts see it as the list of its bytes.
 ///
-/// Up to 14 bytes lie in the text itself. More lie in memory that all clones own.
+/// They lie in memory that all clones share.
 #[derive(Drop)]
 pub struct Text {
     bytes: Bytes,
@@ -55,15 +55,14 @@ pub fn is_text(bytes: &[u8]) -> bool
 }
 
 impl Text {
-    ghost use Rattle.std.specs.Prelude.{IsOk, IsErr, IsOkAnd, OnOk, OnErr};
+    ghost use Rattle.std.specs.Prelude.{IsErr, IsOkAnd, OnOk, OnErr};
 
-    /// Makes a text by copying these bytes. By the code, it allocates only for more than 14 of them.
+    /// Makes a text by copying these bytes. By the code, it allocates once.
     pub fn from_bytes(alloc: Global, bytes: &[u8]) -> Result<Result<Text, BadText>, AllocError>
         ensures text { IfOk result (λ tested. IfOk tested (λ text. text ≡ bytes.now)) }
         ensures good { IfOk result (λ tested. OnOk tested (is_text bytes.now ≡ true)) }
         ensures bad { IfOk result (λ tested. OnErr tested (is_text bytes.now ≡ false)) }
         ensures bad_text { is_text bytes.now ≡ false → IsOkAnd result (λ tested. IsErr tested) }
-        ensures short { IsShort bytes.now → IsOk result }
     {
         if !is_text(bytes) {
             return Ok(Err(BadText));
@@ -74,10 +73,9 @@ impl Text {
         }
     }
 
-    /// Makes a text of a number's decimal digits, without zeros in front. By the code, it allocates only for more than 14.
+    /// Makes a text of a number's decimal digits, without zeros in front. By the code, it allocates once.
     pub fn of_number(alloc: Global, number: u64) -> Result<Text, AllocError>
         ensures digits { IfOk result (λ text. text ≡ decimal number) }
-        ensures short { number < 10 ^ 14 → IsOk result }
     {
         let mut digits = Buffer::new();
         match Bytes::from_slice(alloc, digits.format(number).as_bytes())? {
@@ -103,11 +101,9 @@ impl Text {
     }
 }
 
-/// A clone copies up to 14 bytes, and then never fails. A clone of more bytes copies none: it shares their memory.
+/// A clone copies no bytes: it shares their memory.
 impl Clone for Text {
     ghost is_clone = { λ text copy. copy ≡ text };
-
-    ghost is_infallible = { IsShort };
 
     fn clone(&self) -> Result<Text, AllocError> {
         let bytes = self.bytes.clone()?;
