@@ -188,15 +188,14 @@ uint32_t seryugo_swap(struct seryugo *room, uint64_t seat, uint64_t variable, ui
  * A call that sends copies the bytes once, before it returns: the buffer stays yours. A message has 0 to 2^32 - 1 bytes. A null
  * pointer with length 0 is the empty message. SERYUGO_OUT_OF_BOUNDS: the pointer is null and the length isn't 0, or the length
  * is larger. Then, and if there is no memory for the copy (SERYUGO_NO_MEMORY), nothing is changed: a parked seat stays parked. A
- * null pointer is tested first, and the copy after SERYUGO_WRONG_HANDLE and SERYUGO_GONE. The copy of up to 14 bytes allocates
- * nothing.
+ * null pointer is tested first, and the copy after SERYUGO_WRONG_HANDLE and SERYUGO_GONE.
  *
- * A call that receives hands a message over: it writes the struct, and you own the message until you free it. Up to 14 bytes lie
+ * A call that receives hands a message over: it writes the struct, and you own the message until you free it. Up to 78 bytes lie
  * in the struct itself. Nothing is copied of more: the journal, other receivers and you share them. The bytes never change, and
  * don't write to them. seryugo_bytes_at says where they are. You may copy the struct, and read the bytes by each copy until one of
  * them is freed. If there is no memory to keep a message, the call fails with SERYUGO_NO_MEMORY before anything is received, and
  * nothing is changed: a parked seat stays parked. A call that would block never fails so, nor one that would get no message. A
- * variable's message of up to 14 bytes never does. On an open feed's port this may come before SERYUGO_WRONG_KIND.
+ * variable's message of up to 78 bytes never does. On an open feed's port this may come before SERYUGO_WRONG_KIND.
  *
  * One case is special: a seat that is parked in seryugo_bytes_recv, _get, _take or _swap makes its call again with is_again, and
  * it fails with SERYUGO_NO_MEMORY. Then the seat may still be parked, or be free. Make the call again with is_again: if that
@@ -204,30 +203,30 @@ uint32_t seryugo_swap(struct seryugo *room, uint64_t seat, uint64_t variable, ui
  */
 
 /* The most bytes of a message that lie in the struct. */
-#define SERYUGO_IN_PLACE 14
+#define SERYUGO_IN_PLACE 78
 
-/* What keeps a message of more than 14 bytes. */
+/* What keeps a message of more than 78 bytes. */
 struct seryugo_share {
     void *at;
 };
 
-/* A message: how many bytes it has, where they are if they are more than 14, what keeps these, and up to 14 bytes. Read the bytes
+/* A message: how many bytes it has, where they are if they are more than 78, what keeps these, and up to 78 bytes. Read the bytes
  * by seryugo_bytes_at. */
 struct seryugo_bytes {
     size_t length;
     const uint8_t *block;
     struct seryugo_share owner;
-    uint8_t in_place[16];
+    uint8_t in_place[78];
 };
 
-/* Where the bytes of a message are. Up to 14 are in the struct: use the pointer while the struct is there. For more bytes the
+/* Where the bytes of a message are. Up to 78 are in the struct: use the pointer while the struct is there. For more bytes the
  * pointer is good until seryugo_bytes_free, also once the struct is gone. It is never null. */
 static inline const uint8_t *seryugo_bytes_at(const struct seryugo_bytes *message)
 {
     return message->length > SERYUGO_IN_PLACE ? message->block : message->in_place;
 }
 
-/* What the library exports to free a message of more than 14 bytes. From C, call the next function. */
+/* What the library exports to free a message of more than 78 bytes. From C, call the next function. */
 void seryugo_bytes_release(struct seryugo_share owner);
 
 /* Frees a message that a call handed over. Call it once for each. The room needn't be open any more. */

@@ -43,6 +43,10 @@ static void hands(uint32_t code, const char *bytes, size_t length, int line)
 
 #define HANDS(text, call) hands(call, text, sizeof(text) - 1, __LINE__)
 
+/* As many bytes as lie in the struct, and one more. */
+#define SHORT "a message of as many bytes as lie in the struct itself, so that none is shared"
+#define LONG "a message of one byte more than lie in the struct, so that it's shared with all"
+
 #define SEND(seat, mailbox, text) seryugo_bytes_send(&room, seat, mailbox, text, sizeof(text) - 1)
 
 static uint64_t one, two, mailbox, channel, port, once, full;
@@ -69,12 +73,12 @@ static void try_mailboxes(void)
     RETURNS(WRONG_KIND, SEND(one, channel, "x"));
     RETURNS(NOTHING, seryugo_bytes_recv_poll(&room, one, mailbox, &message));
     RETURNS(DONE, SEND(one, mailbox, ""));
-    RETURNS(DONE, SEND(one, mailbox, "fourteen bytes"));
-    RETURNS(DONE, SEND(one, mailbox, "fifteen bytes.."));
+    RETURNS(DONE, SEND(one, mailbox, SHORT));
+    RETURNS(DONE, SEND(one, mailbox, LONG));
     RETURNS(DONE, seryugo_bytes_send(&room, one, mailbox, NULL, 0));
     HANDS("", seryugo_bytes_recv(&room, two, mailbox, false, &message));
-    HANDS("fourteen bytes", seryugo_bytes_recv(&room, two, mailbox, false, &message));
-    HANDS("fifteen bytes..", seryugo_bytes_recv_poll(&room, two, mailbox, &message));
+    HANDS(SHORT, seryugo_bytes_recv(&room, two, mailbox, false, &message));
+    HANDS(LONG, seryugo_bytes_recv_poll(&room, two, mailbox, &message));
     HANDS("", seryugo_bytes_recv(&room, two, mailbox, false, &message));
     RETURNS(PARKED, seryugo_bytes_recv(&room, two, mailbox, false, &message));
     RETURNS(STALLED, seryugo_bytes_recv(&room, one, mailbox, false, &message));
@@ -137,7 +141,7 @@ static void try_lanes(void)
     RETURNS(DONE, seryugo_bytes_lane_send(&lane, "on a lane", 9));
     RETURNS(OUT_OF_BOUNDS, seryugo_bytes_lane_send(&lane, NULL, 9));
     RETURNS(WRONG_HANDLE, seryugo_lane_send(&lane, 9));
-    RETURNS(DONE, seryugo_bytes_lane_send(&lane, "more than fourteen bytes", 24));
+    RETURNS(DONE, seryugo_bytes_lane_send(&lane, LONG, sizeof(LONG) - 1));
     RETURNS(FULL, seryugo_bytes_lane_send(&lane, "x", 1));
     /* Without memory for an entry the drain would stop halfway, and write how many it moved. */
     RETURNS(DONE, seryugo_reserve(&room, 2));
@@ -147,7 +151,7 @@ static void try_lanes(void)
     RETURNS(DONE, seryugo_lane_close(&room, &lane));
     close_one(&has_lane, lane);
     HANDS("on a lane", seryugo_bytes_recv(&room, one, mailbox, false, &message));
-    HANDS("more than fourteen bytes", seryugo_bytes_recv(&room, one, mailbox, false, &message));
+    HANDS(LONG, seryugo_bytes_recv(&room, one, mailbox, false, &message));
 }
 
 static void try_feeds(void)
@@ -187,7 +191,7 @@ static void try_entries(void)
     IS(one, entry.maker.number);
     IS(SERYUGO_CALL_SEND, entry.call.kind);
     IS(mailbox, entry.call.object);
-    HAS("fifteen bytes..", entry.call.message);
+    HAS(LONG, entry.call.message);
     IS(SERYUGO_REPLY_DONE, entry.reply.kind);
     HAS("", entry.reply.message);
     free_entry();
@@ -195,7 +199,7 @@ static void try_entries(void)
     has_entry = true;
     IS(SERYUGO_CALL_RECV, entry.call.kind);
     IS(SERYUGO_REPLY_GOT, entry.reply.kind);
-    HAS("fourteen bytes", entry.reply.message);
+    HAS(SHORT, entry.reply.message);
     free_entry();
     RETURNS(DONE, seryugo_bytes_entry(&room, 1, &entry));
     has_entry = true;
@@ -216,7 +220,7 @@ static uint64_t try_a_taken_journal(void)
     close_one(&has_room, room);
     RETURNS(DONE, seryugo_bytes_taken_entry(&journal, 7, &entry));
     has_entry = true;
-    HAS("fifteen bytes..", entry.call.message);
+    HAS(LONG, entry.call.message);
     free_entry();
     RETURNS(NO_SUCH, seryugo_bytes_taken_entry(&journal, count, &entry));
     return count;

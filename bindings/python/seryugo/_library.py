@@ -21,7 +21,7 @@ from typing import Any, Callable, Optional, cast
 from . import _version
 
 # The most bytes of a message that lie in the struct.
-IN_PLACE = 14
+IN_PLACE = 78
 
 # What a call returns if it isn't refused. `errors` has the refusals.
 DONE = 0
@@ -50,7 +50,7 @@ class Bytes(Structure):
         ("length", c_size_t),
         ("block", POINTER(c_char)),
         ("owner", Share),
-        ("in_place", c_uint8 * 16),
+        ("in_place", c_uint8 * IN_PLACE),
     ]
 
 

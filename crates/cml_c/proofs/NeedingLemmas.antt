@@ -77,26 +77,26 @@ owed_polled true false owes is = absurd is
 owed_polled false opens owes is = absurd is
 
 -- the same of what a variable holds
-looked_held : (test : Bool) (holds : Option Message) (message : Message) → test ≡ true → 14 < length message
+looked_held : (test : Bool) (holds : Option Message) (message : Message) → test ≡ true → 78 < length message
     → given holds ≡ Some (Got message) → HoldsLong (only_if test holds)
 looked_held true None message is long gives = absurd (none-some _ gives)
-looked_held true (Some one) message is long gives = subst (λ m. 14 < length m) (sym (same_message one message gives)) long
+looked_held true (Some one) message is long gives = subst (λ m. 78 < length m) (sym (same_message one message gives)) long
 looked_held false holds message is long gives = absurd (false≢true is)
 
-polled_held : (test : Bool) (holds : Option Message) (message : Message) → test ≡ true → 14 < length message
+polled_held : (test : Bool) (holds : Option Message) (message : Message) → test ≡ true → 78 < length message
     → Some (unwrap_or (given holds) Nothing) ≡ Some (Got message) → HoldsLong (only_if test holds)
 polled_held true None message is long gives = absurd (not_got Nothing message refl gives)
-polled_held true (Some one) message is long gives = subst (λ m. 14 < length m) (sym (same_message one message gives)) long
+polled_held true (Some one) message is long gives = subst (λ m. 78 < length m) (sym (same_message one message gives)) long
 polled_held false holds message is long gives = absurd (false≢true is)
 
 held_looked : (test : Bool) (holds : Option Message) → HoldsLong (only_if test holds)
-    → (message : Message) × (given holds ≡ Some (Got message)) × (14 < length message)
+    → (message : Message) × (given holds ≡ Some (Got message)) × (78 < length message)
 held_looked true None is = absurd is
 held_looked true (Some one) is = (one, refl, is)
 held_looked false holds is = absurd is
 
 held_polled : (test : Bool) (holds : Option Message) → HoldsLong (only_if test holds)
-    → (message : Message) × (Some (unwrap_or (given holds) Nothing) ≡ Some (Got message)) × (14 < length message)
+    → (message : Message) × (Some (unwrap_or (given holds) Nothing) ≡ Some (Got message)) × (78 < length message)
 held_polled true None is = absurd is
 held_polled true (Some one) is = (one, refl, is)
 held_polled false holds is = absurd is
@@ -140,8 +140,8 @@ there_given history (Swap name message) is = let gives = held_looked _ (held his
     record { message = gives.0; answer = gives.1; long = gives.2 }
 there_given history call is = absurd is
 
--- each message of more than 14 bytes may be long
-may_be_long : (call : Call Message) (message : Message) → 14 < length message → MayBeLong call message
+-- each message of more than 78 bytes may be long
+may_be_long : (call : Call Message) (message : Message) → 78 < length message → MayBeLong call message
 may_be_long (Recv name) message long = tt
 may_be_long (Poll name) message long = tt
 may_be_long call message long = long
@@ -152,7 +152,7 @@ pub gives_short : (again : Bool) (seat : ℕ) (call : Call Message) (old new : R
 gives_short again seat call old new (outcome.Answered answered) none asks = by_reply answered.reply asks.1.applies.2
   where
     by_reply : (reply : Reply Message) → answer old.board.history call ≡ Some reply → IsShortReply reply
-    by_reply (Got message) gives = elim (cases_lt 14 (length message)) [
+    by_reply (Got message) gives = elim (cases_lt 78 (length message)) [
       | inl long ↦ absurd (none (record {
         may = asks.0;
         gives = record {

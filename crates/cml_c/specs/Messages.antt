@@ -1,6 +1,6 @@
 -- What a call in a room of bytes returns to C, and the messages that it hands over.
-use Rattle.std.specs.Prelude.{ℕ, ◌≡◌, ◌<◌, ◌⊎◌, Bool, false, List, length, take, Option, Some, None, ⊤}
-use Rattle.cml_messages.specs.{IsShort, IsLong, IsTooLong}
+use Rattle.std.specs.Prelude.{ℕ, ◌≡◌, ◌<◌, ◌^◌, ◌⊎◌, Bool, false, List, length, take, Option, Some, None, ⊤}
+use Rattle.cml_messages.specs.{IsTooLong}
 use Rattle.cml_board.specs.{Call, Reply}
 use Rattle.cml_board.specs.declared.outcome.Outcome.{Outcome}
 use Rattle.cml_board.specs.declared.entry.Reply.TheVariants as reply
@@ -12,15 +12,15 @@ use Rattle.cml_c.specs.declared.messages.SeryugoBytes.{SeryugoBytes}
 use Rattle.cml_c.specs.Codes.{number}
 use Rattle.cml_c.specs.Handles.{OnBytes, OnRoom}
 use Rattle.cml_c.specs.Asking.{MayMake, Makes, named_outcome}
-use Rattle.cml_c.specs.Needing.{NeedsBlock}
+use Rattle.cml_c.specs.Needing.{NeedsBlock, IsShort}
 
--- up to 14 bytes lie in the struct
+-- up to 78 bytes lie in the struct
 abbrev pub LiesIn : List ℕ → SeryugoBytes → Type 0
 LiesIn message to = IsShort message × (take (length message) to.in_place ≡ message)
 
 -- more are kept by what C has
 abbrev pub IsKept : List ℕ → SeryugoBytes → Type 0
-IsKept message to = (14 < length message) × (to.owner.kept ≡ Some (record { bytes = message }))
+IsKept message to = (78 < length message) × (to.owner.kept ≡ Some (record { bytes = Some message }))
 
 -- this message is handed over, with how many bytes it has
 pub record IsHanded (message : List ℕ) (to : SeryugoBytes) : Type 0 where
@@ -37,9 +37,9 @@ HandsOutcome from to (outcome.Answered answer) = HandsReply from to answer.reply
 HandsOutcome from to (outcome.WouldWait back) = to ≡ from
 HandsOutcome from to (outcome.Refused refusal back) = to ≡ from
 
--- a share of what is held is handed over; or it has more than 14 bytes, and there is no memory for it
+-- a share of what is held is handed over; or it has more than 78 bytes, and there is no memory for it
 abbrev pub HandsShare : List ℕ → ℕ → SeryugoBytes → SeryugoBytes → Type 0
-HandsShare held code from to = ((code ≡ number Done) × IsHanded held to) ⊎ ((code ≡ number NoMemory) × (14 < length held) × (to ≡ from))
+HandsShare held code from to = ((code ≡ number Done) × IsHanded held to) ⊎ ((code ≡ number NoMemory) × (78 < length held) × (to ≡ from))
 
 -- the same of a variable, which may be empty, or not be there
 abbrev pub HandsHeld : Option (Option (List ℕ)) → ℕ → SeryugoBytes → SeryugoBytes → Type 0
@@ -66,7 +66,7 @@ CallsBytes again seat call old new code from to = OnBytes (OnRoom (MakesBytes ag
 
 -- the bytes were not copied: they are too many, or there is no memory for them
 abbrev pub NotCopied : List ℕ → ℕ → Type 0
-NotCopied bytes code = ((code ≡ number NoMemory) × IsLong bytes) ⊎ ((code ≡ number OutOfBounds) × IsTooLong bytes)
+NotCopied bytes code = ((code ≡ number NoMemory) × (length bytes < 2 ^ 32)) ⊎ ((code ≡ number OutOfBounds) × IsTooLong bytes)
 
 -- they were not copied for a call that the seat may make: nothing is changed
 pub record CopiesNone {M : Type 0} (again : Bool) (seat : ℕ) (bytes : List ℕ) (call : Call M) (same : Type 0) (code : ℕ)

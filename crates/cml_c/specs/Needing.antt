@@ -6,16 +6,19 @@ use Rattle.cml_board.specs.declared.outcome.Outcome.{Outcome}
 use Rattle.cml_board.specs.declared.call.Call.TheVariants.{Recv, Poll, Get, GetPoll, Take, TakePoll, Swap}
 use Rattle.cml_board.specs.declared.entry.Reply.TheVariants.{Got}
 use Rattle.cml_board.specs.declared.outcome.Outcome.TheVariants.{Answered}
-use Rattle.cml_messages.specs.{IsShort}
 use Rattle.cml_room.specs.{RoomShown}
 use Rattle.cml_c.specs.Asking.{MayMake}
 
--- the message that this call gives may need a block: one of a variable has more than 14 bytes, and of the next one of a mailbox or
+-- up to 78 bytes, which lie in C's struct
+abbrev pub IsShort : List ℕ → Type 0
+IsShort message = length message ≤ 78
+
+-- the message that this call gives may need a block: one of a variable has more than 78 bytes, and of the next one of a mailbox or
 -- a port the length isn't known before it is received
 abbrev pub MayBeLong : Call (List ℕ) → List ℕ → Type 0
 MayBeLong (Recv source) message = ⊤
 MayBeLong (Poll source) message = ⊤
-MayBeLong call message = 14 < length message
+MayBeLong call message = 78 < length message
 
 -- behind this history the call is answered with such a message
 pub record IsGiven (history : List (Entry (List ℕ))) (call : Call (List ℕ)) : Type 0 where
@@ -39,9 +42,9 @@ abbrev pub IsOwed : Option ℕ → Type 0
 IsOwed None = ⊥
 IsOwed (Some count) = 0 < count
 
--- a variable, by what is read of it, holds more than 14 bytes
+-- a variable, by what is read of it, holds more than 78 bytes
 abbrev pub HoldsLong : Option (Option (List ℕ)) → Type 0
-HoldsLong (Some (Some message)) = 14 < length message
+HoldsLong (Some (Some message)) = 78 < length message
 HoldsLong held = ⊥
 
 -- by what a board's readers say of the call's object, it has such a message for the call

@@ -8,7 +8,7 @@ use crate::messages::IN_PLACE;
 use cml_board::{Bytes, Call, Name, Want};
 use cml_room::State;
 
-/// Whether the seat may make the call, the board would answer it now, and the answer may have a message of more than 14 bytes.
+/// Whether the seat may make the call, the board would answer it now, and the answer may have a message of more than 78 bytes.
 pub(crate) fn needs_block(
     room: &RoomOf<Bytes>,
     seat: u64,
@@ -69,7 +69,7 @@ fn fits(board: &BoardOf<Bytes>, call: &Call<Bytes>) -> bool
     }
 }
 
-/// Whether the call's object has a message for it, which may have more than 14 bytes.
+/// Whether the call's object has a message for it, which may have more than 78 bytes.
 fn is_there(board: &BoardOf<Bytes>, call: &Call<Bytes>) -> bool
     ensures { Decides result (IsThere board.now.history call.now) }
 {

@@ -1,4 +1,4 @@
-//! What C holds of a message of more than 14 bytes.
+//! What C holds of a message of more than 78 bytes.
 ghost use Rattle.std.specs.Prelude.{◌≡◌, Option, Some};
 ghost use Rattle.cml_c.specs.declared.keeper.Held.{Held};
 ghost use Rattle.cml_c.specs.Owning.{kept_coded, slot_coded};
@@ -9,10 +9,10 @@ use cml_board::Bytes;
 use std::alloc::Global;
 use std::marker::{Model, Send};
 
-/// A message that is kept for C.
+/// A message that is kept for C, or nothing yet.
 #[derive(Drop)]
 pub struct Held {
-    pub bytes: Bytes,
+    pub bytes: Option<Bytes>,
 }
 
 /// A message on the heap, which shares its bytes with others. In C it is the same struct as `Share`.

@@ -8,20 +8,21 @@ use cml_board::Bytes;
 use std::alloc::Global;
 use std::ptr;
 
-/// The most bytes of a message that lie in the struct itself.
-pub(crate) const IN_PLACE: usize = 14;
+/// The most bytes of a message that lie in the struct itself: as many as `cml_messages` keeps in one block. To copy them takes less
+/// time than to allocate and to free what keeps more.
+pub(crate) const IN_PLACE: usize = 78;
 
-/// Where a message is written. Up to 14 bytes lie in the struct; more stay where they are until C frees the message.
+/// Where a message is written. Up to 78 bytes lie in the struct; more stay where they are until C frees the message.
 #[repr(C)]
 #[derive(Drop)]
 pub struct SeryugoBytes {
     pub length: usize,
     pub block: *const u8,
     pub owner: Share,
-    pub in_place: [u8; 16],
+    pub in_place: [u8; 78],
 }
 
-/// Frees what keeps a message of more than 14 bytes. Its bytes are freed once no clone is left, in a journal or elsewhere.
+/// Frees what keeps a message of more than 78 bytes. Its bytes are freed once no clone is left, in a journal or elsewhere.
 #[unsafe(no_mangle)]
 pub extern "C" fn seryugo_bytes_release(owner: Keeper) {
     drop(owner);
@@ -90,8 +91,7 @@ pub(crate) fn hand_over_new(alloc: Global, given: Bytes, message: &mut SeryugoBy
 
 /// Memory in which a message is kept.
 pub(crate) fn new_block(alloc: Global) -> Option<Box<Held>> {
-    let bytes = Bytes::from_slice(alloc, &[]).ok()?.ok()?;
-    Box::new(alloc, Held { bytes }).ok()
+    Box::new(alloc, Held { bytes: None }).ok()
 }
 
 /// Hands a message over. A long one is kept in the block, whose memory was there before the message was taken. For a short one the
@@ -113,11 +113,13 @@ pub(crate) fn hand_over(
 
 /// Keeps a long message in the block, and writes where it is.
 fn keep_long(mut block: Box<Held>, message: Bytes, to: &mut SeryugoBytes)
-    requires { 14 < length message }
+    requires { 78 < length message }
     ensures { IsHanded message to.new }
 {
     let (at, length) = place_of(message.as_slice());
-    *block = Held { bytes: message };
+    *block = Held {
+        bytes: Some(message),
+    };
     to.length = length;
     to.block = at;
     to.owner = Keeper::new(block).into_slot();
@@ -125,7 +127,7 @@ fn keep_long(mut block: Box<Held>, message: Bytes, to: &mut SeryugoBytes)
 
 /// Writes a short message into the struct. What keeps a long one isn't read then, and is left as it was.
 pub(crate) fn show_short(bytes: &[u8], to: &mut SeryugoBytes)
-    requires { length bytes.now ≤ 14 }
+    requires { length bytes.now ≤ 78 }
     ensures { IsHanded bytes.now to.new }
 {
     to.in_place[..bytes.len()].copy_from_slice(bytes);

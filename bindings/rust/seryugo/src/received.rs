@@ -10,7 +10,7 @@ use std::os::raw::c_void;
 use std::slice;
 
 /// The most bytes of a message that lie in the struct itself.
-const IN_PLACE: usize = 14;
+const IN_PLACE: usize = 78;
 
 /// A message of the library. The call that receives writes `length` and `block`. It writes the others only if the message needs
 /// them.
@@ -20,7 +20,7 @@ pub struct RawBytes {
     block: *const u8,
     /// What keeps a message that lies elsewhere.
     owner: MaybeUninit<Share>,
-    in_place: [MaybeUninit<u8>; 16],
+    in_place: [MaybeUninit<u8>; IN_PLACE],
 }
 
 #[derive(Clone, Copy)]

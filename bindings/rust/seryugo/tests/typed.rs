@@ -14,8 +14,9 @@ use std::thread;
 use std::time::{Duration, Instant};
 
 const A_MILLISECOND: Duration = Duration::from_millis(1);
-/// It has more bytes than a message that needs no memory.
-const LONG: &str = "a message that is longer than the fourteen bytes of a short one";
+/// It has more bytes than lie in the library's struct.
+const LONG: &str =
+    "a message of more bytes than lie in the struct that the library writes, so that the library keeps it till it is freed";
 
 /// A type of a user.
 #[derive(Clone, Debug, PartialEq)]
