@@ -58,7 +58,7 @@ guide_refused() {
 # Each step of the table of calls, with each reply that it may have.
 awk -v part=script -f tests/models/calls.awk -f tests/models/each_call.awk | sed 's/: .*//' > "$work/each_call.cml"
 
-# Each sweep's words, a line each. A few tables are performed with texts too. A text of more than 14 bytes takes memory when it is
+# Each sweep's words, a line each. A few tables are performed with texts too. A text takes memory when it is
 # made. The numbers of the other sweeps take memory for each share.
 sweeps() {
     for table in board/mailboxes board/variables floors/feeds floors/lanes; do
