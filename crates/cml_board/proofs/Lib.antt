@@ -41,3 +41,4 @@ pub mod SoundLemmas
 pub mod PartsLemmas
 pub mod NumberingLemmas
 pub mod SuitingLemmas
+pub mod RespondingLemmas

@@ -1,16 +1,16 @@
 -- An entry is added to a board's journal.
-use Rattle.std.proofs.Common.{◌≡◌, ℕ, ◌+◌, ◌≤◌, Bool, List, [], ◌∷◌, ◌++◌, length, reverse, Option, Some, Result, Ok, Err}
-use Rattle.std.proofs.Common.{IsErr, refl, sym, ap, subst, ◌∙◌, arith}
-use Rattle.std.proofs.lemmas.Bool.{false≢true}
+use Rattle.std.proofs.Common.{◌≡◌, ℕ, ◌+◌, ◌≤◌, Bool, List, [], ◌∷◌, ◌++◌, length, reverse, Some}
+use Rattle.std.proofs.Common.{refl, sym, ap, subst, ◌∙◌, arith}
 use Rattle.std.proofs.lemmas.List.{reverse-append}
 use Rattle.std.proofs.lemmas.Option.{none-some}
-use Rattle.std.specs.declared.alloc.AllocError.{AllocError}
 use Rattle.cml_log.specs.Log.{Log}
 use Rattle.cml_board.specs.{Call, Who, Reply, Entry, Object, Lawful, Fits, made, answer, new_name, facts_of, HasRoom, Performs, AddsEntry}
-use Rattle.cml_board.specs.{IsAsBefore, IsSpared}
+use Rattle.cml_board.specs.{IsAsBefore, IsSpared, Response}
 use Rattle.cml_board.specs.Shown.{Shown}
 use Rattle.cml_board.specs.Keeps.{Keeps}
 use Rattle.cml_board.specs.declared.entry.Reply.TheVariants.{Made}
+use Rattle.cml_board.specs.declared.outcome.Refusal.TheVariants.{NoMemory}
+use Rattle.cml_board.specs.declared.outcome.Response.TheVariants.{Refused}
 use Rattle.cml_board.specs.Keeps.{Shows}
 
 module _ {M : Type 0} where
@@ -110,14 +110,13 @@ module _ {M : Type 0} where
         reserved = subst (λ (b : Shown M). b.reserved ≤ left + 1) view spares;
       }
 
-  -- a call that is answered may be refused for want of memory, if it needs more than what is reserved
-  pub denied : (chunk : ℕ) (sure : Bool) (old new : Shown M) (who : Who) (call : Call M) (reply : Reply M)
-      (result : Result (Option (Reply M)) AllocError) → IsErr result
+  -- a call that is answered may be refused for want of memory, if it needs more than what is reserved. Then it is returned
+  pub lacks : (chunk : ℕ) (sure : Bool) (old new : Shown M) (who : Who) (call : Call M) (reply : Reply M)
+      (result : Response M) (back : Call M) → result ≡ Refused NoMemory back → back ≡ call
       → answer old.history call ≡ Some reply → ¬ (IsSpared chunk sure old call) → IsAsBefore old new
       → Performs chunk sure old new who call result
-  denied chunk sure old new who call reply (Ok given) failed answers takes same = absurd (false≢true failed)
-  denied chunk sure old new who call reply (Err error) failed answers takes same =
-      (λ waits. none-some reply (sym waits ∙ answers), takes, same)
+  lacks chunk sure old new who call reply result back failed same answers takes before =
+      rw failed (refl, λ waits. none-some reply (sym waits ∙ answers), takes, same, before)
 
   -- the same for a call that was noted as an equal one
   pub keeps_call : (chunk : ℕ) {old : Shown M} {past journal reserved later : List (Entry M)} {limit spare left : ℕ}

@@ -42,6 +42,11 @@ module _ {M : Type 0} where
       unsure sure (shares board.history call) never
       (or_true (has_message call) (tells_message (answer board.history call)) has) spared.shares_none
 
+  -- each call that gives a message has one
+  pub gives_message : (gives : Give) (name : Name) (message : M) → has_message (given_call gives name message) ≡ true
+  gives_message give.Send name message = refl
+  gives_message other name message = refl
+
   -- a message is shared for its answer
   pub answer_takes : {chunk : ℕ} {sure : Bool} (board : Shown M) (call : Call M) (message : M)
       → answer board.history call ≡ Some (Got message) → sure ≡ false → ¬ (IsSpared chunk sure board call)

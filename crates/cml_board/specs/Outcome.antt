@@ -1,13 +1,18 @@
 -- What a board shows to its callers, and what a call does.
-use Rattle.std.specs.Prelude.{ℕ, ◌≡◌, ◌≢◌, ◌+◌, ◌<◌, ◌≤◌, Bool, Option, Some, None, Result, Ok, Err}
-use Rattle.std.specs.declared.alloc.AllocError.{AllocError}
+use Rattle.std.specs.Prelude.{ℕ, ◌≡◌, ◌≢◌, ◌+◌, ◌<◌, ◌≤◌, Bool, Some, None, Result, Ok, Err, ⊤}
+use Rattle.cml_calls.specs.{Give}
 use Rattle.cml_board.specs.declared.call.Call.{Call}
+use Rattle.cml_board.specs.declared.call.Name.{Name}
 use Rattle.cml_board.specs.declared.entry.Who.{Who}
 use Rattle.cml_board.specs.declared.entry.Reply.{Reply}
+use Rattle.cml_board.specs.declared.entry.Reply.TheVariants.{Done}
 use Rattle.cml_board.specs.declared.outcome.Refusal.{Refusal}
 use Rattle.cml_board.specs.declared.outcome.Refusal.TheVariants.{Gone, Busy, NoSuch, WrongKind, JournalFull, Stalled, NoMemory, Unseen}
 use Rattle.cml_board.specs.declared.outcome.Outcome.{Outcome}
 use Rattle.cml_board.specs.declared.outcome.Outcome.TheVariants.{Answered, WouldWait, Refused}
+use Rattle.cml_board.specs.declared.outcome.Response.{Response}
+use Rattle.cml_board.specs.declared.outcome.Response.TheVariants as response
+use Rattle.cml_board.specs.Parts.{given_call}
 use Rattle.cml_board.specs.Shown.{Shown, full_at}
 use Rattle.cml_board.specs.Sparing.{IsSpared}
 use Rattle.cml_board.specs.History.{entries_in, with_entry, IsMade, IsTaken, Fits, answer}
@@ -53,12 +58,25 @@ module _ {M : Type 0} where
     pub objects : new.objects ≡ old.objects
 
   -- what a call does that can fail only for want of memory: it adds just its entry; or it would wait, or needs more memory
-  -- than is reserved, and then changes nothing
-  abbrev pub Performs : ℕ → Bool → Shown M → Shown M → Who → Call M → Result (Option (Reply M)) AllocError → Type 0
-  Performs chunk sure old new who call (Ok (Some reply)) = (answer old.history call ≡ Some reply) × AddsEntry old new who call reply
-  Performs chunk sure old new who call (Ok None) = (answer old.history call ≡ None) × IsAsBefore old new
-  Performs chunk sure old new who call (Err denied) = (answer old.history call ≢ None)
-      × ¬ (IsSpared chunk sure old call) × IsAsBefore old new
+  -- than is reserved, and then changes nothing and returns the call
+  abbrev pub Performs : ℕ → Bool → Shown M → Shown M → Who → Call M → Response M → Type 0
+  Performs chunk sure old new who call (response.Reply reply) = (answer old.history call ≡ Some reply) × AddsEntry old new who call reply
+  Performs chunk sure old new who call (response.WouldWait back) =
+      (answer old.history call ≡ None) × (back ≡ call) × IsAsBefore old new
+  Performs chunk sure old new who call (response.Refused refusal back) =
+      (refusal ≡ NoMemory) × (answer old.history call ≢ None) × ¬ (IsSpared chunk sure old call) × (back ≡ call) × IsAsBefore old new
+
+  -- the response to a call that gives an object a message and is answered where there is memory
+  abbrev pub given_response : Give → Name → Result ⊤ M → Response M
+  given_response give name (Ok done) = response.Reply Done
+  given_response give name (Err message) = response.Refused NoMemory (given_call give name message)
+
+  -- the outcome that says the same as a response to this call. An answer has the call beside its reply, and the position of
+  -- its entry, which is how many entries there were before
+  abbrev pub outcome_of : ℕ → Call M → Response M → Outcome M
+  outcome_of entries call (response.Reply reply) = Answered (record { call = call; reply = reply; at = entries })
+  outcome_of entries call (response.WouldWait back) = WouldWait back
+  outcome_of entries call (response.Refused refusal back) = Refused refusal back
 
   -- what a call does: an answered one adds just its entry, and every other changes nothing and returns the call
   abbrev pub Applies : ℕ → Bool → Shown M → Shown M → Who → Call M → Outcome M → Type 0

@@ -1,7 +1,7 @@
-ghost use Rattle.std.specs.Prelude.{◌≡◌, ◌↔◌, false, IsTrue, IfOk, OnErr};
+ghost use Rattle.std.specs.Prelude.{◌≡◌, ◌↔◌, true, false, IsTrue, IfOk, OnErr};
 ghost use Rattle.std.specs.Option.{option_map};
 ghost use Rattle.cml_calls.specs.{shown};
-ghost use Rattle.cml_board.specs.{parts_map, parts_of, made_call, given_call, asked_call, object_in, message_of, row_of};
+ghost use Rattle.cml_board.specs.{parts_map, parts_of, made_call, given_call, asked_call, object_in, message_of, row_of, has_message};
 
 use crate::message::Message;
 use crate::parts::Parts;
@@ -200,16 +200,33 @@ impl<M: Message> Call<M> {
         self.parts().same(&other.parts())
     }
 
-    /// Makes a second call equal to this one. Fails only for want of memory.
+    /// Makes a second call equal to this one. Fails only for want of memory, and only if the call has a message.
+    // A board calls this in each call that it returns. To match the variants costs less than to take the call apart.
+    #[inline(always)]
     pub fn share(&self, alloc: Global) -> Result<Call<M>, AllocError>
         ensures copy { IfOk result (λ copy. copy ≡ self.now) }
         ensures sure { OnErr result (M.SURE ≡ false) }
+        ensures shares { OnErr result (has_message self.now ≡ true) }
     {
-        let copy = match self.parts() {
-            Parts::Make(make) => Call::make(make),
-            Parts::Fill(message) => Call::MVarInit(message.share(alloc)?),
-            Parts::Give(give, name, message) => Call::give(give, name, message.share(alloc)?),
-            Parts::Ask(ask, name) => Call::ask(ask, name),
+        let copy = match self {
+            Call::NewMailbox => Call::NewMailbox,
+            Call::NewChannel => Call::NewChannel,
+            Call::NewPort(name) => Call::NewPort(*name),
+            Call::CopyPort(name) => Call::CopyPort(*name),
+            Call::ClosePort(name) => Call::ClosePort(*name),
+            Call::NewIVar => Call::NewIVar,
+            Call::NewMVar => Call::NewMVar,
+            Call::MVarInit(message) => Call::MVarInit(message.share(alloc)?),
+            Call::Send(name, message) => Call::Send(*name, message.share(alloc)?),
+            Call::Cast(name, message) => Call::Cast(*name, message.share(alloc)?),
+            Call::Recv(name) => Call::Recv(*name),
+            Call::Poll(name) => Call::Poll(*name),
+            Call::Put(name, message) => Call::Put(*name, message.share(alloc)?),
+            Call::Get(name) => Call::Get(*name),
+            Call::GetPoll(name) => Call::GetPoll(*name),
+            Call::Take(name) => Call::Take(*name),
+            Call::TakePoll(name) => Call::TakePoll(*name),
+            Call::Swap(name, message) => Call::Swap(*name, message.share(alloc)?),
         };
         Ok(copy)
     }

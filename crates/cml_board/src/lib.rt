@@ -31,6 +31,6 @@ pub use laws::{
     reserved_lasts,
 };
 pub use message::Message;
-pub use outcome::{Outcome, Refusal};
+pub use outcome::{Outcome, Refusal, Response};
 pub use restored::{Makers, Restored};
 pub use want::Want;

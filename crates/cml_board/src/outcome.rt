@@ -1,5 +1,6 @@
 use crate::answer::Answer;
 use crate::call::Call;
+use crate::entry::Reply;
 
 /// The reason why a call failed. The reasons are tested in this order. A board fails only with `NoSuch`, `WrongKind`,
 /// `JournalFull` or `NoMemory`, and then nothing has changed. Floors, rooms and switchboards, which share a board, add the
@@ -30,6 +31,16 @@ pub enum Refusal {
 pub enum Outcome<M> {
     Answered(Answer<M>),
     /// The call would block. On a board nothing has changed. In a room the seat is parked now: `Room::ask_again` makes the
+    /// call again once something has changed.
+    WouldWait(Call<M>),
+    Refused(Refusal, Call<M>),
+}
+
+/// The result of a call that the journal keeps: the reply alone. A call that is not answered is returned.
+#[derive(Debug, Drop)]
+pub enum Response<M> {
+    Reply(Reply<M>),
+    /// The call would block. On a board nothing has changed. In a room the seat is parked now: `Room::call_again` makes the
     /// call again once something has changed.
     WouldWait(Call<M>),
     Refused(Refusal, Call<M>),

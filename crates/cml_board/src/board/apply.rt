@@ -1,17 +1,16 @@
 //! How a call is made: first the tests by which it may fail, and then one function for each kind of call.
-ghost use Rattle.std.specs.Prelude.{◌≢◌, MatchOption};
-ghost use Rattle.cml_board.specs.{Fits, Applies, Performs, Refuses, HasRoom};
+ghost use Rattle.std.specs.Prelude.{◌≡◌, ◌≢◌, true, false, MatchOption};
+ghost use Rattle.cml_board.specs.{Who, Fits, Applies, Performs, Refuses, HasRoom, entries_in, has_message, outcome_of};
 
 use super::Board;
-use super::note::Performed;
+use super::note::given;
 use crate::answer::Answer;
 use crate::call::Call;
-use crate::entry::{Reply, Who};
+use crate::entry::Who;
 use crate::message::Message;
-use crate::outcome::{Outcome, Refusal};
+use crate::outcome::{Outcome, Refusal, Response};
 use cml_calls::{Ask, Give};
 use cml_log::MessageLog;
-use std::alloc::AllocError;
 
 impl<M: Message, L: MessageLog<M>> Board<M, L> {
     /// Makes a call for `who`. An answered call adds its entry to the journal. A call that fails or would wait is returned,
@@ -23,20 +22,50 @@ impl<M: Message, L: MessageLog<M>> Board<M, L> {
         if let Some(refusal) = self.refusal(&call) {
             return Outcome::Refused(refusal, call);
         }
+        let Ok(noted) = call.share(self.alloc) else {
+            return self.unshared(call);
+        };
         let at = self.entries();
-        match self.perform(who, &call) {
-            Ok(Some(reply)) => Outcome::Answered(Answer::new(call, reply, at)),
-            Ok(None) => Outcome::WouldWait(call),
-            Err(AllocError) => Outcome::Refused(Refusal::NoMemory, call),
+        match self.perform(who, noted) {
+            Response::Reply(reply) => Outcome::Answered(Answer::new(call, reply, at)),
+            Response::WouldWait(_) => Outcome::WouldWait(call),
+            Response::Refused(refusal, _) => Outcome::Refused(refusal, call),
         }
     }
 
-    /// Makes a call that can fail only for want of memory. Returns `None` if it would wait.
+    /// Makes a call for `who`, as `apply` does, and returns the reply alone. The journal keeps the caller's own call, so its
+    /// message is shared once less and dropped once less.
     #[inline(always)]
-    fn perform(&mut self, who: Who, call: &Call<M>) -> Performed<M>
-        requires fits { Fits self.old.history call.now }
+    pub fn call(&mut self, who: Who, call: Call<M>) -> Response<M>
+        ensures { Applies L.CHUNK M.SURE self.old self.new who call (outcome_of (entries_in self.old.history) call result) }
+    {
+        if let Some(refusal) = self.refusal(&call) {
+            return Response::Refused(refusal, call);
+        }
+        self.perform(who, call)
+    }
+
+    /// The outcome of a call whose message could not be shared.
+    #[inline(never)]
+    fn unshared(&self, call: Call<M>) -> Outcome<M>
+        requires fits { Fits self.now.history call }
+        requires room { HasRoom self.now }
+        requires shares { has_message call ≡ true }
+        requires unsure { M.SURE ≡ false }
+        ensures { (who : Who) → Applies L.CHUNK M.SURE self.now self.now who call result }
+    {
+        if self.would_wait(&call) {
+            return Outcome::WouldWait(call);
+        }
+        Outcome::Refused(Refusal::NoMemory, call)
+    }
+
+    /// Makes a call that can fail only for want of memory. The journal keeps it.
+    #[inline(always)]
+    fn perform(&mut self, who: Who, call: Call<M>) -> Response<M>
+        requires fits { Fits self.old.history call }
         requires room { HasRoom self.old }
-        ensures { Performs L.CHUNK M.SURE self.old self.new who call.now result }
+        ensures { Performs L.CHUNK M.SURE self.old self.new who call result }
     {
         match call {
             Call::NewMailbox
@@ -44,19 +73,23 @@ impl<M: Message, L: MessageLog<M>> Board<M, L> {
             | Call::NewPort(_)
             | Call::NewIVar
             | Call::NewMVar => self.make_by(who, call),
-            Call::CopyPort(port) => self.copy_port(who, *port),
-            Call::ClosePort(port) => self.close_port(who, *port),
-            Call::Send(name, message) => self.put(who, *name, message, Give::Send),
-            Call::Cast(name, message) => self.put(who, *name, message, Give::Cast),
-            Call::Recv(name) => self.receive(who, *name),
-            Call::Poll(name) => self.poll(who, *name),
+            Call::CopyPort(port) => self.copy_port(who, port),
+            Call::ClosePort(port) => self.close_port(who, port),
+            Call::Send(name, message) => {
+                given(Give::Send, name, self.put(who, name, message, Give::Send))
+            }
+            Call::Cast(name, message) => {
+                given(Give::Cast, name, self.put(who, name, message, Give::Cast))
+            }
+            Call::Recv(name) => self.receive(who, name),
+            Call::Poll(name) => self.poll(who, name),
             Call::MVarInit(message) => self.make_full(who, message),
-            Call::Put(name, message) => self.fill(who, *name, message),
-            Call::Get(name) => self.look(who, *name, Ask::Get),
-            Call::GetPoll(name) => self.look(who, *name, Ask::GetPoll),
-            Call::Take(name) => self.look(who, *name, Ask::Take),
-            Call::TakePoll(name) => self.look(who, *name, Ask::TakePoll),
-            Call::Swap(name, message) => self.swap(who, *name, message),
+            Call::Put(name, message) => self.fill(who, name, message),
+            Call::Get(name) => self.look(who, name, Ask::Get),
+            Call::GetPoll(name) => self.look(who, name, Ask::GetPoll),
+            Call::Take(name) => self.look(who, name, Ask::Take),
+            Call::TakePoll(name) => self.look(who, name, Ask::TakePoll),
+            Call::Swap(name, message) => self.swap(who, name, message),
         }
     }
 

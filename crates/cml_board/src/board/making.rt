@@ -4,28 +4,29 @@ ghost use Rattle.cml_calls.specs.{is_port};
 ghost use Rattle.cml_board.specs.{making_call, makes_empty, CanMake, is_a, is_open, Fits, open_port, Performs, HasRoom};
 
 use super::Board;
-use super::note::{Making, Performed, note};
+use super::note::{Making, denied, note};
 use super::objects::{add_made, close_port};
 use crate::call::{Call, Name};
 use crate::entry::{Entry, Reply, Who};
 use crate::message::Message;
 use crate::object::{Form, Object, Reading};
+use crate::outcome::Response;
 use cml_calls::Ask;
 use cml_log::{Key, MessageLog};
 
 impl<M: Message, L: MessageLog<M>> Board<M, L> {
     /// A call that makes an object which holds no message.
     #[inline(never)]
-    pub(super) fn make_by(&mut self, who: Who, call: &Call<M>) -> Performed<M>
-        requires fits { Fits self.old.history call.now }
+    pub(super) fn make_by(&mut self, who: Who, call: Call<M>) -> Response<M>
+        requires fits { Fits self.old.history call }
         requires room { HasRoom self.old }
-        requires makes { makes_empty call.now ≡ true }
-        ensures { Performs L.CHUNK M.SURE self.old self.new who call.now result }
+        requires makes { makes_empty call ≡ true }
+        ensures { Performs L.CHUNK M.SURE self.old self.new who call result }
     {
         match call {
             Call::NewMailbox => self.make(who, Making::Mailbox),
             Call::NewChannel => self.make(who, Making::Channel),
-            Call::NewPort(channel) => self.make(who, Making::Port(*channel)),
+            Call::NewPort(channel) => self.make(who, Making::Port(channel)),
             Call::NewIVar => self.make(who, Making::Variable(Form::Once)),
             Call::NewMVar => self.make(who, Making::Variable(Form::Mutable)),
             _ => unreachable!(),
@@ -33,25 +34,30 @@ impl<M: Message, L: MessageLog<M>> Board<M, L> {
     }
 
     /// Makes an object that holds no message.
-    pub(super) fn make(&mut self, who: Who, making: Making) -> Performed<M>
+    pub(super) fn make(&mut self, who: Who, making: Making) -> Response<M>
         requires can { CanMake self.old making }
         requires room { HasRoom self.old }
         ensures { Performs L.CHUNK M.SURE self.old self.new who (making_call making) result }
     {
-        self.journal.reserve(1)?;
+        let call = making.call();
+        let Ok(()) = self.journal.reserve(1) else {
+            return denied(call);
+        };
         let reply = Name(self.objects.len() as u64);
-        add_made(&mut self.objects, self.alloc, making)?;
+        let Ok(()) = add_made(&mut self.objects, self.alloc, making) else {
+            return denied(call);
+        };
         let entry = Entry {
             who,
-            call: making.call(),
+            call,
             reply: Reply::Made(reply),
         };
         note(&mut self.journal, entry);
-        Ok(Some(Reply::Made(reply)))
+        Response::Reply(Reply::Made(reply))
     }
 
     #[inline(never)]
-    pub(super) fn copy_port(&mut self, who: Who, port: Name) -> Performed<M>
+    pub(super) fn copy_port(&mut self, who: Who, port: Name) -> Response<M>
         requires fits { is_a is_port self.old.history port.0 ≡ true }
         requires room { HasRoom self.old }
         ensures { Performs L.CHUNK M.SURE self.old self.new who (Call.CopyPort port) result }
@@ -63,7 +69,7 @@ impl<M: Message, L: MessageLog<M>> Board<M, L> {
     }
 
     #[inline(never)]
-    pub(super) fn close_port(&mut self, who: Who, port: Name) -> Performed<M>
+    pub(super) fn close_port(&mut self, who: Who, port: Name) -> Response<M>
         requires fits { is_a is_port self.old.history port.0 ≡ true }
         requires room { HasRoom self.old }
         ensures { Performs L.CHUNK M.SURE self.old self.new who (Call.ClosePort port) result }
@@ -96,19 +102,22 @@ impl<M: Message, L: MessageLog<M>> Board<M, L> {
         channel: Name,
         start: u64,
         key: Key,
-    ) -> Performed<M>
+    ) -> Response<M>
         requires stands { slice_get self.old.objects port.0 ≡ Some (open_port channel.0 start key) }
         requires room { HasRoom self.old }
         ensures { Performs L.CHUNK M.SURE self.old self.new who (Call.ClosePort port) result }
     {
-        self.journal.reserve(1)?;
+        let call = Call::ClosePort(port);
+        let Ok(()) = self.journal.reserve(1) else {
+            return denied(call);
+        };
         close_port(&mut self.objects, port, channel, start, key);
         let entry = Entry {
             who,
-            call: Call::ClosePort(port),
+            call,
             reply: Reply::Done,
         };
         note(&mut self.journal, entry);
-        Ok(Some(Reply::Done))
+        Response::Reply(Reply::Done)
     }
 }

@@ -1,15 +1,15 @@
-//! The calls that make an object, and how an entry is added to the journal.
+//! The calls that make an object, how an entry is added to the journal, and how a call fails for want of memory.
 ghost use Rattle.std.specs.Prelude.{◌≡◌, ◌+◌, ◌-◌, ◌<◌, [], ◌∷◌, ◌++◌, length, vec_len, vec_capacity};
-ghost use Rattle.cml_board.specs.{making_call};
+ghost use Rattle.cml_board.specs.declared.outcome.Response.TheVariants.{Refused};
+ghost use Rattle.cml_board.specs.declared.outcome.Refusal.TheVariants.{NoMemory};
+ghost use Rattle.cml_board.specs.{making_call, given_response};
 
 use crate::call::{Call, Name};
 use crate::entry::{Entry, Reply};
 use crate::object::Form;
+use crate::outcome::{Refusal, Response};
+use cml_calls::Give;
 use cml_log::Key;
-use std::alloc::AllocError;
-
-/// The result of a call that can fail only for want of memory: its reply, or `None` if it would wait.
-pub type Performed<M> = Result<Option<Reply<M>>, AllocError>;
 
 /// The calls that make an object and hold no message.
 #[derive(Clone, Copy)]
@@ -44,4 +44,22 @@ pub fn note<M>(journal: &mut Vec<Entry<M>>, entry: Entry<M>)
     ensures spare { vec_capacity journal.old - vec_len journal.old ≡ vec_capacity journal.new - vec_len journal.new + 1 }
 {
     journal.push_reserved(entry);
+}
+
+/// Returns a call that fails for want of memory.
+pub fn denied<M>(call: Call<M>) -> Response<M>
+    ensures { result ≡ Refused NoMemory call }
+{
+    Response::Refused(Refusal::NoMemory, call)
+}
+
+/// The response to a call that gives an object a message. If the call fails, its message is here.
+#[inline(always)]
+pub fn given<M>(give: Give, name: Name, put: Result<(), M>) -> Response<M>
+    ensures { result ≡ given_response give name put }
+{
+    match put {
+        Ok(()) => Response::Reply(Reply::Done),
+        Err(message) => denied(Call::give(give, name, message)),
+    }
 }

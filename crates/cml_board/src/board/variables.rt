@@ -4,12 +4,13 @@ ghost use Rattle.cml_calls.specs.{is_variable, asked};
 ghost use Rattle.cml_board.specs.{is_a, held, Fits, asked_call, reads_variable, empties, Performs, HasRoom};
 
 use super::Board;
-use super::note::{Performed, note};
+use super::note::{denied, note};
 use super::objects::{add_variable, hold_at};
 use crate::call::{Call, Name};
 use crate::entry::{Entry, Reply, Who};
 use crate::message::Message;
 use crate::object::Form;
+use crate::outcome::Response;
 use cml_calls::Ask;
 use cml_log::MessageLog;
 use std::alloc::AllocError;
@@ -17,30 +18,35 @@ use std::alloc::AllocError;
 impl<M: Message, L: MessageLog<M>> Board<M, L> {
     /// Makes an m-variable that holds this.
     #[inline(never)]
-    pub(super) fn make_full(&mut self, who: Who, message: &M) -> Performed<M>
+    pub(super) fn make_full(&mut self, who: Who, message: M) -> Response<M>
         requires { HasRoom self.old }
-        ensures { Performs L.CHUNK M.SURE self.old self.new who (Call.MVarInit message.now) result }
+        ensures { Performs L.CHUNK M.SURE self.old self.new who (Call.MVarInit message) result }
     {
-        let stored = message.share(self.alloc)?;
-        let noted = message.share(self.alloc)?;
-        self.journal.reserve(1)?;
+        let Ok(stored) = message.share(self.alloc) else {
+            return denied(Call::MVarInit(message));
+        };
+        let Ok(()) = self.journal.reserve(1) else {
+            return denied(Call::MVarInit(message));
+        };
         let reply = Name(self.objects.len() as u64);
-        add_variable(&mut self.objects, Form::Mutable, Some(stored))?;
+        let Ok(()) = add_variable(&mut self.objects, Form::Mutable, Some(stored)) else {
+            return denied(Call::MVarInit(message));
+        };
         let entry = Entry {
             who,
-            call: Call::MVarInit(noted),
+            call: Call::MVarInit(message),
             reply: Reply::Made(reply),
         };
         note(&mut self.journal, entry);
-        Ok(Some(Reply::Made(reply)))
+        Response::Reply(Reply::Made(reply))
     }
 
     /// Puts a message into a variable, unless it is full.
     #[inline(never)]
-    pub(super) fn fill(&mut self, who: Who, name: Name, message: &M) -> Performed<M>
-        requires fits { Fits self.old.history (Call.Put name message.now) }
+    pub(super) fn fill(&mut self, who: Who, name: Name, message: M) -> Response<M>
+        requires fits { Fits self.old.history (Call.Put name message) }
         requires room { HasRoom self.old }
-        ensures { Performs L.CHUNK M.SURE self.old self.new who (Call.Put name message.now) result }
+        ensures { Performs L.CHUNK M.SURE self.old self.new who (Call.Put name message) result }
     {
         if self.content(name).is_some() {
             return self.find_full(who, name, message);
@@ -48,46 +54,50 @@ impl<M: Message, L: MessageLog<M>> Board<M, L> {
         self.fill_empty(who, name, message)
     }
 
-    fn fill_empty(&mut self, who: Who, name: Name, message: &M) -> Performed<M>
-        requires fits { Fits self.old.history (Call.Put name message.now) }
+    fn fill_empty(&mut self, who: Who, name: Name, message: M) -> Response<M>
+        requires fits { Fits self.old.history (Call.Put name message) }
         requires empty { held self.old.history name.0 ≡ None }
         requires room { HasRoom self.old }
-        ensures { Performs L.CHUNK M.SURE self.old self.new who (Call.Put name message.now) result }
+        ensures { Performs L.CHUNK M.SURE self.old self.new who (Call.Put name message) result }
     {
-        let stored = message.share(self.alloc)?;
-        let noted = message.share(self.alloc)?;
-        self.journal.reserve(1)?;
+        let Ok(stored) = message.share(self.alloc) else {
+            return denied(Call::Put(name, message));
+        };
+        let Ok(()) = self.journal.reserve(1) else {
+            return denied(Call::Put(name, message));
+        };
         let _none = hold_at(&mut self.objects, name, Some(stored));
         let entry = Entry {
             who,
-            call: Call::Put(name, noted),
+            call: Call::Put(name, message),
             reply: Reply::Done,
         };
         note(&mut self.journal, entry);
-        Ok(Some(Reply::Done))
+        Response::Reply(Reply::Done)
     }
 
     /// A put on a variable that is full.
-    fn find_full(&mut self, who: Who, name: Name, message: &M) -> Performed<M>
-        requires fits { Fits self.old.history (Call.Put name message.now) }
+    fn find_full(&mut self, who: Who, name: Name, message: M) -> Response<M>
+        requires fits { Fits self.old.history (Call.Put name message) }
         requires full { held self.old.history name.0 ≢ None }
         requires room { HasRoom self.old }
-        ensures { Performs L.CHUNK M.SURE self.old self.new who (Call.Put name message.now) result }
+        ensures { Performs L.CHUNK M.SURE self.old self.new who (Call.Put name message) result }
     {
-        let noted = message.share(self.alloc)?;
-        self.journal.reserve(1)?;
+        let Ok(()) = self.journal.reserve(1) else {
+            return denied(Call::Put(name, message));
+        };
         let entry = Entry {
             who,
-            call: Call::Put(name, noted),
+            call: Call::Put(name, message),
             reply: Reply::Put,
         };
         note(&mut self.journal, entry);
-        Ok(Some(Reply::Put))
+        Response::Reply(Reply::Put)
     }
 
     /// Returns what a variable holds, and empties it or not.
     #[inline(never)]
-    pub(super) fn look(&mut self, who: Who, name: Name, ask: Ask) -> Performed<M>
+    pub(super) fn look(&mut self, who: Who, name: Name, ask: Ask) -> Response<M>
         requires reads { reads_variable ask ≡ true }
         requires fits { Fits self.old.history (asked_call ask name) }
         requires room { HasRoom self.old }
@@ -101,12 +111,12 @@ impl<M: Message, L: MessageLog<M>> Board<M, L> {
             };
         }
         if ask.shape().blocks {
-            return Ok(None);
+            return Response::WouldWait(Call::ask(ask, name));
         }
         self.find_empty(who, name, ask)
     }
 
-    fn read(&mut self, who: Who, name: Name, ask: Ask) -> Performed<M>
+    fn read(&mut self, who: Who, name: Name, ask: Ask) -> Response<M>
         requires reads { reads_variable ask ≡ true }
         requires fits { Fits self.old.history (asked_call ask name) }
         requires leaves { empties ask ≡ false }
@@ -114,19 +124,26 @@ impl<M: Message, L: MessageLog<M>> Board<M, L> {
         requires room { HasRoom self.old }
         ensures { Performs L.CHUNK M.SURE self.old self.new who (asked_call ask name) result }
     {
-        let message = self.share_held(name)?;
-        let noted = message.share(self.alloc)?;
-        self.journal.reserve(1)?;
+        let call = Call::ask(ask, name);
+        let Ok(message) = self.share_held(name) else {
+            return denied(call);
+        };
+        let Ok(noted) = message.share(self.alloc) else {
+            return denied(call);
+        };
+        let Ok(()) = self.journal.reserve(1) else {
+            return denied(call);
+        };
         let entry = Entry {
             who,
-            call: Call::ask(ask, name),
+            call,
             reply: Reply::Got(noted),
         };
         note(&mut self.journal, entry);
-        Ok(Some(Reply::Got(message)))
+        Response::Reply(Reply::Got(message))
     }
 
-    fn empty(&mut self, who: Who, name: Name, ask: Ask) -> Performed<M>
+    fn empty(&mut self, who: Who, name: Name, ask: Ask) -> Response<M>
         requires reads { reads_variable ask ≡ true }
         requires fits { Fits self.old.history (asked_call ask name) }
         requires empties { empties ask ≡ true }
@@ -134,22 +151,27 @@ impl<M: Message, L: MessageLog<M>> Board<M, L> {
         requires room { HasRoom self.old }
         ensures { Performs L.CHUNK M.SURE self.old self.new who (asked_call ask name) result }
     {
-        let noted = self.share_held(name)?;
-        self.journal.reserve(1)?;
+        let call = Call::ask(ask, name);
+        let Ok(noted) = self.share_held(name) else {
+            return denied(call);
+        };
+        let Ok(()) = self.journal.reserve(1) else {
+            return denied(call);
+        };
         let Some(message) = hold_at(&mut self.objects, name, None) else {
             unreachable!()
         };
         let entry = Entry {
             who,
-            call: Call::ask(ask, name),
+            call,
             reply: Reply::Got(noted),
         };
         note(&mut self.journal, entry);
-        Ok(Some(Reply::Got(message)))
+        Response::Reply(Reply::Got(message))
     }
 
     /// A poll of an empty variable.
-    fn find_empty(&mut self, who: Who, name: Name, ask: Ask) -> Performed<M>
+    fn find_empty(&mut self, who: Who, name: Name, ask: Ask) -> Response<M>
         requires reads { reads_variable ask ≡ true }
         requires fits { Fits self.old.history (asked_call ask name) }
         requires polls { (asked ask).blocks ≡ false }
@@ -157,49 +179,57 @@ impl<M: Message, L: MessageLog<M>> Board<M, L> {
         requires room { HasRoom self.old }
         ensures { Performs L.CHUNK M.SURE self.old self.new who (asked_call ask name) result }
     {
-        self.journal.reserve(1)?;
+        let call = Call::ask(ask, name);
+        let Ok(()) = self.journal.reserve(1) else {
+            return denied(call);
+        };
         let entry = Entry {
             who,
-            call: Call::ask(ask, name),
+            call,
             reply: Reply::Nothing,
         };
         note(&mut self.journal, entry);
-        Ok(Some(Reply::Nothing))
+        Response::Reply(Reply::Nothing)
     }
 
     /// Stores a message in an m-variable and returns what it held.
     #[inline(never)]
-    pub(super) fn swap(&mut self, who: Who, name: Name, message: &M) -> Performed<M>
-        requires fits { Fits self.old.history (Call.Swap name message.now) }
+    pub(super) fn swap(&mut self, who: Who, name: Name, message: M) -> Response<M>
+        requires fits { Fits self.old.history (Call.Swap name message) }
         requires room { HasRoom self.old }
-        ensures { Performs L.CHUNK M.SURE self.old self.new who (Call.Swap name message.now) result }
+        ensures { Performs L.CHUNK M.SURE self.old self.new who (Call.Swap name message) result }
     {
         if self.content(name).is_some() {
             return self.swap_full(who, name, message);
         }
-        Ok(None)
+        Response::WouldWait(Call::Swap(name, message))
     }
 
-    fn swap_full(&mut self, who: Who, name: Name, message: &M) -> Performed<M>
-        requires fits { Fits self.old.history (Call.Swap name message.now) }
+    fn swap_full(&mut self, who: Who, name: Name, message: M) -> Response<M>
+        requires fits { Fits self.old.history (Call.Swap name message) }
         requires full { held self.old.history name.0 ≢ None }
         requires room { HasRoom self.old }
-        ensures { Performs L.CHUNK M.SURE self.old self.new who (Call.Swap name message.now) result }
+        ensures { Performs L.CHUNK M.SURE self.old self.new who (Call.Swap name message) result }
     {
-        let stored = message.share(self.alloc)?;
-        let noted = message.share(self.alloc)?;
-        let told = self.share_held(name)?;
-        self.journal.reserve(1)?;
+        let Ok(stored) = message.share(self.alloc) else {
+            return denied(Call::Swap(name, message));
+        };
+        let Ok(told) = self.share_held(name) else {
+            return denied(Call::Swap(name, message));
+        };
+        let Ok(()) = self.journal.reserve(1) else {
+            return denied(Call::Swap(name, message));
+        };
         let Some(old) = hold_at(&mut self.objects, name, Some(stored)) else {
             unreachable!()
         };
         let entry = Entry {
             who,
-            call: Call::Swap(name, noted),
+            call: Call::Swap(name, message),
             reply: Reply::Got(told),
         };
         note(&mut self.journal, entry);
-        Ok(Some(Reply::Got(old)))
+        Response::Reply(Reply::Got(old))
     }
 
     /// What a variable holds.

@@ -4,11 +4,22 @@ use Rattle.cml_board.specs.declared.entry.Reply.TheVariants.{Done}
 use Rattle.cml_calls.specs.{is_port}
 use Rattle.cml_board.specs.{seen_all, open_port}
 use Rattle.cml_board.specs.Shown.{Shown}
-use Rattle.cml_board.proofs.NotingLemmas.{keeps_at, keeps_call, inside, adds_entry}
+use Rattle.cml_board.proofs.NotingLemmas.{keeps_at, keeps_call, inside, adds_entry, as_before, lacks}
 use Rattle.cml_board.proofs.AnsweringLemmas.{fits_by, answer_shut}
 use Rattle.cml_board.proofs.SourcesLemmas.{open_port_told}
 use Rattle.cml_board.proofs.SteppingLemmas.{step_closed, has_port}
+use Rattle.cml_board.proofs.SparingLemmas.{no_room}
 use Rattle.cml_board.proofs.board.Board.close_open.Goals as goal
+
+pub returns-in_default : goal.returns-in_default
+returns-in_default g c =
+    let told = open_port_told g.L.MessageLog.CHUNK c.args.self.now c.args.port.0 c.args.channel.0 c.args.start c.args.key
+    (keeps_at g.L.MessageLog.CHUNK c.self.view_is c.self.invariant) c.requires.stands in
+    lacks g.L.MessageLog.CHUNK g.M.Message.SURE c.args.self.now _ c.args.who (ClosePort c.args.port) (Done)
+    c.denied.result (ClosePort c.args.port) c.denied.ensures refl
+    (answer_shut c.args.self.now.history c.args.port told.1)
+    (no_room (ClosePort c.args.port) c.self.view_is (omega (arith, c.in_default.ensures.full)))
+    (as_before c.self.view_is c.in_default.ensures.items refl (omega (arith, c.reserve.ensures.len, c.reserve.ensures.capacity)))
 
 pub close_port-requires : goal.close_port-requires
 close_port-requires g c =

@@ -7,20 +7,20 @@ use Rattle.cml_board.proofs.NotingLemmas.{keeps_call, made_name, keeps_same}
 use Rattle.cml_board.proofs.SettingLemmas.{step_full}
 use Rattle.cml_board.proofs.board.Board.make_full.Goals as goal
 
-pub invariant_of-self-in_err-add_variable : goal.invariant_of-self-in_err-add_variable
-invariant_of-self-in_err-add_variable g c =
-    keeps_same g.L.MessageLog.CHUNK _ _ _ _ _ c.self.invariant c.reserve.ensures.items c.in_err-add_variable.ensures.err
+pub invariant_of-self-in_default-add_variable : goal.invariant_of-self-in_default-add_variable
+invariant_of-self-in_default-add_variable g c =
+    keeps_same g.L.MessageLog.CHUNK _ _ _ _ _ c.self.invariant c.reserve.ensures.items c.in_default-add_variable.ensures.err
 
 pub invariant_of-self-2 : goal.invariant_of-self-2
 invariant_of-self-2 g c =
     let chunk = g.L.MessageLog.CHUNK in
     let log = g.L.MessageLog.log in
-    keeps_call chunk c.args.who (MVarInit c.args.message.now) (MVarInit c.in_ok-noted.noted) (Made (record { 0 = c.len.result }))
+    keeps_call chunk c.args.who (MVarInit c.args.message) (MVarInit c.args.message) (Made (record { 0 = c.len.result }))
     (Made (record { 0 = c.len.result })) c.self.view_is c.self.invariant c.note.ensures.entries c.reserve.ensures.items
-    (ap MVarInit c.in_ok-noted.ensures.copy) refl c.requires (tt, tt)
+    refl refl c.requires (tt, tt)
     (ap Some (made_name chunk c.self.view_is c.self.invariant c.len.result
     (omega (arith, c.len.ensures, length-map c.self.inside.objects.items (map_log log), c.self.inside.objects.ok.0))))
-    (λ lawful shows. rw (c.in_ok-add_variable.ensures.ok, c.in_ok-stored.ensures.copy)
-    (step_full chunk c.args.who c.args.message.now (record { 0 = c.len.result }) (reverse c.self.inside.journal.items ++ c.self.inside.past)
+    (λ lawful shows. rw (c.in-Ok-add_variable.ensures.ok, c.in-Ok.ensures.copy)
+    (step_full chunk c.args.who c.args.message (record { 0 = c.len.result }) (reverse c.self.inside.journal.items ++ c.self.inside.past)
     (seen_all log c.self.inside.objects.items)
     (omega (arith, c.len.ensures, length-map c.self.inside.objects.items (map_log log), c.self.inside.objects.ok.0)) lawful shows))

@@ -2,43 +2,42 @@ use Rattle.std.proofs.Common.{refl, sym, ap, ◌∙◌, reverse, Some, arith, �
 use Rattle.cml_board.specs.declared.entry.Reply.TheVariants.{Got}
 use Rattle.cml_board.specs.{asked_call, owed, HasOwed, seen_all, ReadsAt}
 use Rattle.cml_board.specs.Shown.{Shown}
-use Rattle.cml_board.proofs.NotingLemmas.{keeps_call, as_before, inside, adds_entry, unchanged, denied}
+use Rattle.cml_board.proofs.NotingLemmas.{keeps_call, as_before, inside, adds_entry, unchanged, lacks}
 use Rattle.cml_board.proofs.AnsweringLemmas.{answer_taken, some_owed, fits_taking}
 use Rattle.cml_board.proofs.LookingLemmas.{reads_owed, first_owed}
 use Rattle.cml_board.proofs.SteppingLemmas.{step_taken}
 use Rattle.cml_board.proofs.SparingLemmas.{no_room, answer_takes}
 use Rattle.cml_board.proofs.board.Board.take.Goals as goal
 
-pub returns-in_err-message : goal.returns-in_err-message
-returns-in_err-message g c =
-    let h = c.args.self.now.history in
-    let taken = asked_call c.args.ask c.args.name in
-    let some = some_owed (owed h c.args.name.0) c.requires.owed in
-    let answers = answer_taken h c.args.ask c.args.name some.0 c.requires.takes c.requires.reads.opened some.1 in
-    denied g.L.MessageLog.CHUNK g.M.Message.SURE c.args.self.now _ c.args.who taken
-    (Got some.0) c.from_residual.result c.from_residual.ensures.0
-    answers (answer_takes c.args.self.now taken some.0 answers c.in_err-message.ensures.sure) (unchanged c.args.self.now)
+pub returns-in_default : goal.returns-in_default
+returns-in_default g c =
+    let some = some_owed (owed c.args.self.now.history c.args.name.0) c.requires.owed in
+    let answers = answer_taken c.args.self.now.history c.args.ask c.args.name some.0 c.requires.takes c.requires.reads.opened some.1 in
+    lacks g.L.MessageLog.CHUNK g.M.Message.SURE c.args.self.now _ c.args.who (asked_call c.args.ask c.args.name) (Got some.0)
+    c.denied.result (c.ask-call.result) c.denied.ensures c.ask-call.ensures
+    (answers)
+    (answer_takes c.args.self.now (asked_call c.args.ask c.args.name) some.0 answers c.in_default.ensures.sure)
+    (unchanged c.args.self.now)
 
-pub returns-in_err-noted : goal.returns-in_err-noted
-returns-in_err-noted g c =
-    let h = c.args.self.now.history in
-    let taken = asked_call c.args.ask c.args.name in
-    let some = some_owed (owed h c.args.name.0) c.requires.owed in
-    let answers = answer_taken h c.args.ask c.args.name some.0 c.requires.takes c.requires.reads.opened some.1 in
-    denied g.L.MessageLog.CHUNK g.M.Message.SURE c.args.self.now _ c.args.who taken
-    (Got some.0) c.from_residual-in_err-noted.result c.from_residual-in_err-noted.ensures.0
-    answers (answer_takes c.args.self.now taken some.0 answers c.in_err-noted.ensures.sure) (unchanged c.args.self.now)
+pub returns-in_default-share : goal.returns-in_default-share
+returns-in_default-share g c =
+    let some = some_owed (owed c.args.self.now.history c.args.name.0) c.requires.owed in
+    let answers = answer_taken c.args.self.now.history c.args.ask c.args.name some.0 c.requires.takes c.requires.reads.opened some.1 in
+    lacks g.L.MessageLog.CHUNK g.M.Message.SURE c.args.self.now _ c.args.who (asked_call c.args.ask c.args.name) (Got some.0)
+    c.denied-in_default-share.result (c.ask-call.result) c.denied-in_default-share.ensures c.ask-call.ensures
+    (answers)
+    (answer_takes c.args.self.now (asked_call c.args.ask c.args.name) some.0 answers c.in_default-share.ensures.sure)
+    (unchanged c.args.self.now)
 
-pub returns-in_err-reserve : goal.returns-in_err-reserve
-returns-in_err-reserve g c =
-    let h = c.args.self.now.history in
-    let taken = asked_call c.args.ask c.args.name in
-    let some = some_owed (owed h c.args.name.0) c.requires.owed in
-    denied g.L.MessageLog.CHUNK g.M.Message.SURE c.args.self.now _ c.args.who taken
-    (Got some.0) c.from_residual-in_err-reserve.result c.from_residual-in_err-reserve.ensures.0
-    (answer_taken h c.args.ask c.args.name some.0 c.requires.takes c.requires.reads.opened some.1)
-    (no_room taken c.self.view_is (omega (arith, c.in_err-reserve.ensures.full)))
-    (as_before c.self.view_is c.in_err-reserve.ensures.items refl (omega (arith, c.reserve.ensures.len, c.reserve.ensures.capacity)))
+pub returns-in_default-reserve : goal.returns-in_default-reserve
+returns-in_default-reserve g c =
+    let some = some_owed (owed c.args.self.now.history c.args.name.0) c.requires.owed in
+    let answers = answer_taken c.args.self.now.history c.args.ask c.args.name some.0 c.requires.takes c.requires.reads.opened some.1 in
+    lacks g.L.MessageLog.CHUNK g.M.Message.SURE c.args.self.now _ c.args.who (asked_call c.args.ask c.args.name) (Got some.0)
+    c.denied-in_default-reserve.result (c.ask-call.result) c.denied-in_default-reserve.ensures c.ask-call.ensures
+    (answers)
+    (no_room (asked_call c.args.ask c.args.name) c.self.view_is (omega (arith, c.in_default-reserve.ensures.full)))
+    (as_before c.self.view_is c.in_default-reserve.ensures.items refl (omega (arith, c.reserve.ensures.len, c.reserve.ensures.capacity)))
 
 pub advance_at-requires : goal.advance_at-requires
 advance_at-requires g c =
@@ -51,16 +50,16 @@ invariant_of-self-2 g c =
     let h = c.args.self.now.history in
     let call = asked_call c.args.ask c.args.name in
     let first = first_owed c.args.self.now c.args.name.0 c.args.source.0 c.args.key (g.L.MessageLog.log c.log.result.now)
-    c.in_ok-noted.noted c.requires.reads c.log.ensures (c.in_ok-message.ensures.copy ∙ ap Some (sym c.in_ok-noted.ensures.copy)) in
+    c.in-Ok-share.noted c.requires.reads c.log.ensures (c.in-Ok.ensures.copy ∙ ap Some (sym c.in-Ok-share.ensures.copy)) in
     let reads = inside (λ (b : Shown g.row.M.Denot). ReadsAt b c.args.name.0 c.args.source.0 c.args.key) c.self.view_is c.requires.reads in
     let owes = inside (λ (b : Shown g.row.M.Denot). HasOwed b.objects c.args.source.0 c.args.key) c.self.view_is
     (reads_owed c.args.self.now c.args.name.0 c.args.source.0 c.args.key c.requires.reads c.requires.owed) in
-    keeps_call chunk c.args.who call c.ask.result (Got c.in_ok-noted.noted)
-    (Got c.in_ok-noted.noted) c.self.view_is c.self.invariant c.note.ensures.entries c.reserve.ensures.items
-    c.ask.ensures refl c.requires.room (fits_taking h c.args.ask c.args.name c.requires.takes c.requires.reads.receiver)
-    (answer_taken h c.args.ask c.args.name c.in_ok-noted.noted c.requires.takes c.requires.reads.opened first)
+    keeps_call chunk c.args.who call c.ask-call.result (Got c.in-Ok-share.noted)
+    (Got c.in-Ok-share.noted) c.self.view_is c.self.invariant c.note.ensures.entries c.reserve.ensures.items
+    c.ask-call.ensures refl c.requires.room (fits_taking h c.args.ask c.args.name c.requires.takes c.requires.reads.receiver)
+    (answer_taken h c.args.ask c.args.name c.in-Ok-share.noted c.requires.takes c.requires.reads.opened first)
     (λ lawful shows. rw c.advance_at.ensures
-    (step_taken chunk c.args.who c.args.ask c.args.name c.in_ok-noted.noted (reverse c.self.inside.journal.items ++ c.self.inside.past)
+    (step_taken chunk c.args.who c.args.ask c.args.name c.in-Ok-share.noted (reverse c.self.inside.journal.items ++ c.self.inside.past)
     (seen_all g.L.MessageLog.log c.self.inside.objects.items) c.args.source.0 c.args.key c.requires.takes shows reads.reads owes))
 
 pub returns : goal.returns
@@ -68,10 +67,10 @@ returns g c =
     let h = c.args.self.now.history in
     let call = asked_call c.args.ask c.args.name in
     let log = g.L.MessageLog.log c.log.result.now in
-    let first = first_owed c.args.self.now c.args.name.0 c.args.source.0 c.args.key log c.in_ok-message.message c.requires.reads
-    c.log.ensures c.in_ok-message.ensures.copy in (
-      answer_taken h c.args.ask c.args.name c.in_ok-message.message c.requires.takes c.requires.reads.opened first,
-      adds_entry c.args.who call c.ask.result (Got c.in_ok-noted.noted)
-          (Got c.in_ok-message.message) c.self.view_is c.note.ensures.entries c.reserve.ensures.items c.ask.ensures
-          (ap Got c.in_ok-noted.ensures.copy) (omega (arith, c.reserve.ensures.len, c.reserve.ensures.capacity, c.note.ensures.spare)),
+    let first = first_owed c.args.self.now c.args.name.0 c.args.source.0 c.args.key log c.in-Ok.message c.requires.reads
+    c.log.ensures c.in-Ok.ensures.copy in (
+      answer_taken h c.args.ask c.args.name c.in-Ok.message c.requires.takes c.requires.reads.opened first,
+      adds_entry c.args.who call c.ask-call.result (Got c.in-Ok-share.noted)
+          (Got c.in-Ok.message) c.self.view_is c.note.ensures.entries c.reserve.ensures.items c.ask-call.ensures
+          (ap Got c.in-Ok-share.ensures.copy) (omega (arith, c.reserve.ensures.len, c.reserve.ensures.capacity, c.note.ensures.spare)),
     )
