@@ -3,7 +3,7 @@ ghost use Rattle.std.specs.Prelude.{is_some, MatchBool, MatchResult, IfOk};
 ghost use Rattle.cml_board.specs.declared.entry.Who.TheVariants.{Seat};
 ghost use Rattle.cml_board.specs.declared.outcome.Outcome.TheVariants.{Refused};
 ghost use Rattle.cml_board.specs.declared.outcome.Refusal.TheVariants.{WrongKind};
-ghost use Rattle.cml_board.specs.{no_entries, lanes_of, feeds_of, Applies};
+ghost use Rattle.cml_board.specs.{no_entries, entries_in, lanes_of, feeds_of, Applies, outcome_of};
 ghost use Rattle.cml_lanes.specs.{laned, is_open_lane, is_open_feed, stays, OnLane, KeepsLanes, KeepsFeeds, KeepsRings, IsOfRing, GivesAll};
 ghost use Rattle.cml_lanes.specs.{DrainsUntil, is_barred, Reserves, CutsAFloor, CutsFloor, NotCut, IsBusy};
 
@@ -13,7 +13,7 @@ mod lanes;
 use crate::feed_slots::FeedSlots;
 use crate::lane::LaneEnd;
 use crate::lane_slots::LaneSlots;
-use cml_board::{Board, Call, Entry, Message, Outcome, Refusal, Restored, Who};
+use cml_board::{Board, Call, Entry, Message, Outcome, Refusal, Response, Restored, Who};
 use cml_log::MessageLog;
 use std::alloc::{AllocError, Global};
 use std::marker::Model;
@@ -124,6 +124,24 @@ impl<M: Message, L: MessageLog<M>> Floor<M, L> {
             return Outcome::Refused(Refusal::WrongKind, call);
         }
         self.board.apply(Who::Seat(seat), call)
+    }
+
+    /// Makes a call of the seat with this number, as `apply` does, and returns the reply alone. The journal keeps the caller's
+    /// own call, as in `Board::call`.
+    #[inline(always)]
+    pub fn call(&mut self, seat: u64, call: Call<M>) -> Response<M>
+        ensures barred { is_barred self.old.feeds call ≡ true → (result ≡ Response.Refused WrongKind call) × (self.new ≡ self.old) }
+        ensures applied { is_barred self.old.feeds call ≡ false
+            → Applies L.CHUNK M.SURE self.old.board self.new.board (Seat seat) call
+            (outcome_of (entries_in self.old.board.history) call result) }
+        ensures lanes { self.new.lanes ≡ self.old.lanes }
+        ensures feeds { self.new.feeds ≡ self.old.feeds }
+        ensures rings { KeepsRings self.old self.new }
+    {
+        if self.feeds.bars(&call) {
+            return Response::Refused(Refusal::WrongKind, call);
+        }
+        self.board.call(Who::Seat(seat), call)
     }
 
     /// Reserves memory for `n` more entries. Until `n` entries are added, `NoMemory` comes only of an entry that makes an

@@ -4,7 +4,7 @@ ghost use Rattle.cml_lanes.specs.{KeepsLane, MovesOut, Stops, OnSlot, HasLane, D
 
 use crate::inner_lane::InnerLane;
 use crate::lane::LaneEnd;
-use cml_board::{Board, Message, Outcome, Refusal, Who};
+use cml_board::{Board, Message, Refusal, Response, Who};
 use cml_log::MessageLog;
 use std::alloc::Global;
 
@@ -84,12 +84,12 @@ fn move_next<M: Message, L: MessageLog<M>>(
         return Some(Refusal::NoMemory);
     };
     let call = lane.way().call(lane.target(), message);
-    match board.apply(Who::Lane(number), call) {
-        Outcome::Answered(_) => {
+    match board.call(Who::Lane(number), call) {
+        Response::Reply(_) => {
             lane.take();
             None
         }
-        Outcome::WouldWait(_) => unreachable!(),
-        Outcome::Refused(refusal, _) => Some(refusal),
+        Response::WouldWait(_) => unreachable!(),
+        Response::Refused(refusal, _) => Some(refusal),
     }
 }

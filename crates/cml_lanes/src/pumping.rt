@@ -6,7 +6,7 @@ ghost use Rattle.cml_lanes.specs.{KeepsFeed, PumpsIn, Balks, IsSated, OnSlot, Ha
 
 use crate::feed::FeedEnd;
 use crate::inner_feed::InnerFeed;
-use cml_board::{Board, Call, Message, Outcome, Refusal, Reply, Who};
+use cml_board::{Board, Call, Message, Refusal, Reply, Response, Who};
 use cml_log::MessageLog;
 
 /// Looks how many slots of a slot's feed are free, and pumps messages into them until its port is owed no more or one is
@@ -69,15 +69,15 @@ fn pump_next<M: Message, L: MessageLog<M>>(
     ensures pumped { IfNone result (PumpsIn number 1 board.old board.new feed.old feed.new) }
     ensures balked { IfSome result (λ refusal. Balks L.CHUNK M.SURE number 0 board.old board.new feed.old feed.new refusal) }
 {
-    match board.apply(Who::Feed(number), Call::Recv(feed.port())) {
-        Outcome::Answered(answer) => {
-            let Reply::Got(message) = answer.into_reply() else {
+    match board.call(Who::Feed(number), Call::Recv(feed.port())) {
+        Response::Reply(reply) => {
+            let Reply::Got(message) = reply else {
                 unreachable!()
             };
             feed.push(message);
             None
         }
-        Outcome::WouldWait(_) => unreachable!(),
-        Outcome::Refused(refusal, _) => Some(refusal),
+        Response::WouldWait(_) => unreachable!(),
+        Response::Refused(refusal, _) => Some(refusal),
     }
 }

@@ -25,17 +25,17 @@ take-requires-clause-countable g c =
       min-le_right (entries_in c.args.board.now.past + c.args.board.now.limit) 18446744073709551615,
     )
 
-pub returns-in-Answered-clause-moved : goal.returns-in-Answered-clause-moved
-returns-in-Answered-clause-moved g c =
-    one_moves c.args.number c.args.board.now c.apply.new.self c.args.lane.now c.take.new.self c.call-call.result
-    c.in-Answered.field-0.reply c.next.result.now c.take.result
-    c.in-Answered.ensures.5 c.in-Answered.ensures.2
+pub returns-in-Reply-clause-moved : goal.returns-in-Reply-clause-moved
+returns-in-Reply-clause-moved g c =
+    one_moves c.args.number c.args.board.now c.call.new.self c.args.lane.now c.take.new.self c.call-call.result
+    c.in-Reply.field-0 c.next.result.now c.take.result
+    c.in-Reply.ensures.5 c.in-Reply.ensures.2
     (c.call-call.ensures ∙ same_way_call c.way.ensures c.target.ensures c.in-Ok.ensures.copy) c.next.ensures
     c.take.ensures.side c.take.ensures.next
 
 pub returns-clause-stopped : goal.returns-clause-stopped
 returns-clause-stopped g c =
-    stops_refused g.L.MessageLog.CHUNK g.M.Message.SURE c.args.number c.args.board.now c.apply.new.self c.args.lane.now c.in-Refused.refusal
+    stops_refused g.L.MessageLog.CHUNK g.M.Message.SURE c.args.number c.args.board.now c.call.new.self c.args.lane.now c.in-Refused.refusal
     c.call-call.result c.next.result.now
     c.requires.kept.kind c.in-Refused.ensures.2 c.next.ensures
     (c.call-call.ensures ∙ same_way_call c.way.ensures c.target.ensures c.in-Ok.ensures.copy) c.in-Refused.ensures.0
