@@ -6,15 +6,15 @@ use Rattle.std.specs.Option.{option_map, option_map_or}
 use Rattle.std.proofs.lemmas.Bool.{false≢true, cases_lt}
 use Rattle.std.proofs.lemmas.Option.{same_Some, none-some}
 use Rattle.cml_board.proofs.SuitingLemmas.{answer_suits}
-use Rattle.cml_board.specs.{only_if, held, Fits, answer, is_open, kind_of, owed, received, given, Call, Entry, Reply}
-use Rattle.cml_board.specs.declared.outcome.Outcome.{Outcome}
+use Rattle.cml_board.specs.{only_if, held, Fits, answer, is_open, kind_of, owed, received, given, Call, Entry, Reply, entries_in, outcome_of}
+use Rattle.cml_board.specs.declared.outcome.Response.{Response}
 use Rattle.cml_board.specs.declared.call.Call.TheVariants.{Recv, Poll, Get, GetPoll, Take, TakePoll, Swap}
 use Rattle.cml_board.specs.declared.entry.Reply.TheVariants.{Got, Nothing, Closed}
-use Rattle.cml_board.specs.declared.outcome.Outcome.TheVariants as outcome
+use Rattle.cml_board.specs.declared.outcome.Response.TheVariants as response
 use Rattle.cml_calls.specs.{is_receiver, is_variable, is_mvar, Kind}
 use Rattle.cml_calls.specs.declared.kind.Kind.TheVariants.{Mailbox, Channel, Port, IVar, MVar}
 use Rattle.cml_room.specs.{Asks, RoomShown}
-use Rattle.cml_c.specs.{MayMake, chunk, MayBeLong, IsGiven, NeedsBlock, IsOwed, HoldsLong, IsThere, IsShortReply, GivesShort}
+use Rattle.cml_c.specs.{MayMake, chunk, MayBeLong, IsGiven, NeedsBlock, IsOwed, HoldsLong, IsThere, IsShortReply, IsShortResponse}
 
 abbrev Message : Type 0
 Message = List ℕ
@@ -147,9 +147,11 @@ may_be_long (Poll name) message long = tt
 may_be_long call message long = long
 
 -- a call that needs no block gives no long message
-pub gives_short : (again : Bool) (seat : ℕ) (call : Call Message) (old new : RoomShown Message) (becomes : Outcome Message)
-    → (NeedsBlock again seat call old → ⊥) → Asks chunk false (MayMake again old seat call) old new seat call becomes → GivesShort becomes
-gives_short again seat call old new (outcome.Answered answered) none asks = by_reply answered.reply asks.1.applies.2
+pub gives_short : (again : Bool) (seat : ℕ) (call : Call Message) (old new : RoomShown Message) (becomes : Response Message)
+    → (NeedsBlock again seat call old → ⊥)
+    → Asks chunk false (MayMake again old seat call) old new seat call (outcome_of (entries_in old.board.history) call becomes)
+    → IsShortResponse becomes
+gives_short again seat call old new (response.Reply told) none asks = by_reply told asks.1.applies.2
   where
     by_reply : (reply : Reply Message) → answer old.board.history call ≡ Some reply → IsShortReply reply
     by_reply (Got message) gives = elim (cases_lt 78 (length message)) [
@@ -164,4 +166,5 @@ gives_short again seat call old new (outcome.Answered answered) none asks = by_r
       | inr short ↦ short
     ]
     by_reply reply gives = tt
-gives_short again seat call old new becomes none asks = tt
+gives_short again seat call old new (response.WouldWait back) none asks = tt
+gives_short again seat call old new (response.Refused refusal back) none asks = tt

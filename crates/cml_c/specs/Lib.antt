@@ -28,7 +28,7 @@ pub use Codes.{number, of_refusal, written_count}
 pub use Handles.{OnBoth, OnBytes, OnChecker, OnEither, OnEitherKept, OnFeed, OnJournal, OnNumbers, OnReading, OnRoom}
 pub use Asking.{Calls, CallsPlain, Makes, MayMake, MayWant, Names, NamesNothing, chunk, named_outcome, sending_call, told_reply}
 pub use Asking.{written_outcome}
-pub use Needing.{GivesShort, HoldsLong, IsGiven, IsOwed, IsShortReply, IsThere, MayBeLong, NeedsBlock, WouldGive}
+pub use Needing.{HoldsLong, IsGiven, IsOwed, IsShortReply, IsShortResponse, IsThere, MayBeLong, NeedsBlock, WouldGive}
 pub use Messages.{CallsBytes, FillsBytes, HandsHeld, HandsOutcome, HandsShare, IsHanded, MakesBytes, MakesCopied, NotCopied, SwapsBytes}
 pub use Messages.{SwapsCopied}
 pub use Opening.{IsLimit, IsNew, OpensAChecker, OpensARoom, Writes}

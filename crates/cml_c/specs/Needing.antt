@@ -2,10 +2,10 @@
 use Rattle.std.specs.Prelude.{ℕ, ◌≡◌, ◌<◌, ◌≤◌, Bool, List, length, Option, Some, None, ⊤}
 use Rattle.cml_board.specs.{owed_count, held_by, Fits, answer, HasRoom, Call, Entry, Reply}
 use Rattle.cml_board.specs.Shown.{Shown}
-use Rattle.cml_board.specs.declared.outcome.Outcome.{Outcome}
+use Rattle.cml_board.specs.declared.outcome.Response.{Response}
 use Rattle.cml_board.specs.declared.call.Call.TheVariants.{Recv, Poll, Get, GetPoll, Take, TakePoll, Swap}
 use Rattle.cml_board.specs.declared.entry.Reply.TheVariants.{Got}
-use Rattle.cml_board.specs.declared.outcome.Outcome.TheVariants.{Answered}
+use Rattle.cml_board.specs.declared.outcome.Response.TheVariants as response
 use Rattle.cml_room.specs.{RoomShown}
 use Rattle.cml_c.specs.Asking.{MayMake}
 
@@ -63,6 +63,7 @@ abbrev pub IsShortReply : Reply (List ℕ) → Type 0
 IsShortReply (Got message) = IsShort message
 IsShortReply reply = ⊤
 
-abbrev pub GivesShort : Outcome (List ℕ) → Type 0
-GivesShort (Answered answer) = IsShortReply answer.reply
-GivesShort becomes = ⊤
+abbrev pub IsShortResponse : Response (List ℕ) → Type 0
+IsShortResponse (response.Reply reply) = IsShortReply reply
+IsShortResponse (response.WouldWait back) = ⊤
+IsShortResponse (response.Refused refusal back) = ⊤

@@ -1,5 +1,6 @@
 //! A seat's call, and the code of what becomes of it.
-ghost use Rattle.std.specs.Prelude.{◌≡◌, false};
+ghost use Rattle.std.specs.Prelude.{ℕ, ◌≡◌, false};
+ghost use Rattle.cml_board.specs.{Call, entries_in, outcome_of};
 ghost use Rattle.cml_room.specs.{Asks, Turns, news_by, asked_by};
 ghost use Rattle.cml_c.specs.{number, Calls, CallsPlain, MayMake, chunk, named_outcome, written_outcome, told_reply};
 ghost use Rattle.cml_c.specs.Asking.{told_outcome};
@@ -7,7 +8,7 @@ ghost use Rattle.cml_c.specs.Asking.{told_outcome};
 use crate::code::Code;
 use crate::handle::Handle;
 use crate::kept::{RoomOf, on_one};
-use cml_board::{Call, Message, Outcome, Reply};
+use cml_board::{Call, Message, Reply, Response};
 
 /// Makes a call, again if it had parked its seat.
 pub(crate) fn ask<M: Message>(
@@ -15,37 +16,37 @@ pub(crate) fn ask<M: Message>(
     seat: u64,
     is_again: bool,
     call: Call<M>,
-) -> Outcome<M>
-    ensures asks { Asks chunk M.SURE (MayMake is_again room.old seat call) room.old room.new seat call result }
-    ensures turns { Turns seat (asked_by seat result) (news_by result) room.old room.new }
+) -> Response<M>
+    ensures asks { let outcome = outcome_of (entries_in room.old.board.history) call result in
+        Asks chunk M.SURE (MayMake is_again room.old seat call) room.old room.new seat call outcome }
+    ensures turns { let outcome = outcome_of (entries_in room.old.board.history) call result in
+        Turns seat (asked_by seat outcome) (news_by outcome) room.old room.new }
 {
     if is_again {
-        return room.ask_again(seat, call);
+        return room.call_again(seat, call);
     }
-    room.ask(seat, call)
+    room.call(seat, call)
 }
 
 /// The code of what became of a call. A name that it gave is written.
-pub(crate) fn tell_name<M: Message>(outcome: Outcome<M>, name: &mut u64) -> u32
-    ensures code { result ≡ number (told_outcome outcome) }
-    ensures written { name.new ≡ named_outcome name.old outcome }
+pub(crate) fn tell_name<M: Message>(response: Response<M>, name: &mut u64) -> u32
+    ensures code { (entries : ℕ) (call : Call M) → result ≡ number (told_outcome (outcome_of entries call response)) }
+    ensures written { (entries : ℕ) (call : Call M) → name.new ≡ named_outcome name.old (outcome_of entries call response) }
 {
-    if let Outcome::Answered(answer) = &outcome
-        && let Reply::Made(made) = answer.reply()
-    {
+    if let Response::Reply(Reply::Made(made)) = &response {
         *name = made.0;
     }
-    code_of_outcome(&outcome).number()
+    code_of_response(&response).number()
 }
 
 /// The code of what became of a call.
-pub(crate) fn code_of_outcome<M>(outcome: &Outcome<M>) -> Code
-    ensures { result ≡ told_outcome outcome.now }
+pub(crate) fn code_of_response<M>(response: &Response<M>) -> Code
+    ensures { (entries : ℕ) (call : Call M) → result ≡ told_outcome (outcome_of entries call response.now) }
 {
-    match outcome {
-        Outcome::Answered(answer) => code_of_reply(answer.reply()),
-        Outcome::WouldWait(_) => Code::Parked,
-        Outcome::Refused(refusal, _) => Code::of_refusal(*refusal),
+    match response {
+        Response::Reply(reply) => code_of_reply(reply),
+        Response::WouldWait(_) => Code::Parked,
+        Response::Refused(refusal, _) => Code::of_refusal(*refusal),
     }
 }
 
@@ -83,17 +84,14 @@ pub(crate) fn make_plain_call(handle: &mut Handle, seat: u64, call: Call<u64>) -
 }
 
 /// The code of what became of a call. A number that it gave is written.
-fn tell(outcome: Outcome<u64>, given: &mut u64) -> u32
-    ensures code { result ≡ number (told_outcome outcome) }
-    ensures written { given.new ≡ written_outcome given.old outcome }
+fn tell(response: Response<u64>, given: &mut u64) -> u32
+    ensures code { (entries : ℕ) (call : Call ℕ) → result ≡ number (told_outcome (outcome_of entries call response)) }
+    ensures written { (entries : ℕ) (call : Call ℕ) → given.new ≡ written_outcome given.old (outcome_of entries call response) }
 {
-    let code = code_of_outcome(&outcome);
-    if let Outcome::Answered(answer) = outcome {
-        match answer.into_reply() {
-            Reply::Made(name) => *given = name.0,
-            Reply::Got(message) => *given = message,
-            _ => {}
-        }
+    match response {
+        Response::Reply(Reply::Made(name)) => *given = name.0,
+        Response::Reply(Reply::Got(message)) => *given = message,
+        _ => {}
     }
-    code.number()
+    code_of_response(&response).number()
 }

@@ -1,16 +1,17 @@
 //! A seat's call in a room of bytes.
-ghost use Rattle.std.specs.Prelude.{◌≡◌};
+ghost use Rattle.std.specs.Prelude.{ℕ, ◌≡◌, List};
 ghost use Rattle.cml_c.specs.Asking.{told_outcome};
-ghost use Rattle.cml_c.specs.{GivesShort, CallsBytes, MakesBytes, HandsOutcome};
+ghost use Rattle.cml_board.specs.{Call, outcome_of};
+ghost use Rattle.cml_c.specs.{IsShortResponse, CallsBytes, MakesBytes, HandsOutcome};
 
-use crate::asking::{ask, code_of_outcome, code_of_reply};
+use crate::asking::{ask, code_of_reply, code_of_response};
 use crate::blocks::needs_block;
 use crate::code::Code;
 use crate::handle::Handle;
 use crate::keeper::Held;
 use crate::kept::{Kept, Resource, RoomOf, Stocked};
 use crate::messages::{SeryugoBytes, hand_over, new_block, show_short};
-use cml_board::{Bytes, Call, Outcome, Reply};
+use cml_board::{Bytes, Call, Reply, Response};
 use std::alloc::Global;
 
 /// Makes a call, and hands over the message that it gives.
@@ -47,8 +48,8 @@ pub(crate) fn make_in_room(
     let Some(block) = block_of(alloc, &mut stocked.spare) else {
         return make_without_block(&mut stocked.room, seat, is_again, call, given);
     };
-    let outcome = ask(&mut stocked.room, seat, is_again, call);
-    let (code, left) = tell(block, outcome, given);
+    let response = ask(&mut stocked.room, seat, is_again, call);
+    let (code, left) = tell(block, response, given);
     stocked.spare = left;
     code.number()
 }
@@ -81,35 +82,31 @@ fn block_of(alloc: Global, spare: &mut Option<Box<Held>>) -> Option<Box<Held>> {
 /// The code of what became of a call, and the block, if it is left. A message that the call gave is handed over.
 fn tell(
     block: Box<Held>,
-    outcome: Outcome<Bytes>,
+    response: Response<Bytes>,
     given: &mut SeryugoBytes,
 ) -> (Code, Option<Box<Held>>)
-    ensures code { result.0 ≡ told_outcome outcome }
-    ensures written { HandsOutcome given.old given.new outcome }
+    ensures code { (entries : ℕ) (call : Call (List ℕ)) → result.0 ≡ told_outcome (outcome_of entries call response) }
+    ensures written { (entries : ℕ) (call : Call (List ℕ)) → HandsOutcome given.old given.new (outcome_of entries call response) }
 {
-    match outcome {
-        Outcome::Answered(answer) => match answer.into_reply() {
-            Reply::Got(message) => (Code::Done, hand_over(block, message, given)),
-            other => (code_of_reply(&other), Some(block)),
-        },
-        other => (code_of_outcome(&other), Some(block)),
+    match response {
+        Response::Reply(Reply::Got(message)) => (Code::Done, hand_over(block, message, given)),
+        Response::Reply(other) => (code_of_reply(&other), Some(block)),
+        other => (code_of_response(&other), Some(block)),
     }
 }
 
 /// The same of a call that gave no long message.
-fn tell_short(outcome: Outcome<Bytes>, given: &mut SeryugoBytes) -> Code
-    requires { GivesShort outcome }
-    ensures code { result ≡ told_outcome outcome }
-    ensures written { HandsOutcome given.old given.new outcome }
+fn tell_short(response: Response<Bytes>, given: &mut SeryugoBytes) -> Code
+    requires { IsShortResponse response }
+    ensures code { (entries : ℕ) (call : Call (List ℕ)) → result ≡ told_outcome (outcome_of entries call response) }
+    ensures written { (entries : ℕ) (call : Call (List ℕ)) → HandsOutcome given.old given.new (outcome_of entries call response) }
 {
-    match outcome {
-        Outcome::Answered(answer) => match answer.into_reply() {
-            Reply::Got(message) => {
-                show_short(message.as_slice(), given);
-                Code::Done
-            }
-            other => code_of_reply(&other),
-        },
-        other => code_of_outcome(&other),
+    match response {
+        Response::Reply(Reply::Got(message)) => {
+            show_short(message.as_slice(), given);
+            Code::Done
+        }
+        Response::Reply(other) => code_of_reply(&other),
+        other => code_of_response(&other),
     }
 }

@@ -53,7 +53,7 @@ fn send_in(
     ensures { MakesCopied seat message.now (sending_call sending message.now) result name.old name.new room.old room.new }
 {
     match copied(alloc, message) {
-        Ok(bytes) => tell_name(room.ask(seat, sending.into_call(bytes)), name),
+        Ok(bytes) => tell_name(room.call(seat, sending.into_call(bytes)), name),
         Err(code) => {
             if may_make(room, seat, false, None) {
                 return code.number();
