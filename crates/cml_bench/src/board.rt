@@ -3,7 +3,7 @@ use crate::messages::{Numbered, Supply};
 use crate::roles::{Caller, Crews, Done, Verb, make_objects};
 use crate::workloads::{Ground, Messages};
 use crate::{LIMIT, Run, Runtime, Timed};
-use cml_board::{Board, BoardLog, Name, Outcome, Reply, Who, check};
+use cml_board::{Board, BoardLog, Name, Reply, Response, Who, check};
 use std::io;
 use std::io::ErrorKind::{InvalidData, OutOfMemory};
 use std::time::{Duration, Instant};
@@ -20,10 +20,10 @@ pub struct OnBoard<M: Numbered> {
 impl<M: Numbered> Caller for OnBoard<M> {
     fn make(&mut self, verb: Verb, name: Name, number: u64) -> Option<u64> {
         let call = verb.call(&self.supply, name, number)?;
-        let Outcome::Answered(answer) = self.board.apply(Who::Seat(0), call) else {
+        let Response::Reply(reply) = self.board.call(Who::Seat(0), call) else {
             return None;
         };
-        if let Reply::Got(message) = answer.reply() {
+        if let Reply::Got(message) = reply {
             self.sum = message.added_to(self.sum);
         }
         Some(number)
