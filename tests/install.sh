@@ -167,6 +167,9 @@ from_rust() {
         check 'whatever serde takes is a message' cargo_does test seryugo_serde
     fi
     if has_sources 'futures under tokio' 'tokio-1.*'; then check 'futures under tokio' cargo_does test on_tokio; fi
+    if has_sources 'messages timed beside peers' 'tokio-1.*' && has_sources 'messages timed beside peers' 'crossbeam-channel-0.5*'; then
+        check 'messages are timed beside crossbeam and tokio' cargo_does run speed_of_peers -- 200 '' 1
+    fi
     check 'a crate of another version' another_version_in_rust
 }
 

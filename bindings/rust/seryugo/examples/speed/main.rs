@@ -1,69 +1,51 @@
 //! What a message costs through the library, beside what one writes by hand and beside `std::sync::mpsc`, which keeps no
-//! journal: `cargo run --release --example speed`. Behind `--` may come a number of messages, and then a word: only workloads
-//! and ways whose names have it are gone.
+//! journal: `cargo run --release --example speed`. Three words may follow `--`:
 //!
-//! First one thread sends and receives in turn. It does the same with values of types, and with messages of 64 bytes, by hand alone.
-//! Then four threads send to one that receives. A token goes round 8 and round 63 threads, and eight workers serve 32 and 128 clients: these take
-//! a tenth of the messages, since a thread sleeps and is woken for each. Each figure is the median of several rounds, in which
-//! all ways come in turn.
+//! - how many messages are passed, 200,000 without the word;
+//! - only workloads and ways whose names have this in them are measured, and all with an empty word;
+//! - how many rounds there are, eleven without the word. All ways come in turn in each round.
+//!
+//! A line has a workload, a way, and the median of the rounds in nanoseconds a message, two spaces apart at least. In `one thread`
+//! a thread sends and receives in turn; `typed` does that with values of types. `pairs1` does it without a lock, by hand
+//! alone, as `cml_bench` does it on a board. In `pipe2` one thread sends to another, and in `fanin4` four to one. In `token8`
+//! and `token63` a token goes round so many threads, and in `server32` and `server128` eight workers serve so many clients. These
+//! four take a tenth of the messages, since a thread sleeps and is woken for each.
+//!
+//! The crate `speed_of_peers` beside this one measures crossbeam-channel and tokio too.
 
-mod bytes;
-mod four_senders;
 mod mailboxes;
+mod measure;
+mod no_lock;
 mod one_thread;
 mod queue;
-mod server;
-mod together;
-mod token;
+pub mod senders;
+pub mod server;
+pub mod together;
+pub mod token;
 mod typed;
 
-use std::time::Duration;
+pub use measure::Way;
 
-const ROUNDS: usize = 11;
-
-/// A way of passing so many messages, and how long that took.
-type Way = (&'static str, fn(u64) -> Duration);
-
+#[allow(dead_code)]
 fn main() {
-    let mut words = std::env::args().skip(1);
-    let messages: u64 = match words.next() {
-        Some(word) => word.parse().expect("a number of messages"),
-        None => 200_000,
-    };
-    let only = words.next().unwrap_or_default();
-    let few = messages.div_ceil(10);
-    measure("one thread sends and receives", &one_thread::WAYS, messages, &only);
-    measure("typed: a u64", &typed::NUMBERS, messages, &only);
-    measure("typed: a String of 32 bytes", &typed::STRINGS, messages, &only);
-    measure("pairs1 of 64 bytes, without a lock", &bytes::WAYS, messages, &only);
-    measure("four threads send, one receives", &four_senders::WAYS, messages, &only);
-    measure("token8: a token goes round 8 threads", &token::ways::<8>(), few, &only);
-    measure("token63: a token goes round 63 threads", &token::ways::<63>(), few, &only);
-    measure("server32: 8 workers serve 32 clients", &server::ways::<32>(), few, &only);
-    measure("server128: 8 workers serve 128 clients", &server::ways::<128>(), few, &only);
+    measure_all(|_| Vec::new());
 }
 
-/// Prints the nanoseconds that a message takes, a hop of the token, or a request with its answer: for each way whose name has
-/// the word in it, and for all where the workload's has.
-fn measure(what: &str, ways: &[Way], messages: u64, only: &str) {
-    let is_asked = |(name, _): &&Way| what.contains(only) || name.contains(only);
-    let ways: Vec<&Way> = ways.iter().filter(is_asked).collect();
-    if ways.is_empty() {
-        return;
-    }
-    let mut times = vec![Vec::with_capacity(ROUNDS); ways.len()];
-    for _ in 0..ROUNDS {
-        for ((_, pass), times) in ways.iter().zip(&mut times) {
-            times.push(pass(messages));
-        }
-    }
-    println!("{what}, {messages} messages, {ROUNDS} rounds, nanoseconds a message:");
-    for ((name, _), times) in ways.iter().zip(times) {
-        println!("  {name:<26} {:>7.1}", median(times).as_nanos() as f64 / messages as f64);
-    }
-}
-
-fn median(mut times: Vec<Duration>) -> Duration {
-    times.sort();
-    times[times.len() / 2]
+/// Measures each workload, with more ways of it behind those of the library and of the standard library.
+pub fn measure_all(more: fn(&str) -> Vec<Way>) {
+    let asked = measure::Asked::by_words();
+    let many = asked.messages;
+    let few = many.div_ceil(10);
+    let measure = |workload, messages, ways: &[Way]| asked.measure(workload, messages, &[ways, &more(workload)].concat());
+    measure("one thread", many, &one_thread::WAYS);
+    measure("typed: a u64", many, &typed::NUMBERS);
+    measure("typed: a String of 32 bytes", many, &typed::STRINGS);
+    measure("pairs1", many, &no_lock::NUMBERS);
+    measure("pairs1_bytes64", many, &no_lock::BYTES);
+    measure("pipe2", many, &senders::ways::<1>());
+    measure("fanin4", many, &senders::ways::<4>());
+    measure("token8", few, &token::ways::<8>());
+    measure("token63", few, &token::ways::<63>());
+    measure("server32", few, &server::ways::<32>());
+    measure("server128", few, &server::ways::<128>());
 }

@@ -1,7 +1,7 @@
 //! One thread sends a message and receives it, again and again.
 
-use crate::queue::{Queue, Waking};
-use crate::Way;
+use super::queue::{Queue, Waking};
+use super::Way;
 use seryugo::Switchboard;
 use std::sync::mpsc;
 use std::time::{Duration, Instant};

@@ -1,9 +1,9 @@
 //! Eight threads serve requests that arrive in one mailbox. So many clients ask, and each waits at its mailbox for the answer
 //! before it asks again.
 
-use crate::mailboxes::Mailboxes;
-use crate::together::{timed, Job};
-use crate::Way;
+use super::mailboxes::Mailboxes;
+use super::together::{timed, Job};
+use super::Way;
 use seryugo::{Error, Switchboard};
 use std::sync::atomic::{AtomicUsize, Ordering};
 use std::sync::{mpsc, Mutex};
@@ -17,10 +17,10 @@ pub fn ways<const CLIENTS: usize>() -> [Way; 3] {
     ]
 }
 
-const WORKERS: usize = 8;
+pub const WORKERS: usize = 8;
 
 /// How often each client asks.
-fn each<const CLIENTS: usize>(messages: u64) -> u64 {
+pub fn each<const CLIENTS: usize>(messages: u64) -> u64 {
     messages.div_ceil(CLIENTS as u64)
 }
 

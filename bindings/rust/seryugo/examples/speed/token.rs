@@ -1,8 +1,8 @@
 //! A token goes round so many threads: each receives it at its own mailbox, and sends it to the next. All others wait.
 
-use crate::mailboxes::Mailboxes;
-use crate::together::{timed, Job};
-use crate::Way;
+use super::mailboxes::Mailboxes;
+use super::together::{timed, Job};
+use super::Way;
 use seryugo::Switchboard;
 use std::sync::mpsc;
 use std::time::Duration;
@@ -16,12 +16,12 @@ pub fn ways<const THREADS: usize>() -> [Way; 3] {
 }
 
 /// The token says how many hops are left, and a hop gives what it said. Each thread ends as it sees the token for the last time.
-fn pass_on<const THREADS: usize>(mut hop: impl FnMut() -> u64) {
+pub fn pass_on<const THREADS: usize>(mut hop: impl FnMut() -> u64) {
     while hop() >= THREADS as u64 {}
 }
 
 /// How many hops it makes: enough for each thread to receive it.
-fn hops<const THREADS: usize>(messages: u64) -> u64 {
+pub fn hops<const THREADS: usize>(messages: u64) -> u64 {
     messages.max(THREADS as u64)
 }
 

@@ -1,7 +1,7 @@
 //! One thread sends a value of a type and receives it, again and again: numbers and strings, on switchboards of numbers and of bytes.
 
-use crate::queue::{Queue, Waking};
-use crate::Way;
+use super::queue::{Queue, Waking};
+use super::Way;
 use seryugo::{Carries, Message, Room, Switchboard};
 use std::hint::black_box;
 use std::sync::Arc;

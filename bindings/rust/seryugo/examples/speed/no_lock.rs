@@ -1,14 +1,15 @@
-//! One thread sends 64 bytes and receives them, again and again, with neither a lock nor a cut. `cml_bench` does the same on a
-//! board as `pairs1_bytes64` and `pairs1_vec64`. It prints nanoseconds a call: a message takes two.
+//! One thread sends a message and receives it, again and again, with neither a lock nor a cut. `cml_bench` does the same on a
+//! board as `pairs1` and `pairs1_bytes64`. It prints nanoseconds a call: a message takes two.
 
-use crate::Way;
+use super::Way;
 use seryugo::{Error, Who};
 use std::collections::VecDeque;
 use std::hint::black_box;
 use std::sync::Arc;
 use std::time::{Duration, Instant};
 
-pub const WAYS: [Way; 1] = [("by hand, as Arc<[u8]>", by_hand)];
+pub const NUMBERS: [Way; 1] = [("by hand, no lock", numbers)];
+pub const BYTES: [Way; 1] = [("by hand, no lock", bytes)];
 
 const LENGTH: usize = 64;
 
@@ -17,34 +18,32 @@ const WHO: Who = Who::Seat(0);
 /// The number under which the journal names the mailbox.
 const MAILBOX: u64 = 0;
 
-type Bytes = Arc<[u8]>;
-
 /// A mailbox, with a journal that takes so many entries.
-struct Mailbox {
-    messages: VecDeque<Bytes>,
-    journal: Vec<Entry>,
+struct Mailbox<M> {
+    messages: VecDeque<M>,
+    journal: Vec<Entry<M>>,
     limit: usize,
 }
 
 /// It says what a board's entry says.
-struct Entry {
+struct Entry<M> {
     who: Who,
-    call: Call,
-    reply: Reply,
+    call: Call<M>,
+    reply: Reply<M>,
 }
 
-enum Call {
-    Send(u64, Bytes),
+enum Call<M> {
+    Send(u64, M),
     Recv(u64),
 }
 
-enum Reply {
+enum Reply<M> {
     Done,
-    Got(Bytes),
+    Got(M),
 }
 
-impl Mailbox {
-    fn new(limit: usize) -> Mailbox {
+impl<M: Clone> Mailbox<M> {
+    fn new(limit: usize) -> Mailbox<M> {
         Mailbox {
             messages: VecDeque::new(),
             journal: Vec::new(),
@@ -52,14 +51,14 @@ impl Mailbox {
         }
     }
 
-    fn send(&mut self, message: Bytes) -> Result<(), Error> {
+    fn send(&mut self, message: M) -> Result<(), Error> {
         self.note(Call::Send(MAILBOX, message.clone()), Reply::Done)?;
         self.messages.push_back(message);
         Ok(())
     }
 
     /// Returns nothing if the mailbox is empty.
-    fn recv(&mut self) -> Result<Option<Bytes>, Error> {
+    fn recv(&mut self) -> Result<Option<M>, Error> {
         let Some(message) = self.messages.front() else {
             return Ok(None);
         };
@@ -67,7 +66,7 @@ impl Mailbox {
         Ok(self.messages.pop_front())
     }
 
-    fn note(&mut self, call: Call, reply: Reply) -> Result<(), Error> {
+    fn note(&mut self, call: Call<M>, reply: Reply<M>) -> Result<(), Error> {
         if self.journal.len() >= self.limit {
             return Err(Error::JournalFull);
         }
@@ -77,7 +76,7 @@ impl Mailbox {
 }
 
 /// Whether one entry sends a message, and the same seat receives it in the next.
-fn passes(entries: &[Entry]) -> bool {
+fn passes<M: PartialEq>(entries: &[Entry<M>]) -> bool {
     let [sent, received] = entries else {
         return false;
     };
@@ -88,16 +87,14 @@ fn passes(entries: &[Entry]) -> bool {
     got_what_was_sent && sent.who == received.who
 }
 
-/// Copies each message from one list of bytes, as `cml_bench` does.
-fn by_hand(messages: u64) -> Duration {
-    let supply: Vec<u8> = (0..=u8::MAX).cycle().take(LENGTH + 256).collect();
+/// Sends each number's message, and adds up what is received.
+fn pass<M: Clone + PartialEq>(messages: u64, message: impl Fn(u64) -> M, add: impl Fn(u64, M) -> u64) -> Duration {
     let mut mailbox = Mailbox::new(1 << 32);
     let mut sum = 0;
     let start = Instant::now();
     for n in 0..messages {
-        let first = (n % 256) as usize;
-        mailbox.send(Arc::from(&supply[first..first + LENGTH])).unwrap();
-        sum = with_ends(sum, &mailbox.recv().unwrap().unwrap());
+        mailbox.send(message(n)).unwrap();
+        sum = add(sum, mailbox.recv().unwrap().unwrap());
     }
     let time = start.elapsed();
     black_box(sum);
@@ -106,8 +103,21 @@ fn by_hand(messages: u64) -> Duration {
     time
 }
 
-/// The sum with the first and the last byte behind it.
-fn with_ends(sum: u64, bytes: &[u8]) -> u64 {
-    let ends = [bytes[0], bytes[LENGTH - 1]];
-    ends.iter().fold(sum, |sum, &byte| sum.wrapping_mul(31).wrapping_add(byte.into()))
+fn numbers(messages: u64) -> Duration {
+    pass(messages, |n| n, with)
+}
+
+/// Copies each message from one list of bytes, as `cml_bench` does, and adds its first and its last byte.
+fn bytes(messages: u64) -> Duration {
+    let supply: Vec<u8> = (0..=u8::MAX).cycle().take(LENGTH + 256).collect();
+    let message = |n| {
+        let first = (n % 256) as usize;
+        Arc::<[u8]>::from(&supply[first..first + LENGTH])
+    };
+    pass(messages, message, |sum, bytes| with(with(sum, bytes[0].into()), bytes[LENGTH - 1].into()))
+}
+
+/// The sum with another number behind it.
+fn with(sum: u64, number: u64) -> u64 {
+    sum.wrapping_mul(31).wrapping_add(number)
 }
