@@ -122,6 +122,8 @@ rooms_from_c() {
         check "a program in C of rooms is built: $program" compile $program "$rooms"
         [ -x "$work/$program" ] && check "rooms from C: $program" timeout 60 "$work/$program"
     done
+    check 'a program in C that times messages is built' compile speed "$rooms"
+    [ -x "$work/speed" ] && check 'messages are timed in C' timeout 60 "$work/speed" 2000 1
     refusals_from_c
     if has valgrind 'rooms from C without a fault of memory'; then
         for program in calls messages keep; do
