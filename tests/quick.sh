@@ -3,9 +3,9 @@
 # here, even where it breaks a contract; `rt ci` refuses that.
 #
 # It compiles the programs and the crate of tests as `rt try` does (tests/lib/tried.sh). It runs each test function, the tables of
-# calls, those with cuts too, the guide, each example with its report and its chart, each fault, and the library from C.
-# As many steps run at once as there are processors. `sh tests/quick.sh NAME..` runs some steps alone.
-# The last line is `N passed, M failed`.
+# calls, those with cuts too, the guide, each example with its report and its chart, each fault, the page of figures without
+# measuring any, and the library from C. As many steps run at once as there are processors. `sh tests/quick.sh NAME..` runs some
+# steps alone. The last line is `N passed, M failed`.
 top=$(cd "$(dirname "$0")/.." && pwd) || exit 1
 cd "$top" || exit 1
 kit=$(dirname "$(rt doc)")
@@ -23,6 +23,7 @@ steps() {
     echo cml_bench
     echo cml_queueing
     echo guide
+    echo speed
 }
 
 step() {
@@ -41,7 +42,7 @@ step() {
         cml_c) calls_from_c ;;
         cml_script_c) replays_from_c ;;
         cml_tests) passes "$1" ;;
-        guide) sh tests/guide.sh ;;
+        guide | speed) sh "tests/$1.sh" ;;
         *) build "$1" "crates/$1/src/main.rt" && prints "$1" ;;
     esac
 }

@@ -1,0 +1,106 @@
+"""Writes SPEED.md and speed.svg: `page.py FIGURES FOLDER`, with the figures of tools/speed.sh.
+
+The words of the page are in page.md beside this file. Here is what fills its braces.
+"""
+
+import pathlib
+import sys
+
+import chart
+from figures import PEERS, QUEUES, Figures, is_of_bench
+
+FREE = "nothing beside it"
+SETTINGS = (FREE, "one processor", "eight busy threads")
+
+
+def number(figure):
+    """Return a figure with three digits or more."""
+    if figure < 10:
+        return f"{figure:.2f}"
+    return f"{figure:.1f}" if figure < 100 else f"{figure:,.0f}"
+
+
+def beside(now, other, scale):
+    """Return a figure with the ratio of the library's to it, or nothing if it wasn't measured."""
+    return f"{number(other / scale)} ({number(now / other)})" if other else ""
+
+
+def table(names, figures, rows):
+    """Return a table. The columns of figures are at the right."""
+    headings = [*names, *figures]
+    lines = [headings, ["---"] * len(names) + ["---:"] * len(figures), *rows]
+    return "\n".join("| " + " | ".join(cells) + " |" for cells in lines)
+
+
+def compared(figures, rows, unit, others=(), scale=1):
+    """Return a table of ways of the library, with the ways beside them that were measured."""
+    if not rows:
+        return "Not measured."
+    shown = [at for at in range(len(others)) if any(row.others[at] for row in rows)]
+    before = ["before"] * figures.has_before()
+    cells = []
+    for row in rows:
+        earlier = [beside(row.now, row.before, scale)] * len(before)
+        by_others = [beside(row.now, row.others[at], scale) for at in shown]
+        way = row.way.replace("_", ", ")
+        cells.append([f"`{row.workload}`", way, number(row.now / scale), *earlier, *by_others])
+    return table(["Workload", "Way"], [unit, *before, *(others[at] for at in shown)], cells)
+
+
+def spread(figures, setting):
+    """Return a table of all figures of a setting, with the least and the most of the rounds."""
+    cells = []
+    for (of, build, workload, way), found in figures.all.items():
+        if of == setting:
+            middle = figures.median(of, build, workload, way)
+            shown = [number(figure) for figure in (middle, min(found), max(found))]
+            cells.append([f"`{workload}`", way.replace("_", ", "), build, *shown])
+    return table(["Workload", "Way", "Build"], ["ns", "least", "most"], cells)
+
+
+def every(figures):
+    """Return the tables of all figures, each with its setting."""
+    return "\n\n".join(
+        f"{setting.capitalize()}:\n\n{spread(figures, setting)}" for setting in figures.settings()
+    )
+
+
+def parts(figures):
+    """Return what fills each pair of braces."""
+
+    def rows(is_wanted, others=()):
+        return figures.rows(FREE, others, is_wanted)
+
+    found = {}
+    for setting in SETTINGS:
+        found[setting] = compared(figures, figures.compared(setting), "ns", PEERS)
+    in_c = rows(lambda workload, _: workload.startswith("in C"), PEERS)
+    in_python = rows(lambda workload, _: workload.startswith("in Python"), QUEUES)
+    scripts = rows(lambda workload, _: workload.startswith("a script"))
+    journals = rows(lambda workload, _: workload.startswith("an entry"))
+    found["machine"] = "\n".join(f"- {name}: {words}" for name, words in figures.machine.items())
+    found["bench"] = compared(figures, rows(lambda _, way: is_of_bench(way)), "ns")
+    found["C"] = compared(figures, in_c, "ns", PEERS)
+    found["Python"] = compared(figures, in_python, "µs", QUEUES, 1e3)
+    found["scripts"] = compared(figures, scripts, "ms", (), 1e6)
+    found["journals"] = compared(figures, journals, "ns")
+    found["every"] = every(figures)
+    return found
+
+
+def main():
+    """Write both files."""
+    source, folder = sys.argv[1], pathlib.Path(sys.argv[2])
+    with open(source, encoding="utf-8") as lines:
+        figures = Figures(lines)
+    page = pathlib.Path(__file__).with_name("page.md").read_text(encoding="utf-8")
+    for name, words in parts(figures).items():
+        page = page.replace("{" + name + "}", words)
+    folder.mkdir(parents=True, exist_ok=True)
+    (folder / "SPEED.md").write_text(page, encoding="utf-8")
+    picture = chart.draw(figures.compared(FREE), PEERS)
+    (folder / "speed.svg").write_text(picture, encoding="utf-8")
+
+
+if __name__ == "__main__":
+    main()
