@@ -9,8 +9,11 @@ export PYTHONDONTWRITEBYTECODE
 
 writes_the_page() { python3 tools/speed/page.py "$tables/figures.txt" "$work/page"; }
 
-# The tables of the page and the lines of the machine, without the words.
-has_the_tables() { grep -E '^(\| |- [a-z]+: |Not measured)' "$work/page/SPEED.md" | diff "$tables/tables.txt" -; }
+# The tables of the page with figures, and the lines of the machine, without the words.
+has_the_tables() {
+    awk '/^## / { on = $0 != "## The workloads" } on && /^(\| |- [a-z]+: |Not measured)/' "$work/page/SPEED.md" |
+        diff "$tables/tables.txt" -
+}
 
 # No brace of the page is left unfilled.
 is_filled() { ! grep -n '[{}]' "$work/page/SPEED.md"; }

@@ -35,7 +35,7 @@ in_full() {
     esac
 }
 
-prefix=$SERYUGO_PREFIX
+prefix=$(in_full "$SERYUGO_PREFIX")
 [ -n "$prefix" ] || prefix=$(pkg-config --variable=prefix seryugo 2> /dev/null)
 bench=$PWD/crates/cml_bench/out/cml_bench
 cml=$PWD/crates/cml/out/cml

@@ -34,6 +34,8 @@ PLAIN = "by hand, wakes always"
 IN_RATTLE = {
     "pairs1": [("pairs1", "board", "a board, in Rattle", 2)],
     "pairs1_bytes64": [("pairs1_bytes64", "board", "a board, in Rattle", 2)],
+    "cast8": [("cast8", "board", "a board, in Rattle", 9)],
+    "cast8_bytes64": [("cast8_bytes64", "board", "a board, in Rattle", 9)],
     "pipe2": [("pipe2", "switchboard", "seats, in Rattle", 2)],
     "fanin4": [
         ("fanin4", "switchboard", "seats, in Rattle", 2),

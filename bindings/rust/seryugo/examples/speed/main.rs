@@ -7,12 +7,13 @@
 //!
 //! A line has a workload, a way, and the median of the rounds in nanoseconds a message, two spaces apart at least. In `one thread`
 //! a thread sends and receives in turn; `typed` does that with values of types. `pairs1` does it without a lock, by hand
-//! alone, as `cml_bench` does it on a board. In `pipe2` one thread sends to another, and in `fanin4` four to one. In `token8`
+//! alone, as `cml_bench` does it on a board. So does `cast8`, where eight readers receive each message of one thread. In `pipe2` one thread sends to another, and in `fanin4` four to one. In `token8`
 //! and `token63` a token goes round so many threads, and in `server32` and `server128` eight workers serve so many clients. These
 //! four take a tenth of the messages, since a thread sleeps and is woken for each.
 //!
 //! The crate `speed_of_peers` beside this one measures crossbeam-channel and tokio too.
 
+mod cast;
 mod mailboxes;
 mod measure;
 mod no_lock;
@@ -42,6 +43,8 @@ pub fn measure_all(more: fn(&str) -> Vec<Way>) {
     measure("typed: a String of 32 bytes", many, &typed::STRINGS);
     measure("pairs1", many, &no_lock::NUMBERS);
     measure("pairs1_bytes64", many, &no_lock::BYTES);
+    measure("cast8", many, &cast::NUMBERS);
+    measure("cast8_bytes64", many, &cast::BYTES);
     measure("pipe2", many, &senders::ways::<1>());
     measure("fanin4", many, &senders::ways::<4>());
     measure("token8", few, &token::ways::<8>());

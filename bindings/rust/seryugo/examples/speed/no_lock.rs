@@ -104,20 +104,28 @@ fn pass<M: Clone + PartialEq>(messages: u64, message: impl Fn(u64) -> M, add: im
 }
 
 fn numbers(messages: u64) -> Duration {
-    pass(messages, |n| n, with)
+    pass(messages, |n| n, with_number)
 }
 
-/// Copies each message from one list of bytes, as `cml_bench` does, and adds its first and its last byte.
 fn bytes(messages: u64) -> Duration {
+    pass(messages, copies(), with_ends)
+}
+
+/// Copies each message from one list of bytes, as `cml_bench` does.
+pub fn copies() -> impl Fn(u64) -> Arc<[u8]> {
     let supply: Vec<u8> = (0..=u8::MAX).cycle().take(LENGTH + 256).collect();
-    let message = |n| {
+    move |n| {
         let first = (n % 256) as usize;
-        Arc::<[u8]>::from(&supply[first..first + LENGTH])
-    };
-    pass(messages, message, |sum, bytes| with(with(sum, bytes[0].into()), bytes[LENGTH - 1].into()))
+        Arc::from(&supply[first..first + LENGTH])
+    }
 }
 
 /// The sum with another number behind it.
-fn with(sum: u64, number: u64) -> u64 {
+pub fn with_number(sum: u64, number: u64) -> u64 {
     sum.wrapping_mul(31).wrapping_add(number)
+}
+
+/// The sum with the first and the last byte behind it.
+pub fn with_ends(sum: u64, bytes: Arc<[u8]>) -> u64 {
+    with_number(with_number(sum, bytes[0].into()), bytes[LENGTH - 1].into())
 }
