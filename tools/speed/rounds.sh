@@ -50,7 +50,7 @@ some_bench() {
 # Beside threads that compute a hop may take milliseconds.
 few_bench() {
     by_bench "$1" 100000 pairs1 pipe2 fanin4 fanin4_lanes || return
-    by_bench "$1" 300 var2 token8 token63 server32 server128
+    by_bench "$1" 1000 var2 token8 token63 server32 server128
 }
 
 # by_rust BUILD MESSAGES WORD..: the workloads of the crate in Rust whose names have one of these words, or all for an empty word.
@@ -69,7 +69,7 @@ all_rust() { by_rust "$1" 200000 ''; }
 
 some_rust() { by_rust "$1" 100000 'one thread' pipe2 fanin4 token8 token63 server32 server128; }
 
-few_rust() { by_rust "$1" 20000 'one thread' pipe2 fanin4 && by_rust "$1" 3000 token8 token63 server32 server128; }
+few_rust() { by_rust "$1" 20000 'one thread' pipe2 fanin4 && by_rust "$1" 10000 token8 token63 server32 server128; }
 
 # A script of a megabyte, and the check of a journal.
 by_cml() {
