@@ -7,10 +7,9 @@ use Rattle.cml_board.specs.declared.outcome.Refusal.TheVariants.{Gone, Busy, NoS
 use Rattle.cml_lanes.specs.{FloorShown}
 use Rattle.cml_room.specs.declared.news.News.{News}
 use Rattle.cml_room.specs.{Asks, KeepsSeats, Settles, Stirs, Turns, states_in, notices_in, RisesFew, MakesFewByOne, MakesNoneDue}
-use Rattle.cml_room.specs.{RoomShown, AskOf, Other, IsMade, HasAsked, asked_by, was_woken, SeatsShown, IsStalled}
+use Rattle.cml_room.specs.{RoomShown, AskOf, Other, IsMade, HasAsked, asked_by, was_woken, SeatsShown, IsStalled, with_seats}
 use Rattle.cml_room.specs.declared.state.State.TheVariants as state
 use Rattle.cml_room.proofs.RisingLemmas.{few_due, few_of, none_by, none_same}
-use Rattle.cml_room.proofs.TurningLemmas.{with_seats}
 
 module _ {M : Type 0} where
   -- nothing of the seats is changed

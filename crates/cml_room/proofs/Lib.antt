@@ -21,3 +21,4 @@ pub mod WokenLemmas
 pub mod RunningLemmas
 pub mod FramesLemmas
 pub mod InTurnLemmas
+pub mod FinishingLemmas

@@ -7,8 +7,8 @@ use Rattle.cml_board.specs.declared.entry.Who.TheVariants.{Seat}
 use Rattle.cml_board.specs.declared.outcome.Outcome.TheVariants.{Answered, WouldWait, Refused}
 use Rattle.cml_board.specs.declared.outcome.Refusal.TheVariants.{Gone, Busy, NoSuch, WrongKind, JournalFull, Stalled, NoMemory, Unseen}
 use Rattle.cml_lanes.specs.{FloorShown, is_barred}
-use Rattle.cml_room.specs.{Notice, State, SeatsShown, states_in, notices_in, NoneOpen, AreIdle, IsStalled, RoomShown, floor_of, Moves}
-use Rattle.cml_room.specs.{Reaches, IsBarred, Asks}
+use Rattle.cml_room.specs.{Notice, State, SeatsShown, states_in, NoneOpen, AreIdle, IsStalled, RoomShown, floor_of, Moves}
+use Rattle.cml_room.specs.{Reaches, IsBarred, Asks, with_seats}
 use Rattle.cml_room.specs.declared.state.State.TheVariants.{Free, Parked}
 
 module _ {M : Type 0} where
@@ -79,10 +79,6 @@ module _ {M : Type 0} where
   abbrev pub room_of : FloorShown M → List State → List Notice → Bool → RoomShown M
   room_of floor seats notices all_due =
       record { board = floor.board; lanes = floor.lanes; feeds = floor.feeds; seats = seats; notices = notices; all_due = all_due }
-
-  -- the room with these seats
-  abbrev pub with_seats : FloorShown M → SeatsShown → RoomShown M
-  with_seats floor seats = room_of floor (states_in seats.places) (notices_in seats.places) seats.all_due
 
   -- what becomes of the call by what became of it on the floor
   pub answered_asks : (chunk : ℕ) (sure : Bool) (room : RoomShown M) (floor new : FloorShown M) (olds lates : SeatsShown) (number : ℕ)

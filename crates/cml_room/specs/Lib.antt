@@ -10,6 +10,7 @@ pub mod Running
 pub mod Frames
 pub mod InTurn
 pub mod Ending
+pub mod Finishing
 -- the names that others import from here
 pub use Places.{AreAlike, AreListed, AreRoused, IsMate, IsQuiet, is_noted, noted_as, noted_in, notice_by, notice_in, notices_in, place_due}
 pub use Places.{quieted, roused, roused_notice, row_in, row_of, state_by, states_in}
@@ -26,6 +27,7 @@ pub use Running.{RoomCall, asked_by, is_returned, is_woken, was_woken, withdrawn
 pub use Frames.{KeepsSeats, Settles, Stirs, Turns}
 pub use InTurn.{GivesInTurn}
 pub use Ending.{EndsTurn, MayEndTurn, MayTurn}
+pub use Finishing.{HasTurned, TurnEnds, ended_by, told_by, with_seats}
 pub use declared.notice.Notice.{Notice}
 pub use declared.place.Place.{Place}
 pub use declared.place.Waiter.{Waiter}

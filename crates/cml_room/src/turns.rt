@@ -6,6 +6,8 @@ ghost use Rattle.cml_room.specs.declared.news.News.{News};
 ghost use Rattle.cml_room.specs.{Waiter, Settles, IsOf, states_in, notices_in, HasRisen, IsStalled, EndsTurn, MayEndTurn, AreAt, Follows};
 ghost use Rattle.cml_room.specs.{IsWatched, NoneForgotten, WasWatched, WasWatchedAt, WouldWait, HasAsked};
 ghost use Rattle.cml_room.specs.declared.place.Place.TheVariants as place;
+ghost use Rattle.cml_room.specs.{AskOf, Asks, Turns, TurnEnds, news_by, told_by, with_seats};
+ghost use Rattle.std.specs.Prelude.{⊤};
 
 use crate::news::{News, latest_news};
 use crate::place::{Place, Waiter};
@@ -16,6 +18,49 @@ use crate::waking::{hand_on, object_of, source_of, tell};
 use cml_board::{Message, Want};
 use cml_lanes::Floor;
 use cml_log::MessageLog;
+
+/// How a seat's call ended on the floor.
+#[derive(Clone, Copy)]
+pub enum Ended {
+    /// It was answered, and brought these news.
+    Answered(Option<News>),
+    /// It failed.
+    Failed,
+    /// It would wait, for this.
+    Waits(Option<Want>),
+}
+
+/// Ends a seat's turn whose call ended so. Returns false if the call would wait, and no seat could go on then: the call fails with
+/// `Stalled`.
+#[inline(always)]
+pub fn finish_turn<M: Message, L: MessageLog<M>>(
+    floor: &Floor<M, L>,
+    seats: &mut Seats,
+    number: u64,
+    ended: Ended,
+) -> bool
+    requires { TurnEnds L.CHUNK M.SURE floor.now seats.old number ended }
+    ensures watched { IsWatched floor.now seats.new.places seats.new.all_due }
+    ensures asks { (turn : TurnEnds L.CHUNK M.SURE floor.now seats.old number ended)
+        → Asks L.CHUNK M.SURE ⊤ turn.room (with_seats floor.now seats.new) number turn.call (told_by turn.outcome result) }
+    ensures turns { (turn : TurnEnds L.CHUNK M.SURE floor.now seats.old number ended)
+        → Turns number (AskOf number) (news_by (told_by turn.outcome result)) turn.room (with_seats floor.now seats.new) }
+{
+    match ended {
+        Ended::Answered(news) => {
+            answer_turn(floor, seats, number, news);
+            true
+        }
+        Ended::Failed => {
+            end_turn(floor, seats, number, None);
+            true
+        }
+        Ended::Waits(wants) => {
+            let Some(want) = wants else { unreachable!() };
+            park(floor, seats, number, want)
+        }
+    }
+}
 
 /// The seat's call was answered, and brought these news: the seat is free. All are due if the journal is full now.
 pub fn answer_turn<M: Message, L: MessageLog<M>>(

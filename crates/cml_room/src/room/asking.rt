@@ -1,13 +1,13 @@
 //! A seat's calls.
-ghost use Rattle.std.specs.Prelude.{◌≡◌, ◌≢◌, ◌⊎◌, Some, None, IfErr, OnOk, ⊤};
-ghost use Rattle.cml_board.specs.{Want};
+ghost use Rattle.std.specs.Prelude.{◌≡◌, ◌≢◌, ◌↔◌, ◌⊎◌, Some, None, IsTrue, IfErr, OnOk, ⊤};
+ghost use Rattle.cml_board.specs.{Want, entries_in, outcome_of};
 ghost use Rattle.cml_room.specs.{state_of, MayAsk, MayAskAgain, Moves, Asks, Turns, news_by, AskOf, asked_by, withdrawn_by};
 
 use super::Room;
 use crate::news::news_in;
 use crate::state::State;
-use crate::turns::{answer_turn, end_turn, park};
-use cml_board::{Call, Message, Outcome, Refusal};
+use crate::turns::{Ended, end_turn, finish_turn};
+use cml_board::{Call, Message, Outcome, Refusal, Response};
 use cml_log::MessageLog;
 
 impl<M: Message, L: MessageLog<M>> Room<M, L> {
@@ -31,13 +31,37 @@ impl<M: Message, L: MessageLog<M>> Room<M, L> {
         ensures asks { Asks L.CHUNK M.SURE (MayAskAgain self.old seat call) self.old self.new seat call result }
         ensures turns { Turns seat (asked_by seat result) (news_by result) self.old self.new }
     {
-        let Some(want) = call.want() else {
-            return Outcome::Refused(Refusal::Gone, call);
-        };
-        if self.seats.state(seat) != Some(State::Parked(want)) {
+        if !self.waits_on(seat, &call) {
             return Outcome::Refused(Refusal::Gone, call);
         }
         self.take_turn(seat, call)
+    }
+
+    /// Makes a free seat's call, as `ask` does, and returns the reply alone. The journal keeps the caller's own call, as in
+    /// `Board::call`.
+    pub fn call(&mut self, seat: u64, call: Call<M>) -> Response<M>
+        ensures asks { let outcome = outcome_of (entries_in self.old.board.history) call result in
+            Asks L.CHUNK M.SURE (MayAsk self.old seat) self.old self.new seat call outcome }
+        ensures turns { let outcome = outcome_of (entries_in self.old.board.history) call result in
+            Turns seat (asked_by seat outcome) (news_by outcome) self.old self.new }
+    {
+        if self.seats.state(seat) != Some(State::Free) {
+            return Response::Refused(Refusal::Gone, call);
+        }
+        self.call_turn(seat, call)
+    }
+
+    /// Makes a parked seat's call again, as `ask_again` does, and returns the reply alone.
+    pub fn call_again(&mut self, seat: u64, call: Call<M>) -> Response<M>
+        ensures asks { let outcome = outcome_of (entries_in self.old.board.history) call result in
+            Asks L.CHUNK M.SURE (MayAskAgain self.old seat call) self.old self.new seat call outcome }
+        ensures turns { let outcome = outcome_of (entries_in self.old.board.history) call result in
+            Turns seat (asked_by seat outcome) (news_by outcome) self.old self.new }
+    {
+        if !self.waits_on(seat, &call) {
+            return Response::Refused(Refusal::Gone, call);
+        }
+        self.call_turn(seat, call)
     }
 
     /// Withdraws a parked seat's call: the seat is free, and nothing was done. If what it waited for is there, the next seat that
@@ -59,6 +83,16 @@ impl<M: Message, L: MessageLog<M>> Room<M, L> {
         Ok(())
     }
 
+    /// Says whether the seat is parked on such a call: of this kind, on this object.
+    fn waits_on(&self, seat: u64, call: &Call<M>) -> bool
+        ensures { IsTrue result ↔ MayAskAgain self.now seat call.now }
+    {
+        match call.want() {
+            Some(want) => self.seats.state(seat) == Some(State::Parked(want)),
+            None => false,
+        }
+    }
+
     /// Makes the call of a seat that may make it.
     fn take_turn(&mut self, seat: u64, call: Call<M>) -> Outcome<M>
         requires { MayAsk self.old seat ⊎ MayAskAgain self.old seat call }
@@ -69,21 +103,47 @@ impl<M: Message, L: MessageLog<M>> Room<M, L> {
         // Each arm makes its outcome anew, which the prover follows with less help than a whole that is kept and returned.
         match self.floor.apply(seat, call) {
             Outcome::Answered(answer) => {
-                answer_turn(&self.floor, &mut self.seats, seat, news);
+                finish_turn(&self.floor, &mut self.seats, seat, Ended::Answered(news));
                 Outcome::Answered(answer)
             }
             Outcome::Refused(refusal, call) => {
-                end_turn(&self.floor, &mut self.seats, seat, None);
+                finish_turn(&self.floor, &mut self.seats, seat, Ended::Failed);
                 Outcome::Refused(refusal, call)
             }
             Outcome::WouldWait(call) => {
-                let Some(want) = call.want() else {
-                    unreachable!()
-                };
-                if park(&self.floor, &mut self.seats, seat, want) {
+                let ended = Ended::Waits(call.want());
+                if finish_turn(&self.floor, &mut self.seats, seat, ended) {
                     return Outcome::WouldWait(call);
                 }
                 Outcome::Refused(Refusal::Stalled, call)
+            }
+        }
+    }
+
+    /// The same, where the journal keeps the call.
+    fn call_turn(&mut self, seat: u64, call: Call<M>) -> Response<M>
+        requires { MayAsk self.old seat ⊎ MayAskAgain self.old seat call }
+        ensures asks { let outcome = outcome_of (entries_in self.old.board.history) call result in
+            Asks L.CHUNK M.SURE ⊤ self.old self.new seat call outcome }
+        ensures turns { let outcome = outcome_of (entries_in self.old.board.history) call result in
+            Turns seat (AskOf seat) (news_by outcome) self.old self.new }
+    {
+        let news = news_in(&call);
+        match self.floor.call(seat, call) {
+            Response::Reply(reply) => {
+                finish_turn(&self.floor, &mut self.seats, seat, Ended::Answered(news));
+                Response::Reply(reply)
+            }
+            Response::Refused(refusal, call) => {
+                finish_turn(&self.floor, &mut self.seats, seat, Ended::Failed);
+                Response::Refused(refusal, call)
+            }
+            Response::WouldWait(call) => {
+                let ended = Ended::Waits(call.want());
+                if finish_turn(&self.floor, &mut self.seats, seat, ended) {
+                    return Response::WouldWait(call);
+                }
+                Response::Refused(Refusal::Stalled, call)
             }
         }
     }

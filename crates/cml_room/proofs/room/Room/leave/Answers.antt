@@ -5,7 +5,7 @@ use Rattle.cml_room.specs.{Place, state_by, states_in, notices_in, MakesNoneDue,
 use Rattle.cml_room.specs.{SeatsShown, free_in, IsWatched}
 use Rattle.cml_room.specs.declared.place.Place.TheVariants.{Free, Left}
 use Rattle.cml_room.specs.declared.state.State.TheVariants as state
-use Rattle.cml_room.proofs.TurningLemmas.{with_seats}
+use Rattle.cml_room.specs.{with_seats}
 use Rattle.cml_room.proofs.IdlingLemmas.{none_waits}
 use Rattle.cml_room.proofs.SleepersLemmas.{left_watched, free_place}
 use Rattle.cml_room.proofs.ParkingLemmas.{none_watched}
