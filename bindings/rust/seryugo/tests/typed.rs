@@ -114,7 +114,7 @@ fn what_is_of_another_type_comes_as_bytes() {
         assert_eq!(board.owed(numbers), Ok(0));
     }
     let shown = seat.send(texts, LONG.to_string()).map(|()| seat.recv(numbers).unwrap_err().to_string());
-    assert_eq!(shown.unwrap(), "the message of 63 bytes that was received can't be read as its type");
+    assert_eq!(shown.unwrap(), "the message of 117 bytes that was received can't be read as its type");
 }
 
 #[test]
