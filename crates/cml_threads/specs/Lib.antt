@@ -11,5 +11,5 @@ pub use Hosting.{Hosted, IsCounted, MayAsk, MayAskAgain, WasCounted, floor_of, r
 pub use Asking.{Asks, Tallies}
 pub use Running.{AreMade, Ask, AskAgain, HallCall, IsMade, Leave, NewSeat, NextDue, OnFloor, hands_over, keeps_entries}
 pub use Settling.{Final}
-pub use Telling.{MayRefuse, MayRefuseClose, MayRefuseDrain, MayRefuseFeed, MayRefuseLane, Replies, Tells, suits}
+pub use Telling.{MayRefuse, MayRefuseClose, MayRefuseDrain, MayRefuseFeed, MayRefuseLane, Replies, Responds, Tells, suits}
 pub use Unparking.{HaveLeft, UnparksNext}

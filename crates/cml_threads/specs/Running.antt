@@ -1,5 +1,5 @@
 -- A run of a hall's calls.
-use Rattle.std.specs.Prelude.{◌≡◌, ℕ, Bool, true, false, not, List, [], ◌∷◌}
+use Rattle.std.specs.Prelude.{◌≡◌, ℕ, Bool, false, not, List, [], ◌∷◌}
 use Rattle.std.specs.List.{list_all}
 use Rattle.cml_board.specs.{Call}
 use Rattle.cml_board.specs.declared.outcome.Outcome.{Outcome}

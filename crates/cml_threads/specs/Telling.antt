@@ -1,9 +1,10 @@
 -- What a call on a switchboard returns.
 use Rattle.std.specs.Prelude.{◌≡◌, Bool, true, Option, Some, Result, Ok, Err, ⊤}
-use Rattle.cml_board.specs.{Want, want_in, Call, row_of, may_have, Reply, Refusal}
+use Rattle.cml_board.specs.{Want, want_in, Call, row_of, may_have, Reply, Refusal, Response}
 use Rattle.cml_board.specs.declared.outcome.Outcome.{Outcome}
 use Rattle.cml_board.specs.declared.outcome.Refusal.TheVariants.{NoSuch, WrongKind, JournalFull, NoMemory, Busy, Stalled, Unseen}
 use Rattle.cml_board.specs.declared.outcome.Outcome.TheVariants as outcome
+use Rattle.cml_board.specs.declared.outcome.Response.TheVariants as response
 use Rattle.cml_threads.specs.Seating.{Sitting, raised}
 
 -- the refusals with which a seat's call may fail, by what it waits for: with `Stalled` only if it may block
@@ -49,7 +50,13 @@ module _ {M : Type 0} where
   Tells before after call (outcome.WouldWait back) = (back ≡ call) × (after ≡ before)
   Tells before after call (outcome.Refused refusal back) = MayRefuse (want_in call) refusal × (back ≡ call) × (after ≡ before)
 
-  -- the same of the reply alone
+  -- the same of a call whose reply alone is returned
+  abbrev pub Responds : Sitting → Sitting → Call M → Response M → Type 0
+  Responds before after call (response.Reply reply) = (suits call reply ≡ true) × (after ≡ raised before)
+  Responds before after call (response.WouldWait back) = (back ≡ call) × (after ≡ before)
+  Responds before after call (response.Refused refusal back) = MayRefuse (want_in call) refusal × (back ≡ call) × (after ≡ before)
+
+  -- and of one that blocks until then
   abbrev pub Replies : Sitting → Sitting → Call M → Result (Reply M) (Refusal × Call M) → Type 0
   Replies before after call (Ok reply) = (suits call reply ≡ true) × (after ≡ raised before)
   Replies before after call (Err back) = MayRefuse (want_in call) back.0 × (back.1 ≡ call) × (after ≡ before)

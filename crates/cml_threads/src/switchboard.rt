@@ -1,19 +1,20 @@
 ghost use Rattle.std.specs.Prelude.{ℕ, ◌≡◌, ◌+◌, ◌-◌, ◌^◌, ◌≤◌, true, slice_get, Some, vec_len, IfOk, IfErr, OnOk};
 ghost use Rattle.cml_board.specs.declared.outcome.Refusal.TheVariants.{Busy, NoMemory};
 ghost use Rattle.cml_board.specs.{want_in, entries_in, rings_in};
-ghost use Rattle.cml_threads.specs.{HaveLeft, Sitting, raised, answers_in, share_at, suits, MayRefuse, Tells, Replies};
+ghost use Rattle.cml_threads.specs.{HaveLeft, Sitting, raised, answers_in, share_at, suits, MayRefuse, Tells};
 
 mod channels;
 mod feeds;
 mod lanes;
 mod mailboxes;
+mod replying;
 mod variables;
 
 use crate::hall::Hall;
 use crate::locked::Locked;
 use crate::seat::{Left, Seat};
 use crate::settled::Settled;
-use cml_board::{Answer, Call, Entry, Message, Outcome, Refusal, Reply, Restored};
+use cml_board::{Answer, Call, Entry, Message, Outcome, Refusal, Restored};
 use cml_log::MessageLog;
 use std::alloc::{AllocError, Global};
 use std::sync::Wait;
@@ -229,21 +230,6 @@ impl<M: Message, L: MessageLog<M>, Led: Ledger> Switchboard<M, L, Led> {
         let outcome = ask_again(turn.hall(), seat, call);
         self.locked.let_go_by(turn, seat.number());
         outcome
-    }
-
-    /// Makes a call, and returns its reply.
-    fn reply<R: Wait>(
-        &self,
-        rt: &R,
-        seat: &mut Seat<Led>,
-        call: Call<M>,
-    ) -> Result<Reply<M>, (Refusal, Call<M>)>
-        ensures { Replies seat.old seat.new call result }
-    {
-        match self.call(rt, seat, call) {
-            Ok(answer) => Ok(answer.into_reply()),
-            Err(back) => Err(back),
-        }
     }
 }
 
