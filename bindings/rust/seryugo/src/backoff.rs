@@ -1,27 +1,31 @@
-//! How long a thread looks for a wake before it sleeps.
+//! How a thread looks for what it waits for, before it sleeps.
 
+use crate::yields;
 use std::hint;
 use std::sync::atomic::{AtomicU16, AtomicU8, Ordering};
+use std::sync::OnceLock;
+use std::thread;
 
-/// The backoff of a wait of which nothing is known. `cml_threads/src/backoff.rt` has the same numbers, and the reason for each.
-pub(crate) type ShortBackoff = Backoff<8, 16>;
+/// The backoff of a wait of which nothing is known. The looks take less time than to wake a thread.
+pub(crate) type ShortBackoff = Backoff<7>;
 
 /// The backoff of a wait whose answer may be near: the thread's last call has woken a thread that slept, or the one that had woken it.
-/// So two threads that answer each other don't sleep at each turn.
-pub(crate) type LongBackoff = Backoff<50, 512>;
+/// So two threads that answer each other don't sleep at each turn. With 7 yields they took twice as long.
+pub(crate) type LongBackoff = Backoff<30>;
 
-/// How often a thread doubles the time for which it spins, from once to 64 times.
-const DOUBLINGS: u32 = 6;
+/// So often a thread spins before it looks for a wake: for one pause, and then for twice as many each time.
+const SPINS: u32 = 5;
+/// In so many waits a thread doesn't look, at the most. With 64 two threads that answer each other slept now and then.
+const MOST_WITHOUT: u16 = 16;
 
-/// A thread looks `TIMES` times at a state. It spins between two looks. Once it has looked in vain, it doesn't look in its next
-/// waits: in one, and then in twice as many each time, up to `MOST_WITHOUT`. It never yields: on a busy machine a yield gives up the
-/// whole time slice. For that thread alone.
-pub(crate) struct Backoff<const TIMES: u32, const MOST_WITHOUT: u16> {
+/// A thread that waits looks at a state. It looks again behind each of `SPINS` spins, and then behind each of `YIELDS` yields. Once it
+/// has looked in vain, it doesn't look in its next waits: in one, and then in twice as many each time. For that thread alone.
+pub(crate) struct Backoff<const YIELDS: u32> {
     without: AtomicU16,
     left: AtomicU16,
 }
 
-impl<const TIMES: u32, const MOST_WITHOUT: u16> Backoff<TIMES, MOST_WITHOUT> {
+impl<const YIELDS: u32> Backoff<YIELDS> {
     pub fn new() -> Self {
         Backoff {
             without: AtomicU16::new(0),
@@ -39,13 +43,11 @@ impl<const TIMES: u32, const MOST_WITHOUT: u16> Backoff<TIMES, MOST_WITHOUT> {
     }
 
     /// Whether the state is this before the last look.
-    pub fn spin_until(&self, state: &AtomicU8, this: u8) -> bool {
-        for look in 0..TIMES {
-            if state.load(Ordering::Acquire) == this {
-                self.without.store(0, Ordering::Relaxed);
-                return true;
-            }
-            pause(look);
+    pub fn look_until(&self, state: &AtomicU8, this: u8) -> bool {
+        let is_seen = || (state.load(Ordering::Acquire) == this).then_some(());
+        if is_seen().or_else(|| look(1, SPINS, YIELDS, is_seen)).is_some() {
+            self.without.store(0, Ordering::Relaxed);
+            return true;
         }
         self.rest();
         false
@@ -58,8 +60,38 @@ impl<const TIMES: u32, const MOST_WITHOUT: u16> Backoff<TIMES, MOST_WITHOUT> {
     }
 }
 
-fn pause(look: u32) {
-    for _ in 0..1 << look.min(DOUBLINGS) {
+/// What the first look sees that sees anything. Before each of the first looks the thread spins: for so many pauses, and then for
+/// twice as many each time. Before each of the others it yields, as long as yields are short.
+pub(crate) fn look<T>(pauses: u32, spins: u32, yields: u32, mut see: impl FnMut() -> Option<T>) -> Option<T> {
+    if is_alone() {
+        return None;
+    }
+    for doublings in 0..spins {
+        spin(pauses << doublings);
+        if let Some(seen) = see() {
+            return Some(seen);
+        }
+    }
+    for _ in 0..yields {
+        if !yields::pass() {
+            return see();
+        }
+        if let Some(seen) = see() {
+            return Some(seen);
+        }
+    }
+    None
+}
+
+fn spin(pauses: u32) {
+    for _ in 0..pauses {
         hint::spin_loop();
     }
+}
+
+/// Whether the process has one processor. There a thread that looks keeps the processor from the one that it waits for. With yields a
+/// token round 63 threads took four times as long.
+fn is_alone() -> bool {
+    static IS_ALONE: OnceLock<bool> = OnceLock::new();
+    *IS_ALONE.get_or_init(|| thread::available_parallelism().is_ok_and(|processors| processors.get() == 1))
 }

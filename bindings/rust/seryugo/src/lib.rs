@@ -109,6 +109,7 @@ mod switchboard;
 mod version;
 mod waiting;
 mod want;
+mod yields;
 
 pub use checker::{CheckError, Checker, Kept};
 pub use entry::{Call, Entry, Reply, Who};

@@ -7,11 +7,8 @@ use std::sync::{Condvar, Mutex, MutexGuard, PoisonError};
 use std::task::Waker;
 use std::time::{Duration, Instant};
 
-/// If more calls than this were made on the switchboard while a seat waited, its thread sleeps at once in its next wait. In a token
-/// round eight threads there are some 20 calls between two waits of each. To read the clock instead took 0.1 microseconds a sleep.
-const FEW_CALLS: u64 = 32;
-/// How long a thread may look at the most. If less is left until its time limit, it sleeps at once.
-const LONGEST_LOOK: Duration = Duration::from_micros(500);
+/// If less is left until its time limit, a thread sleeps at once. All looks take less, unless a yield is long.
+const LONGEST_LOOK: Duration = Duration::from_millis(5);
 
 /// What the seat's thread or future does, or that it was woken.
 const AWAKE: u8 = 0;
@@ -49,11 +46,8 @@ pub(crate) struct Parker {
     woken: Condvar,
     // These are for the seat's thread alone.
     is_answer_near: AtomicBool,
-    has_waited_long: AtomicBool,
     short: ShortBackoff,
     long: LongBackoff,
-    /// How many calls had been made on the switchboard when the seat was parked.
-    parked_at: AtomicU64,
 }
 
 // All of it is in one line of memory. The thread that wakes and the one that is woken run on two processors, and each line that both
@@ -70,10 +64,8 @@ impl Parker {
             waker: Mutex::new(None),
             woken: Condvar::new(),
             is_answer_near: AtomicBool::new(false),
-            has_waited_long: AtomicBool::new(false),
             short: ShortBackoff::new(),
             long: LongBackoff::new(),
-            parked_at: AtomicU64::new(0),
         }
     }
 
@@ -126,19 +118,16 @@ impl Parker {
         drop(waker);
     }
 
-    /// Backoff for a while, unless the last wait was long or it looked in vain lately.
+    /// Looks for a while, unless it looked in vain lately.
     fn is_soon_woken(&self) -> bool {
         let is_near = self.is_answer_near.load(Ordering::Relaxed);
         if is_near {
             self.is_answer_near.store(false, Ordering::Relaxed);
         }
-        if self.has_waited_long.load(Ordering::Relaxed) {
-            return false;
-        }
         if is_near && self.long.is_due() {
-            return self.long.spin_until(&self.state, WOKEN);
+            return self.long.look_until(&self.state, WOKEN);
         }
-        self.short.is_due() && self.short.spin_until(&self.state, WOKEN)
+        self.short.is_due() && self.short.look_until(&self.state, WOKEN)
     }
 
     fn sleep(&self) {
@@ -184,18 +173,6 @@ impl Parker {
                 Woken::Task
             }
             _ => Woken::Awake,
-        }
-    }
-
-    /// The seat made a call that may park it, or made it again. So many calls were made on the switchboard.
-    #[inline]
-    pub fn note_ask(&self, is_again: bool, is_parked: bool, calls: u64) {
-        if is_again {
-            let meanwhile = calls.wrapping_sub(self.parked_at.load(Ordering::Relaxed));
-            self.has_waited_long.store(meanwhile > FEW_CALLS, Ordering::Relaxed);
-        }
-        if is_parked {
-            self.parked_at.store(calls, Ordering::Relaxed);
         }
     }
 
