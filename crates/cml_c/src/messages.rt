@@ -68,6 +68,10 @@ pub(crate) fn hand_over_held(
 fn hand_over_share(alloc: Global, held: &Bytes, message: &mut SeryugoBytes) -> u32
     ensures { HandsShare held.now result message.old message.new }
 {
+    if held.len() <= IN_PLACE {
+        show_short(held.as_slice(), message);
+        return Code::Done.number();
+    }
     match held.clone() {
         Ok(share) => hand_over_new(alloc, share, message),
         Err(_) => Code::NoMemory.number(),
