@@ -1,6 +1,5 @@
 //! How a thread looks for what it waits for, before it sleeps.
 
-use crate::yields;
 use std::hint;
 use std::sync::atomic::{AtomicU16, AtomicU8, Ordering};
 use std::sync::OnceLock;
@@ -13,13 +12,16 @@ pub(crate) type ShortBackoff = Backoff<7>;
 /// So two threads that answer each other don't sleep at each turn. With 7 yields they took twice as long.
 pub(crate) type LongBackoff = Backoff<30>;
 
+/// What a thread does between its later looks: whether it is to look on.
+pub(crate) type Pass = fn() -> bool;
+
 /// So often a thread spins before it looks for a wake: for one pause, and then for twice as many each time.
 const SPINS: u32 = 5;
 /// In so many waits a thread doesn't look, at the most. With 64 two threads that answer each other slept now and then.
 const MOST_WITHOUT: u16 = 16;
 
-/// A thread that waits looks at a state. It looks again behind each of `SPINS` spins, and then behind each of `YIELDS` yields. Once it
-/// has looked in vain, it doesn't look in its next waits: in one, and then in twice as many each time. For that thread alone.
+/// A thread that waits looks at a state. It looks again behind each of `SPINS` spins, and then behind each of `YIELDS` yields, or of as
+/// many spins if it has a time limit. Once it has looked in vain, it doesn't look in its next waits: in one, and then in twice as many each time. For that thread alone.
 pub(crate) struct Backoff<const YIELDS: u32> {
     without: AtomicU16,
     left: AtomicU16,
@@ -42,10 +44,10 @@ impl<const YIELDS: u32> Backoff<YIELDS> {
         left == 0
     }
 
-    /// Whether the state is this before the last look.
-    pub fn look_until(&self, state: &AtomicU8, this: u8) -> bool {
+    /// Whether the state is this before the last look. Before each look the thread spins, or it passes in that way.
+    pub fn look_until(&self, state: &AtomicU8, this: u8, pass: Pass) -> bool {
         let is_seen = || (state.load(Ordering::Acquire) == this).then_some(());
-        if is_seen().or_else(|| look(1, SPINS, YIELDS, is_seen)).is_some() {
+        if is_seen().or_else(|| look(1, SPINS, pass, YIELDS, is_seen)).is_some() {
             self.without.store(0, Ordering::Relaxed);
             return true;
         }
@@ -61,8 +63,8 @@ impl<const YIELDS: u32> Backoff<YIELDS> {
 }
 
 /// What the first look sees that sees anything. Before each of the first looks the thread spins: for so many pauses, and then for
-/// twice as many each time. Before each of the others it yields, as long as yields are short.
-pub(crate) fn look<T>(pauses: u32, spins: u32, yields: u32, mut see: impl FnMut() -> Option<T>) -> Option<T> {
+/// twice as many each time. Before each of the others it passes, until that tells it to stop.
+pub(crate) fn look<T>(pauses: u32, spins: u32, pass: Pass, passes: u32, mut see: impl FnMut() -> Option<T>) -> Option<T> {
     if is_alone() {
         return None;
     }
@@ -72,8 +74,8 @@ pub(crate) fn look<T>(pauses: u32, spins: u32, yields: u32, mut see: impl FnMut(
             return Some(seen);
         }
     }
-    for _ in 0..yields {
-        if !yields::pass() {
+    for _ in 0..passes {
+        if !pass() {
             return see();
         }
         if let Some(seen) = see() {
@@ -81,6 +83,12 @@ pub(crate) fn look<T>(pauses: u32, spins: u32, yields: u32, mut see: impl FnMut(
         }
     }
     None
+}
+
+/// Spins in place of a yield. A thread that has a time limit does so: on a busy machine a yield may end long behind the limit.
+pub(crate) fn pass_by_spinning() -> bool {
+    spin(64);
+    true
 }
 
 fn spin(pauses: u32) {

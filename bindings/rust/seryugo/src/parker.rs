@@ -1,14 +1,15 @@
 //! How a parked seat waits: by a thread that sleeps, or by a future's waker.
 
-use crate::backoff::{LongBackoff, ShortBackoff};
+use crate::backoff::{pass_by_spinning, LongBackoff, Pass, ShortBackoff};
+use crate::yields::pass_by_yielding;
 use std::mem;
 use std::sync::atomic::{AtomicBool, AtomicU64, AtomicU8, Ordering};
 use std::sync::{Condvar, Mutex, MutexGuard, PoisonError};
 use std::task::Waker;
 use std::time::{Duration, Instant};
 
-/// If less is left until its time limit, a thread sleeps at once. All looks take less, unless a yield is long.
-const LONGEST_LOOK: Duration = Duration::from_millis(5);
+/// If less is left until its time limit, a thread sleeps at once. All looks take less.
+const LONGEST_LOOK: Duration = Duration::from_micros(500);
 
 /// What the seat's thread or future does, or that it was woken.
 const AWAKE: u8 = 0;
@@ -71,7 +72,7 @@ impl Parker {
 
     /// Waits until it is woken. A wake that came before ends it at once.
     pub fn park(&self) {
-        if !self.is_soon_woken() {
+        if !self.is_soon_woken(pass_by_yielding) {
             self.sleep();
         }
         self.forget_wake();
@@ -80,7 +81,7 @@ impl Parker {
     /// The same, but at most until then. Returns whether it was woken.
     pub fn park_until(&self, deadline: Instant) -> bool {
         let has_time = deadline.saturating_duration_since(Instant::now()) > LONGEST_LOOK;
-        let is_woken = has_time && self.is_soon_woken() || self.sleep_until(deadline);
+        let is_woken = has_time && self.is_soon_woken(pass_by_spinning) || self.sleep_until(deadline);
         self.forget_wake();
         is_woken
     }
@@ -119,15 +120,15 @@ impl Parker {
     }
 
     /// Looks for a while, unless it looked in vain lately.
-    fn is_soon_woken(&self) -> bool {
+    fn is_soon_woken(&self, pass: Pass) -> bool {
         let is_near = self.is_answer_near.load(Ordering::Relaxed);
         if is_near {
             self.is_answer_near.store(false, Ordering::Relaxed);
         }
         if is_near && self.long.is_due() {
-            return self.long.look_until(&self.state, WOKEN);
+            return self.long.look_until(&self.state, WOKEN, pass);
         }
-        self.short.is_due() && self.short.look_until(&self.state, WOKEN)
+        self.short.is_due() && self.short.look_until(&self.state, WOKEN, pass)
     }
 
     fn sleep(&self) {

@@ -15,6 +15,7 @@ use crate::raw::{self, code, done, written, Handle};
 use crate::room::{Bytes, Carries, Numbers, Room};
 use crate::seat::Seat;
 use crate::version;
+use crate::yields::pass_by_yielding;
 use std::fmt;
 use std::marker::PhantomData;
 use std::sync::atomic::{AtomicU64, Ordering};
@@ -359,7 +360,7 @@ impl<R: Room> Switchboard<R> {
     /// The same, if another thread had the lock just now. To sleep there and to be woken takes far longer than a call.
     #[cold]
     fn lock_late(&self) -> MutexGuard<'_, Inside> {
-        backoff::look(LOCK_PAUSES, LOCK_SPINS, LOCK_YIELDS, || self.try_lock())
+        backoff::look(LOCK_PAUSES, LOCK_SPINS, pass_by_yielding, LOCK_YIELDS, || self.try_lock())
             .unwrap_or_else(|| self.inside.0.lock().unwrap_or_else(PoisonError::into_inner))
     }
 

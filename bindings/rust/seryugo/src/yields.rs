@@ -16,7 +16,7 @@ const REST: u32 = 16;
 static YIELDS: Apart<Yields> = Apart(Yields::new());
 
 /// Lets other threads run, if yields are short: whether this one was. If not, the caller is not to yield again in its wait.
-pub(crate) fn pass() -> bool {
+pub(crate) fn pass_by_yielding() -> bool {
     YIELDS.0.are_short_at(now) && {
         let begun = now();
         thread::yield_now();
