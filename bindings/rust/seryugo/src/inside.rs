@@ -13,6 +13,8 @@ pub(crate) struct Inside {
     seats: u64,
     /// How many seats are parked.
     parked: u64,
+    /// How many calls were made that may park a seat or make one due.
+    calls: u64,
     /// How many messages of each open lane have moved, by the lane's number.
     moved: BTreeMap<u64, u64>,
     /// How many messages were lost with their lanes.
@@ -27,6 +29,7 @@ impl Inside {
             first_seat: 0,
             seats: 0,
             parked: 0,
+            calls: 0,
             moved: BTreeMap::new(),
             lost: 0,
         }
@@ -74,9 +77,23 @@ impl Inside {
         (code == code::DONE).then(|| seat.wrapping_sub(self.first_seat))
     }
 
+    /// How many calls were made that may park a seat or make one due.
+    #[inline]
+    pub fn calls(&self) -> u64 {
+        self.calls
+    }
+
+    /// Makes a call that may make a seat due.
+    #[inline]
+    pub fn call<T>(&mut self, call: impl FnOnce(&mut Inside) -> T) -> T {
+        self.calls += 1;
+        call(self)
+    }
+
     /// Makes a call that may park its seat, or that of a parked seat again.
     #[inline]
     pub fn ask(&mut self, is_again: bool, call: impl FnOnce(&mut Handle) -> u32) -> u32 {
+        self.calls += 1;
         let code = call(&mut self.handle);
         self.parked = (self.parked + u64::from(code == code::PARKED)).saturating_sub(u64::from(is_again));
         code

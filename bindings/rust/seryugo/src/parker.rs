@@ -8,6 +8,9 @@ use std::sync::{Condvar, Mutex, MutexGuard, PoisonError};
 use std::task::Waker;
 use std::time::{Duration, Instant};
 
+/// If more calls than this were made on the switchboard while a seat waited, the answer to its next call isn't near. In a token round
+/// eight threads there are some 20 calls between two waits of each.
+const FEW_CALLS: u64 = 32;
 /// If less is left until its time limit, a thread sleeps at once. All looks take less.
 const LONGEST_LOOK: Duration = Duration::from_micros(500);
 
@@ -47,8 +50,11 @@ pub(crate) struct Parker {
     woken: Condvar,
     // These are for the seat's thread alone.
     is_answer_near: AtomicBool,
+    has_waited_long: AtomicBool,
     short: ShortBackoff,
     long: LongBackoff,
+    /// How many calls had been made on the switchboard when the seat was parked.
+    parked_at: AtomicU64,
 }
 
 // All of it is in one line of memory. The thread that wakes and the one that is woken run on two processors, and each line that both
@@ -65,8 +71,10 @@ impl Parker {
             waker: Mutex::new(None),
             woken: Condvar::new(),
             is_answer_near: AtomicBool::new(false),
+            has_waited_long: AtomicBool::new(false),
             short: ShortBackoff::new(),
             long: LongBackoff::new(),
+            parked_at: AtomicU64::new(0),
         }
     }
 
@@ -125,6 +133,7 @@ impl Parker {
         if is_near {
             self.is_answer_near.store(false, Ordering::Relaxed);
         }
+        let is_near = is_near && !self.has_waited_long.load(Ordering::Relaxed);
         if is_near && self.long.is_due() {
             return self.long.look_until(&self.state, WOKEN, pass);
         }
@@ -174,6 +183,18 @@ impl Parker {
                 Woken::Task
             }
             _ => Woken::Awake,
+        }
+    }
+
+    /// The seat made a call that may park it, or made it again. So many calls were made on the switchboard.
+    #[inline]
+    pub fn note_ask(&self, is_again: bool, is_parked: bool, calls: u64) {
+        if is_again {
+            let meanwhile = calls.wrapping_sub(self.parked_at.load(Ordering::Relaxed));
+            self.has_waited_long.store(meanwhile > FEW_CALLS, Ordering::Relaxed);
+        }
+        if is_parked {
+            self.parked_at.store(calls, Ordering::Relaxed);
         }
     }
 

@@ -386,6 +386,7 @@ impl<R: Room> Switchboard<R> {
     pub(crate) fn ask_by(&self, parker: &Parker, is_again: bool, call: impl FnOnce(&mut Handle) -> u32) -> u32 {
         let mut inside = self.lock();
         let code = inside.ask(is_again, call);
+        parker.note_ask(is_again, code == code::PARKED, inside.calls());
         // A call that parks a free seat makes no seat due. If others were due before, a call that wakes them is on its way.
         let may_be_due = is_again || code != code::PARKED;
         let due = may_be_due.then(|| inside.next_due()).flatten();
@@ -425,7 +426,7 @@ impl<R: Room> Switchboard<R> {
     #[inline]
     fn make<T>(&self, by: Option<&Parker>, call: impl FnOnce(&mut Inside) -> T) -> T {
         let mut inside = self.lock();
-        let answer = call(&mut inside);
+        let answer = inside.call(call);
         let due = inside.next_due();
         drop(inside);
         self.wake_at(due, by);
