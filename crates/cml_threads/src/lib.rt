@@ -9,6 +9,7 @@ mod parker;
 mod seat;
 mod settled;
 mod switchboard;
+mod yields;
 
 pub use cml_room::State;
 pub use hall::{Hall, PARTS};

@@ -2,15 +2,19 @@
 //! the hall, and unparks that seat's thread.
 ghost use Rattle.cml_threads.specs.{UnparksNext};
 
+use crate::backoff::{LOCK_LOOKS, pause_for_lock};
 use crate::hall::Hall;
 use crate::parker::{Parkers, Unparked};
+use crate::yields::Yields;
 use cml_board::Message;
 use cml_log::MessageLog;
 use crossbeam_utils::CachePadded;
 use std::alloc::{AllocError, Global};
 use std::marker::Model;
+use std::rt::Clock;
 use std::sync::ledger::Ledger;
 use std::sync::{Mutex, MutexGuard, Wait};
+use std::thread::Threads;
 
 /// A hall under its lock, and the parkers of its seats.
 #[derive(Drop)]
@@ -18,6 +22,7 @@ pub struct Locked<M, L: MessageLog<M>, Led: Ledger> {
     // Apart from the lock's word, at which threads that wait for the lock look while its holder writes.
     hall: Mutex<CachePadded<Hall<M, L, Led>>>,
     parkers: Parkers,
+    yields: Yields,
 }
 
 /// The hall, while this thread has the lock. It can't be dropped: only `Locked::let_go` and `let_go_by` take it. So the compiler
@@ -47,14 +52,24 @@ impl<M: Message, L: MessageLog<M>, Led: Ledger> Locked<M, L, Led> {
     /// A hall whose seats have all left, so that none of them needs a parker.
     pub fn new(alloc: Global, hall: Hall<M, L, Led>) -> Result<Locked<M, L, Led>, AllocError> {
         let parkers = Parkers::new(alloc, hall.seats())?;
-        Ok(Locked {
-            hall: Mutex::new(CachePadded::new(hall)),
-            parkers,
-        })
+        Ok(Locked::of_parts(hall, parkers))
     }
 
-    /// Blocks until this thread has the lock.
+    /// Measures whether threads may yield before they sleep, and before they wait for the lock.
+    pub fn measure_yields<R: Clock + Threads>(&self, rt: &R) {
+        self.yields.measure(rt);
+    }
+
+    /// Blocks until this thread has the lock. Where yields are short, it looks for a while whether the lock is free.
     pub fn lock<R: Wait>(&self, rt: &R) -> Turn<'_, M, L, Led> {
+        if self.yields.are_short() {
+            for look in 0..LOCK_LOOKS {
+                if let Some(hall) = self.hall.try_lock() {
+                    return Turn { hall };
+                }
+                pause_for_lock(look);
+            }
+        }
         Turn {
             hall: self.hall.lock(rt),
         }
@@ -67,7 +82,7 @@ impl<M: Message, L: MessageLog<M>, Led: Ledger> Locked<M, L, Led> {
 
     /// Waits until the seat was unparked, once for each wait.
     pub fn park<R: Wait>(&self, rt: &R, seat: u64) {
-        self.parkers.park(rt, seat);
+        self.parkers.park(rt, seat, &self.yields);
     }
 
     /// Takes the seat that is due next, if there is one that was not woken, and unlocks the hall. Then it unparks that seat's thread.
@@ -97,7 +112,11 @@ impl<M: Message, L: MessageLog<M>, Led: Ledger> Locked<M, L, Led> {
 
     /// The hall and its parkers, once no thread uses them any more.
     pub fn into_parts(self) -> (Hall<M, L, Led>, Parkers) {
-        let Locked { hall, parkers } = self;
+        let Locked {
+            hall,
+            parkers,
+            yields: _,
+        } = self;
         (hall.into_inner().into_inner(), parkers)
     }
 
@@ -106,6 +125,7 @@ impl<M: Message, L: MessageLog<M>, Led: Ledger> Locked<M, L, Led> {
         Locked {
             hall: Mutex::new(CachePadded::new(hall)),
             parkers,
+            yields: Yields::unknown(),
         }
     }
 }

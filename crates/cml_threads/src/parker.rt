@@ -1,7 +1,8 @@
-//! What a thread that waits spins at, and sleeps on.
+//! What a thread that waits looks at, and sleeps on.
 ghost use Rattle.std.specs.Prelude.{◌≡◌};
 
 use crate::backoff::Backoff;
+use crate::yields::Yields;
 use boxcar::Vec as Table;
 use crossbeam_utils::CachePadded;
 use std::alloc::{AllocError, Global};
@@ -52,9 +53,9 @@ impl Parker {
         true
     }
 
-    /// Spins for a while, if it isn't unparked yet, and then sleeps until it is.
-    fn park<R: Wait>(&self, rt: &R) {
-        if self.is_soon_unparked() {
+    /// Looks for a while, if it isn't unparked yet, and then sleeps until it is.
+    fn park<R: Wait>(&self, rt: &R, yields: &Yields) {
+        if self.is_soon_unparked(yields) {
             self.word.store(EMPTY, Ordering::Release);
             return;
         }
@@ -66,15 +67,15 @@ impl Parker {
         }
     }
 
-    fn is_soon_unparked(&self) -> bool {
+    fn is_soon_unparked(&self, yields: &Yields) -> bool {
         let is_near = self.is_answer_near.load(Ordering::Relaxed) != 0;
         if is_near {
             self.is_answer_near.store(0, Ordering::Relaxed);
         }
         if is_near && self.long.is_due() {
-            return self.long.spin_until(&self.word, NOTIFIED);
+            return self.long.look_until(&self.word, NOTIFIED, yields);
         }
-        self.short.is_due() && self.short.spin_until(&self.word, NOTIFIED)
+        self.short.is_due() && self.short.look_until(&self.word, NOTIFIED, yields)
     }
 
     /// Whether it was unparked; then it is empty again. If not, the next that unparks it finds the thread asleep.
@@ -156,9 +157,9 @@ impl Parkers {
     }
 
     /// Waits until the seat was unparked, once for each wait.
-    pub fn park<R: Wait>(&self, rt: &R, seat: u64) {
+    pub fn park<R: Wait>(&self, rt: &R, seat: u64, yields: &Yields) {
         if let Some(parker) = self.parker(seat) {
-            parker.park(rt);
+            parker.park(rt, yields);
         }
     }
 

@@ -17,8 +17,10 @@ use crate::settled::Settled;
 use cml_board::{Answer, Call, Entry, Message, Outcome, Refusal, Restored};
 use cml_log::MessageLog;
 use std::alloc::{AllocError, Global};
+use std::rt::Clock;
 use std::sync::Wait;
 use std::sync::ledger::{Blank, Ledger};
+use std::thread::Threads;
 
 /// A hall under one lock, which threads share. Each thread makes its calls by its seat. A call that would wait blocks, and is
 /// made again when its seat is due. Each call wakes at most one of the seats that are due. A thread that is woken makes a
@@ -80,6 +82,14 @@ impl<M: Message, L: MessageLog<M>, Led: Ledger> Switchboard<M, L, Led> {
     {
         let (hall, lefts) = Hall::restore(alloc, restored, blank)?;
         Ok((Switchboard::of(alloc, hall)?, lefts))
+    }
+
+    /// Measures how long a yield takes now, with nothing else to do. If it is short, and there is more than one processor, threads
+    /// yield a few times from now on before they sleep. With more threads than processors that halves the time of a request. If it
+    /// is long, since other programs compute beside this one, threads sleep sooner, as they do before the first call. It takes some
+    /// microseconds, or eight time slices. Call it before the threads start, and again if the other programs come or go.
+    pub fn tune<R: Clock + Threads>(&self, rt: &R) {
+        self.locked.measure_yields(rt);
     }
 
     /// Makes a new seat. Fails only with `NoMemory`. Make all seats before the first thread begins to wait. Keep no free seat

@@ -1,4 +1,4 @@
-//! How the named calls are made: each returns its reply alone, and the journal keeps the call.
+//! Calls that return their reply alone. The journal keeps the call. The named calls are made in this way.
 ghost use Rattle.cml_threads.specs.{Responds, Replies};
 
 use super::Switchboard;
@@ -10,8 +10,9 @@ use std::sync::Wait;
 use std::sync::ledger::Ledger;
 
 impl<M: Message, L: MessageLog<M>, Led: Ledger> Switchboard<M, L, Led> {
-    /// Makes a call as `call` does, and returns its reply.
-    pub(super) fn reply<R: Wait>(
+    /// Makes a call, and blocks until it returns or fails, as `call` does. Returns the reply alone, which takes less time: the
+    /// message is shared once less and dropped once less.
+    pub fn reply<R: Wait>(
         &self,
         rt: &R,
         seat: &mut Seat<Led>,
