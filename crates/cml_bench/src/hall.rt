@@ -72,6 +72,7 @@ fn performed<M: Numbered + Send + Sync, Led: Ledger + Send + Sync, R: Runtime>(
 {
     let supply = Supply::new(run.alloc, run.workload.2)?;
     let board = Switchboard::<M, BoardLog<M>, Led>::new(run.alloc, LIMIT, blank)?;
+    board.tune(run.rt);
     let mut lefts = Vec::new(run.alloc);
     let hall = Hall { run, supply, board };
     let (sum, time) = hall.work(&mut lefts)?;
@@ -197,8 +198,8 @@ impl<M: Numbered, Led: Ledger, R: Runtime> Caller for Seated<'_, M, Led, R> {
     fn make(&mut self, verb: Verb, name: Name, number: u64) -> Option<u64> {
         let hall = self.hall;
         let call = verb.call(&hall.supply, name, number)?;
-        let answer = hall.board.call(hall.run.rt, &mut self.seat, call).ok()?;
-        let Reply::Got(message) = answer.reply() else {
+        let reply = hall.board.reply(hall.run.rt, &mut self.seat, call).ok()?;
+        let Reply::Got(message) = reply else {
             return Some(number);
         };
         let received = message.added_to(0);
