@@ -7,7 +7,7 @@ use crate::board::{Board, BoardLog};
 use crate::entry::Entry;
 use crate::expected::{Expected, Unlawful};
 use crate::message::Message;
-use crate::outcome::{Outcome, Refusal};
+use crate::outcome::{Refusal, Response};
 use crate::restored::{Makers, Restored};
 use cml_log::MessageLog;
 use std::alloc::{AllocError, Global};
@@ -187,19 +187,19 @@ fn follow<M: Message, L: MessageLog<M>>(
     ensures err { OnErr result (IsClean board.new makers.new × (board.new.history ≡ board.old.history)) }
 {
     let call = entry.call.share(alloc)?;
-    match board.apply(entry.who, call) {
-        Outcome::Answered(answer) => {
+    match board.call(entry.who, call) {
+        Response::Reply(reply) => {
             board.cut();
             *makers = makers.with(entry.who);
-            if answer.reply().same(&entry.reply) {
+            if reply.same(&entry.reply) {
                 return Ok(None);
             }
-            Ok(Some(Expected::Reply(answer.into_reply())))
+            Ok(Some(Expected::Reply(reply)))
         }
-        Outcome::WouldWait(_) => Ok(Some(Expected::WouldWait)),
-        Outcome::Refused(Refusal::NoSuch, _) => Ok(Some(Expected::Refused(Refusal::NoSuch))),
-        Outcome::Refused(Refusal::WrongKind, _) => Ok(Some(Expected::Refused(Refusal::WrongKind))),
-        Outcome::Refused(Refusal::NoMemory, _) => Err(AllocError),
-        Outcome::Refused(_, _) => unreachable!(),
+        Response::WouldWait(_) => Ok(Some(Expected::WouldWait)),
+        Response::Refused(Refusal::NoSuch, _) => Ok(Some(Expected::Refused(Refusal::NoSuch))),
+        Response::Refused(Refusal::WrongKind, _) => Ok(Some(Expected::Refused(Refusal::WrongKind))),
+        Response::Refused(Refusal::NoMemory, _) => Err(AllocError),
+        Response::Refused(_, _) => unreachable!(),
     }
 }
