@@ -1,8 +1,8 @@
 //! A seat's call in a room of bytes.
-ghost use Rattle.std.specs.Prelude.{ℕ, ◌≡◌, List};
+ghost use Rattle.std.specs.Prelude.{ℕ, ◌≡◌, List, IsSome, OnOk};
 ghost use Rattle.cml_c.specs.Asking.{told_outcome};
 ghost use Rattle.cml_board.specs.{Call, outcome_of};
-ghost use Rattle.cml_c.specs.{IsShortResponse, CallsBytes, MakesBytes, HandsOutcome};
+ghost use Rattle.cml_c.specs.{number, IsShortResponse, CallsBytes, MakesBytes, HandsOutcome};
 
 use crate::asking::{ask, code_of_reply, code_of_response};
 use crate::blocks::needs_block;
@@ -12,7 +12,7 @@ use crate::keeper::Held;
 use crate::kept::{Kept, Resource, RoomOf, Stocked};
 use crate::messages::{SeryugoBytes, hand_over, new_block, show_short};
 use cml_board::{Bytes, Call, Reply, Response};
-use std::alloc::Global;
+use std::alloc::{AllocError, Global};
 
 /// Makes a call, and hands over the message that it gives.
 pub(crate) fn make_call(
@@ -44,14 +44,12 @@ pub(crate) fn make_in_room(
 ) -> u32
     ensures { MakesBytes is_again seat call result given.old given.new stocked.old.room stocked.new.room }
 {
-    // The memory that keeps a long message is taken first, so that none is received without it.
-    let Some(block) = block_of(alloc, &mut stocked.spare) else {
+    // The memory that keeps a long message is there first, so that none is received without it.
+    if stock(alloc, &mut stocked.spare).is_err() {
         return make_without_block(&mut stocked.room, seat, is_again, call, given);
-    };
+    }
     let response = ask(&mut stocked.room, seat, is_again, call);
-    let (code, left) = tell(block, response, given);
-    stocked.spare = left;
-    code.number()
+    tell(&mut stocked.spare, response, given)
 }
 
 /// Makes a call though there is no memory to keep a long message. If the call needs some, nothing is changed.
@@ -71,27 +69,28 @@ fn make_without_block(
     tell_short(ask(room, seat, is_again, call), given).number()
 }
 
-/// The spare block, or a new one.
-fn block_of(alloc: Global, spare: &mut Option<Box<Held>>) -> Option<Box<Held>> {
-    match spare.take() {
-        Some(block) => Some(block),
-        None => new_block(alloc),
+/// Sees that there is a spare block.
+fn stock(alloc: Global, spare: &mut Option<Box<Held>>) -> Result<(), AllocError>
+    ensures { OnOk result (IsSome spare.new) }
+{
+    if spare.is_none() {
+        *spare = Some(new_block(alloc)?);
     }
+    Ok(())
 }
 
-/// The code of what became of a call, and the block, if it is left. A message that the call gave is handed over.
-fn tell(
-    block: Box<Held>,
-    response: Response<Bytes>,
-    given: &mut SeryugoBytes,
-) -> (Code, Option<Box<Held>>)
-    ensures code { (entries : ℕ) (call : Call (List ℕ)) → result.0 ≡ told_outcome (outcome_of entries call response) }
+/// The code of what became of a call. A message that the call gave is handed over, a long one in the spare block.
+fn tell(spare: &mut Option<Box<Held>>, response: Response<Bytes>, given: &mut SeryugoBytes) -> u32
+    requires { IsSome spare.old }
+    ensures code { (entries : ℕ) (call : Call (List ℕ)) → result ≡ number (told_outcome (outcome_of entries call response)) }
     ensures written { (entries : ℕ) (call : Call (List ℕ)) → HandsOutcome given.old given.new (outcome_of entries call response) }
 {
     match response {
-        Response::Reply(Reply::Got(message)) => (Code::Done, hand_over(block, message, given)),
-        Response::Reply(other) => (code_of_reply(&other), Some(block)),
-        other => (code_of_response(&other), Some(block)),
+        Response::Reply(Reply::Got(message)) => {
+            hand_over(spare, message, given);
+            Code::Done.number()
+        }
+        other => code_of_response(&other).number(),
     }
 }
 

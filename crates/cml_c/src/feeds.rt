@@ -129,12 +129,12 @@ fn take_bytes(alloc: Global, feed: &mut Feed<Bytes>, message: &mut SeryugoBytes)
     ensures { TakesBytes result message.old message.new feed.old feed.new }
 {
     // The memory that keeps a long message is taken first, so that none is taken without it.
-    let Some(block) = new_block(alloc) else {
+    let Ok(block) = new_block(alloc) else {
         return Code::NoMemory.number();
     };
     match feed.recv() {
         Some(taken) => {
-            drop(hand_over(block, taken, message));
+            hand_over(&mut Some(block), taken, message);
             Code::Done.number()
         }
         None => Code::Nothing.number(),

@@ -1,11 +1,11 @@
 //! Messages of bytes: how they are copied from C, and how they are handed to C.
-ghost use Rattle.std.specs.Prelude.{◌≡◌, ◌<◌, ◌≤◌, length, IfOk, IfErr, option_map, option_copied};
+ghost use Rattle.std.specs.Prelude.{◌≡◌, ◌<◌, ◌≤◌, length, IfOk, IfErr, IsSome, option_map, option_copied};
 ghost use Rattle.cml_c.specs.{number, IsHanded, NotCopied, HandsHeld, HandsShare};
 
 use crate::code::Code;
 use crate::keeper::{Held, Keeper, Share};
 use cml_board::Bytes;
-use std::alloc::Global;
+use std::alloc::{AllocError, Global};
 use std::ptr;
 
 /// The most bytes of a message that lie in the struct itself: as many as `cml_messages` keeps in one block. To copy them takes less
@@ -86,7 +86,7 @@ pub(crate) fn hand_over_new(alloc: Global, given: Bytes, message: &mut SeryugoBy
         show_short(given.as_slice(), message);
         return Code::Done.number();
     }
-    let Some(block) = new_block(alloc) else {
+    let Ok(block) = new_block(alloc) else {
         return Code::NoMemory.number();
     };
     keep_long(block, given, message);
@@ -94,25 +94,23 @@ pub(crate) fn hand_over_new(alloc: Global, given: Bytes, message: &mut SeryugoBy
 }
 
 /// Memory in which a message is kept.
-pub(crate) fn new_block(alloc: Global) -> Option<Box<Held>> {
-    Box::new(alloc, Held { bytes: None }).ok()
+pub(crate) fn new_block(alloc: Global) -> Result<Box<Held>, AllocError> {
+    Ok(Box::new(alloc, Held { bytes: None })?)
 }
 
-/// Hands a message over. A long one is kept in the block, whose memory was there before the message was taken. For a short one the
-/// block is left.
-pub(crate) fn hand_over(
-    block: Box<Held>,
-    message: Bytes,
-    to: &mut SeryugoBytes,
-) -> Option<Box<Held>>
+/// Hands a message over. A long one is kept in the spare block, whose memory was there before the message was taken. A short one
+/// leaves the block there.
+pub(crate) fn hand_over(spare: &mut Option<Box<Held>>, message: Bytes, to: &mut SeryugoBytes)
+    requires { IsSome spare.old }
     ensures { IsHanded message to.new }
 {
     if message.len() <= IN_PLACE {
-        show_short(message.as_slice(), to);
-        return Some(block);
+        return show_short(message.as_slice(), to);
     }
-    keep_long(block, message, to);
-    None
+    match spare.take() {
+        Some(block) => keep_long(block, message, to),
+        None => unreachable!(),
+    }
 }
 
 /// Keeps a long message in the block, and writes where it is.
