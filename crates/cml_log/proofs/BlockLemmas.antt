@@ -6,7 +6,7 @@ use Rattle.std.proofs.Math.Seq.{drop-append_seam}
 use Rattle.std.proofs.lemmas.Bool.{cases_eq, cases_lt}
 use Rattle.std.proofs.lemmas.List.{get_or-set_same, get_or-set_other, get_or_past, append-nil, append_assoc}
 use denote.RawPtr.{Ptr}
-use Rattle.cml_log.specs.{Chunk, block_at, IsKept, IsBare, row_of, cell_of, items_of, cell_at, LiesAt}
+use Rattle.cml_log.specs.{Chunk, block_at, IsKept, IsBare, row_of, taken_of, taken_at, cell_of, items_of, cell_at, LiesAt}
 
 -- the pointer of a cell
 abbrev lie_or : Ptr → Option (Ptr × ℕ) → Ptr
@@ -81,6 +81,14 @@ module _ {T : Type 0} {N : ℕ} where
       let below = items_of-last rest number block slot item found (omega (arith, last)) more in
       ap (λ items. row_of here ++ items) below ∙ sym (append_assoc (row_of here) (items_of rest) (item ∷ []))
 
+  -- nothing was moved out of a block that is put behind all
+  pub taken_at-more : (kept : List (Option (Ptr × Chunk T N))) (slot : Option (Ptr × Chunk T N)) (number : ℕ) → taken_of slot ≡ 0
+      → taken_at (kept ++ slot ∷ []) number ≡ taken_at kept number
+  taken_at-more [] slot zero none = none
+  taken_at-more [] slot (suc number) none = refl
+  taken_at-more (here ∷ rest) slot zero none = refl
+  taken_at-more (here ∷ rest) slot (suc number) none = taken_at-more rest slot number none
+
   -- an empty block behind all has no item
   pub items_of-more : (kept : List (Option (Ptr × Chunk T N))) (slot : Option (Ptr × Chunk T N)) → row_of slot ≡ []
       → items_of (kept ++ slot ∷ []) ≡ items_of kept
@@ -90,15 +98,15 @@ module _ {T : Type 0} {N : ℕ} where
   -- without the first kept block its items are gone
   pub items_of-passed : (kept : List (Option (Ptr × Chunk T N))) (number : ℕ) (block : Ptr × Chunk T N)
       → ((before : ℕ) → before < number → block_at kept before ≡ None) → block_at kept number ≡ Some block
-      → items_of (set kept number None) ≡ drop (length block.1.row) (items_of kept)
+      → items_of (set kept number None) ≡ drop (length block.1.row.items) (items_of kept)
   items_of-passed [] number block gone found = absurd (cc)
   items_of-passed (here ∷ rest) zero block gone found =
-      sym (drop-append_seam block.1.row (items_of rest)) ∙ ap (λ b. drop (length block.1.row) (row_of b ++ items_of rest)) (sym found)
+      sym (drop-append_seam block.1.row.items (items_of rest)) ∙ ap (λ b. drop (length block.1.row.items) (row_of b ++ items_of rest)) (sym found)
   items_of-passed (here ∷ rest) (suc number) block gone found =
       let none : here ≡ None = gone 0 (omega arith) in
       let below = items_of-passed rest number block (λ before low. gone (suc before) (omega (arith, low))) found in
       ap (λ b. row_of b ++ items_of (set rest number None)) none ∙ below
-      ∙ ap (λ b. drop (length block.1.row) (row_of b ++ items_of rest)) (sym none)
+      ∙ ap (λ b. drop (length block.1.row.items) (row_of b ++ items_of rest)) (sym none)
 
   -- blocks of which none is kept are bare
   pub IsBare-gone : (kept : List (Option (Ptr × Chunk T N))) → ((number : ℕ) → block_at kept number ≡ None) → IsBare kept

@@ -15,6 +15,7 @@ use Rattle.cml_log.specs.contracts.chunk.raw.Address as address
 use Rattle.cml_log.specs.contracts.chunk.raw.Blocks as blocks
 use Rattle.cml_log.specs.contracts.chunk.raw.Counter as counter
 use Rattle.cml_log.specs.contracts.chunk.raw.Right as right
+use Rattle.cml_log.specs.contracts.row.gone.Gone as gone
 
 -- a struct with no bytes but its mark, and one of two fields
 abbrev pub mark : Val
@@ -43,7 +44,14 @@ module _ (R : RattleType) where
   abbrev pub Pointing : RattleType
   Pointing = Struct (shape (right.the_type R))
 
+  abbrev pub Leaving : RattleType
+  Leaving = Struct (shape (gone.the_type R))
+
   module _ {M : Type 1} {𝓤 : Ura M} (𝓛 : Logic 𝓤) where
+    pub leaving_made : ent 𝓤 (emp 𝓤) (sem 𝓛 (Leaving.own_val (tt, tt) (mark ∷ [])))
+    leaving_made = makes_shadow 𝓛 (Leaving.own_val (tt, tt) (mark ∷ [])) (λ vss. (tt, ((λ uss. (tt, tt)), tt)))
+        ((vstruct vnil ∷ [], tt), (refl, ((tt, (refl, tt)), tt)))
+
     pub marking_made : ent 𝓤 (emp 𝓤) (sem 𝓛 (Marking.own_val (tt, tt) (mark ∷ [])))
     marking_made = makes_shadow 𝓛 (Marking.own_val (tt, tt) (mark ∷ [])) (λ vss. (tt, ((λ uss. (tt, tt)), tt)))
         ((vstruct vnil ∷ [], tt), (refl, ((tt, (refl, tt)), tt)))

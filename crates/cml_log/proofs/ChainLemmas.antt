@@ -7,11 +7,12 @@ use Rattle.std.proofs.Math.Seq.{drop-nil, map-set_same, get_or-append_seam}
 use Rattle.std.proofs.lemmas.Bool.{cases_eq, cases_lt}
 use Rattle.std.proofs.lemmas.Nat.{div-mul-add, div-add-mod'}
 use Rattle.std.proofs.lemmas.List.{get_or_past, get_or_append_left, length-set, length-append, length-drop, take_all, set-append_left}
-use Rattle.std.proofs.lemmas.List.{map-set, map-append}
+use Rattle.std.proofs.lemmas.List.{length-take-le, map-set, map-append}
 use denote.RawPtr.{Ptr}
 use Rattle.cml_log.specs.{Address, Chunk, block_at, IsKept, row_of, cell_of, row_at, link_at, items_of, Rewrites, with_row, with_link}
+use Rattle.cml_log.specs.{taken_of, taken_at, with_taken, unwritten}
 use Rattle.cml_log.specs.{with_cursors, Chunks, cell_at, count_of, count_at, LiesAt, end_of, passed, with_count, Pushed, IsLinked, IsChain}
-use Rattle.cml_log.proofs.BlockLemmas.{lies_where_kept, block_at-here, block_at-other, items_of-same}
+use Rattle.cml_log.proofs.BlockLemmas.{lies_where_kept, block_at-here, block_at-other, same_everywhere, taken_at-more, items_of-same}
 use Rattle.cml_log.proofs.LinkedLemmas.{product-next, IsLinked-recounted, items_of-written, IsLinked-written, items_of-joined}
 use Rattle.cml_log.proofs.LinkedLemmas.{IsLinked-joined, items_of-without, IsLinked-without}
 
@@ -26,7 +27,14 @@ module _ {T : Type 0} {N : ℕ} where
   -- what the log sees of a chain
   abbrev pub shown : List (Option (Ptr × Chunk T N)) → ℕ → ℕ → ℕ → Chunks T
   shown kept made given followed =
-      record { given = given; items = items_of kept; cells = map cell_of kept; made = made; followed = followed }
+      record {
+        given = given;
+        items = items_of kept;
+        cells = map cell_of kept;
+        made = made;
+        followed = followed;
+        taken = taken_at kept given;
+      }
 
   -- the counts are the same, wherever they are
   pub shown-at : (kept : List (Option (Ptr × Chunk T N))) (made given followed made' given' followed' : ℕ)
@@ -47,11 +55,20 @@ module _ {T : Type 0} {N : ℕ} where
         bounded = chain.bounded;
         made_is = same_made ∙ chain.made_is;
         given_is = same_given ∙ chain.given_is;
+        whole = chain.whole;
       }
 
   -- one chunk alone, in which nothing is
   abbrev bare : Chunk T N
-  bare = record { row = []; link = None; cursors = 0 }
+  bare = record { row = unwritten; link = None; cursors = 0 }
+
+  pub taken-one : (kept : List (Option (Ptr × Chunk T N))) (head : Address) (number : ℕ) → kept ≡ Some (head.at, bare) ∷ []
+      → taken_at kept number ≡ 0
+  taken-one kept head number alone = ap (λ k. taken_at k number) alone ∙ none number
+    where
+      none : (number : ℕ) → taken_at (Some (head.at, bare) ∷ []) number ≡ 0
+      none zero = refl
+      none (suc number) = refl
 
   pub IsChain-one : (kept : List (Option (Ptr × Chunk T N))) (head : Address) (made given : ℕ) → kept ≡ Some (head.at, bare) ∷ []
       → 0 < N → N ≤ 1024 → head.number ≡ 0 → made ≡ 1 → given ≡ 0 → IsChain kept head head 0 made given
@@ -76,6 +93,7 @@ module _ {T : Type 0} {N : ℕ} where
         bounded = omega arith;
         made_is = counted;
         given_is = none ∙ sym first;
+        whole = λ number later. taken-one _ head number refl;
       }
     where
       row_one : (number : ℕ) → row_at (Some (head.at, bare) ∷ []) number ≡ []
@@ -125,7 +143,7 @@ module _ {T : Type 0} {N : ℕ} where
     -- an item more in the tail
     module _ (after : List (Option (Ptr × Chunk T N))) (item : T)
         (writes : Rewrites kept after tail.number tail.at (with_row (row_at kept tail.number ++ item ∷ []))) where
-      row_more : row_at kept tail.number ++ item ∷ [] ≡ writes.chunk.row ++ item ∷ []
+      row_more : row_at kept tail.number ++ item ∷ [] ≡ writes.chunk.row.items ++ item ∷ []
       row_more = ap (λ b. row_of b ++ item ∷ []) writes.found
 
       pub linked-pushed : IsLinked after head tail
@@ -146,6 +164,12 @@ module _ {T : Type 0} {N : ℕ} where
           ∙ map-set_same cell_of kept tail.number (Some (tail.at, with_row (row_at kept tail.number ++ item ∷ []) writes.chunk)) None
           (sym (ap cell_of writes.found))
 
+      pub taken-pushed : (number : ℕ) → taken_at after number ≡ taken_at kept number
+      taken-pushed number =
+          ap (λ k. taken_at k number) writes.kept
+          ∙ same_everywhere taken_of kept tail.number number (tail.at, writes.chunk)
+          (Some (tail.at, with_row (row_at kept tail.number ++ item ∷ []) writes.chunk)) writes.found refl
+
       size-pushed : length (items_of after) ≡ length (items_of kept) + 1
       size-pushed = ap length items-pushed ∙ length-append (items_of kept) (item ∷ [])
 
@@ -161,6 +185,7 @@ module _ {T : Type 0} {N : ℕ} where
             made_is = chain.made_is ∙ sym (ap length writes.kept
                 ∙ length-set kept tail.number (Some (tail.at, with_row (row_at kept tail.number ++ item ∷ []) writes.chunk)));
             given_is = chain.given_is;
+            whole = λ number later. taken-pushed number ∙ chain.whole number later;
           }
         where
           omega_next : tail.number * N + next % N ≡ next → tail.number * N + (next % N + 1) ≡ next + 1
@@ -172,6 +197,7 @@ module _ {T : Type 0} {N : ℕ} where
             given = refl;
             items = items-pushed;
             followed = refl;
+            taken = taken-pushed given;
             lies = λ number count at there. ap (λ cells. cell_at cells number) cells-pushed ∙ there;
             counts = λ number. ap (λ cells. count_at cells number) cells-pushed;
           }
@@ -189,7 +215,7 @@ module _ {T : Type 0} {N : ℕ} where
       -- and a chunk more behind it
       module _ (tailed joined : List (Option (Ptr × Chunk T N))) (more : Address) (fresh : Chunk T N)
           (puts : tailed ≡ after ++ Some (more.at, fresh) ∷ []) (numbered : more.number ≡ tail.number + 1)
-          (empty : fresh ≡ record { row = []; link = None; cursors = 0 })
+          (empty : fresh ≡ record { row = unwritten; link = None; cursors = 0 })
           (links : Rewrites tailed joined tail.number tail.at (with_link (Some more))) (last : next % N + 1 ≡ N) where
         tail_found : block_at after tail.number ≡ Some (tail.at, links.chunk)
         tail_found =
@@ -205,7 +231,16 @@ module _ {T : Type 0} {N : ℕ} where
         items-joined : items_of joined ≡ items_of after
         items-joined =
             ap items_of joined_is
-            ∙ items_of-joined after head tail links.chunk fresh more linked-pushed tail_found numbered (ap (λ c. c.row) empty) full
+            ∙ items_of-joined after head tail links.chunk fresh more linked-pushed tail_found numbered (ap (λ c. c.row.items) empty) full
+
+        taken-joined : (number : ℕ) → taken_at joined number ≡ taken_at kept number
+        taken-joined number =
+            ap (λ k. taken_at k number) links.kept
+            ∙ same_everywhere taken_of tailed tail.number number (tail.at, links.chunk)
+            (Some (tail.at, with_link (Some more) links.chunk)) links.found refl
+            ∙ ap (λ k. taken_at k number) puts
+            ∙ taken_at-more after (Some (more.at, fresh)) number (ap (λ c. c.row.taken) empty)
+            ∙ taken-pushed number
 
         cells-joined : map cell_of joined ≡ map cell_of kept ++ Some (more.at, 0) ∷ []
         cells-joined =
@@ -220,7 +255,7 @@ module _ {T : Type 0} {N : ℕ} where
         pub IsChain-joined : (made' : ℕ) → made' ≡ made + 1 → next < 18446744073709551614 → IsChain joined head more (next + 1) made' given
         IsChain-joined made' counted below =
             let linked = subst (λ k. IsLinked k head more) (sym joined_is)
-            (IsLinked-joined after head tail links.chunk fresh more linked-pushed tail_found numbered (ap (λ c. c.row) empty) full) in
+            (IsLinked-joined after head tail links.chunk fresh more linked-pushed tail_found numbered (ap (λ c. c.row.items) empty) full) in
             record {
               holds_one = chain.holds_one;
               small = chain.small;
@@ -231,6 +266,7 @@ module _ {T : Type 0} {N : ℕ} where
               bounded = omega (arith, below);
               made_is = omega (arith, counted, chain.made_is, chain.linked.last, linked.last, numbered);
               given_is = chain.given_is;
+              whole = λ number later. taken-joined number ∙ chain.whole number later;
             }
           where
             mul-suc' : (n : ℕ) → (n + 1) * N ≡ n * N + N
@@ -245,6 +281,7 @@ module _ {T : Type 0} {N : ℕ} where
               given = refl;
               items = items-joined ∙ items-pushed;
               followed = refl;
+              taken = taken-joined given;
               lies = λ number count at there.
                   ap (λ cells. cell_at cells number) cells-joined
                   ∙ get_or_append_left (map cell_of kept) (Some (more.at, 0) ∷ []) None number (cell_within number count at there) ∙ there;
@@ -306,7 +343,7 @@ module _ {T : Type 0} {N : ℕ} where
         pub tail_written : IsKept written tail.number tail.at
         tail_written = tail_put after item after_writes written (Some (more.at, fresh)) written_is
 
-        module _ (numbered : more.number ≡ tail.number + 1) (empty : fresh ≡ record { row = []; link = None; cursors = 0 })
+        module _ (numbered : more.number ≡ tail.number + 1) (empty : fresh ≡ record { row = unwritten; link = None; cursors = 0 })
             (links : Rewrites written joined tail.number tail.at (with_link (Some more))) (last : next % N + 1 ≡ N) where
           pub IsChain-grown : (made' : ℕ) → made' ≡ made + 1 → next < 18446744073709551614 → IsChain joined head more (next + 1) made' given
           IsChain-grown = IsChain-joined after item after_writes written joined more fresh written_is numbered empty links last
@@ -321,6 +358,11 @@ module _ {T : Type 0} {N : ℕ} where
       items-recounted = ap items_of counts.kept
           ∙ items_of-same kept number (at, counts.chunk) (Some (at, with_cursors count counts.chunk)) counts.found refl
 
+      taken-recounted : (other : ℕ) → taken_at after other ≡ taken_at kept other
+      taken-recounted other =
+          ap (λ k. taken_at k other) counts.kept
+          ∙ same_everywhere taken_of kept number other (at, counts.chunk) (Some (at, with_cursors count counts.chunk)) counts.found refl
+
       pub IsChain-recounted : IsChain after head tail next made given
       IsChain-recounted =
           record {
@@ -333,13 +375,59 @@ module _ {T : Type 0} {N : ℕ} where
             bounded = chain.bounded;
             made_is = chain.made_is ∙ sym (ap length counts.kept ∙ length-set kept number (Some (at, with_cursors count counts.chunk)));
             given_is = chain.given_is;
+            whole = λ other later. taken-recounted other ∙ chain.whole other later;
           }
 
       pub shown-recounted : (followed : ℕ) → shown after made given followed ≡ with_count (shown kept made given followed) number at count
       shown-recounted followed =
-          ap (λ items. record { given = given; items = items; cells = map cell_of after; made = made; followed = followed }) items-recounted
-          ∙ ap (λ cells. record { given = given; items = items_of kept; cells = cells; made = made; followed = followed })
+          ap (λ items. changed items (map cell_of after) (taken_at after given)) items-recounted
+          ∙ ap (λ cells. changed (items_of kept) cells (taken_at after given))
           (ap (map cell_of) counts.kept ∙ map-set cell_of kept number (Some (at, with_cursors count counts.chunk)))
+          ∙ ap (changed (items_of kept) (set (map cell_of kept) number (Some (at, count)))) (taken-recounted given)
+        where
+          changed : List T → List (Option (Ptr × ℕ)) → ℕ → Chunks T
+          changed items cells taken =
+              record { given = given; items = items; cells = cells; made = made; followed = followed; taken = taken }
+
+    -- an item moved out of the head
+    module _ (after : List (Option (Ptr × Chunk T N))) (at : Ptr) (taken : ℕ)
+        (takes : Rewrites kept after head.number at (with_taken taken)) where
+      items-taken : items_of after ≡ items_of kept
+      items-taken = ap items_of takes.kept
+          ∙ items_of-same kept head.number (at, takes.chunk) (Some (at, with_taken taken takes.chunk)) takes.found refl
+
+      pub IsChain-taken : IsChain after head tail next made given
+      IsChain-taken =
+          record {
+            holds_one = chain.holds_one;
+            small = chain.small;
+            linked = subst (λ k. IsLinked k head tail) (sym takes.kept) (IsLinked-recounted kept head tail head.number at takes.chunk
+                (with_taken taken takes.chunk) chain.linked takes.found refl refl);
+            ends = omega (arith, chain.ends, ap length items-taken);
+            in_tail = chain.in_tail;
+            bounded = chain.bounded;
+            made_is = chain.made_is ∙ sym (ap length takes.kept ∙ length-set kept head.number (Some (at, with_taken taken takes.chunk)));
+            given_is = chain.given_is;
+            whole = λ other later.
+                ap (λ k. taken_at k other) takes.kept
+                ∙ ap taken_of (block_at-other kept head.number other (Some (at, with_taken taken takes.chunk))
+                (λ equal. omega (arith, equal, later)))
+                ∙ chain.whole other later;
+          }
+
+      pub shown-taken : (followed : ℕ) → shown after made given followed ≡ record (shown kept made given followed) { taken = taken }
+      shown-taken followed =
+          ap (λ items. changed items (map cell_of after) (taken_at after given)) items-taken
+          ∙ ap (λ cells. changed (items_of kept) cells (taken_at after given))
+          (ap (map cell_of) takes.kept
+          ∙ map-set_same cell_of kept head.number (Some (at, with_taken taken takes.chunk)) None (sym (ap cell_of takes.found)))
+          ∙ ap (changed (items_of kept) (map cell_of kept))
+          (ap (taken_at after) chain.given_is ∙ ap (λ k. taken_at k head.number) takes.kept
+          ∙ ap taken_of (block_at-here kept head.number (at, takes.chunk) (Some (at, with_taken taken takes.chunk)) takes.found))
+        where
+          changed : List T → List (Option (Ptr × ℕ)) → ℕ → Chunks T
+          changed items cells taken =
+              record { given = given; items = items; cells = cells; made = made; followed = followed; taken = taken }
 
     -- without the head
     module _ (further : Address) (before : head.number < tail.number) (numbered : further.number ≡ head.number + 1)
@@ -373,21 +461,26 @@ module _ {T : Type 0} {N : ℕ} where
             bounded = chain.bounded;
             made_is = same_made ∙ chain.made_is ∙ sym (length-set kept head.number None);
             given_is = counted ∙ ap (λ n. n + 1) chain.given_is ∙ sym numbered;
+            whole = λ number later. whole_after number (omega (arith, later, numbered));
           } in (
             subst (λ k. IsChain k further tail next made' given') (sym is) chained,
             ap (λ k. shown k made' given' followed') is
                 ∙ shown-at (set kept head.number None) made (given + 1) followed made' given' followed' same_made counted same
-                ∙ ap (λ items. record {
-                  given = given + 1;
-                  items = items;
-                  cells = map cell_of (set kept head.number None);
-                  made = made;
-                  followed = followed;
-                }) less
-                ∙ ap (λ cells.
-                record { given = given + 1; items = drop N (items_of kept); cells = cells; made = made; followed = followed })
-                (map-set cell_of kept head.number None ∙ ap (λ n. set (map cell_of kept) n None) (sym chain.given_is)),
+                ∙ ap (λ items. changed items (map cell_of (set kept head.number None)) (taken_at (set kept head.number None) (given + 1)))
+                less
+                ∙ ap (λ cells. changed (drop N (items_of kept)) cells (taken_at (set kept head.number None) (given + 1)))
+                (map-set cell_of kept head.number None ∙ ap (λ n. set (map cell_of kept) n None) (sym chain.given_is))
+                ∙ ap (changed (drop N (items_of kept)) (set (map cell_of kept) given None))
+                (whole_after (given + 1) (omega (arith, chain.given_is))),
           )
+        where
+          changed : List T → List (Option (Ptr × ℕ)) → ℕ → Chunks T
+          changed items cells taken =
+              record { given = given + 1; items = items; cells = cells; made = made; followed = followed; taken = taken }
+
+          whole_after : (number : ℕ) → head.number < number → taken_at (set kept head.number None) number ≡ 0
+          whole_after number later =
+              ap taken_of (block_at-other kept head.number number None (λ equal. omega (arith, equal, later))) ∙ chain.whole number later
 
     -- a kept chunk isn't before the head
     pub head_before : (number : ℕ) (at : Ptr) → IsKept kept number at → head.number ≤ number
@@ -403,6 +496,34 @@ module _ {T : Type 0} {N : ℕ} where
         ap (λ row. slice_get row slot) (chain.linked.rows number (head_before number at there))
         ∙ slice_get-take N (drop (N * (number - head.number)) (items_of kept)) slot inside
         ∙ ap (λ n. slice_get (drop (N * (number - n)) (items_of kept)) slot) (sym chain.given_is)
+
+    -- no item was moved out of a chunk behind a place that is behind all that were
+    pub left_there : (number : ℕ) (at : Ptr) (slot : ℕ) → IsKept kept number at
+        → N * given + taken_at kept given ≤ N * number + slot → taken_at kept number ≤ slot
+    left_there number at slot there low = elim (cases_eq number head.number) [
+      | inl equal ↦
+          let same : number ≡ given = equal ∙ sym chain.given_is in
+          omega (arith, ap (taken_at kept) same, ap (λ n. N * n) same, low)
+      | inr differs ↦ omega (arith, chain.whole number (omega (arith, head_before number at there, differs)))
+    ]
+
+    -- the head has each item of its places
+    pub head_written : (slot : ℕ) → slot < N → slot < length (items_of kept) → slot < length (row_at kept head.number)
+    head_written slot within inside = elim (cases_lt N (length (items_of kept))) [
+      | inl more ↦ omega (arith, within, size (length-take-le N (items_of kept) (omega (arith, more))))
+      | inr few ↦ omega (arith, inside, size (ap length (take_all N (items_of kept) few)))
+    ]
+      where
+        nothing : (n : ℕ) → N * (n - n) ≡ 0
+        nothing n = omega (arith, mul-zero N, ap (λ m. N * m) (self n))
+          where
+            self : (n : ℕ) → n - n ≡ 0
+            self n = omega arith
+
+        size : {n : ℕ} → length (take N (items_of kept)) ≡ n → length (row_at kept head.number) ≡ n
+        size long =
+            ap length (chain.linked.rows head.number (omega arith)) ∙ ap (λ n. length (take N (drop n (items_of kept)))) (nothing head.number)
+            ∙ long
 
     -- where the head is the tail, nothing is kept without it
     pub gone_with_head : tail.number ≤ head.number → (number : ℕ) → block_at (set kept head.number None) number ≡ None

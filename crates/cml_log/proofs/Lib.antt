@@ -16,4 +16,5 @@ mod PassedLemmas
 mod StandingLemmas
 mod CursorsLemmas
 mod MovedLemmas
+mod AheadLemmas
 mod ChunkLogLemmas

@@ -46,7 +46,7 @@ module _ {T : Type 0} {N : ℕ} where
 
   -- a chunk's cursors change nothing of its chain
   pub IsLinked-recounted : (kept : List (Option (Ptr × Chunk T N))) (head tail : Address) (number : ℕ) (at : Ptr)
-      (chunk changed : Chunk T N) → IsLinked kept head tail → block_at kept number ≡ Some (at, chunk) → changed.row ≡ chunk.row
+      (chunk changed : Chunk T N) → IsLinked kept head tail → block_at kept number ≡ Some (at, chunk) → changed.row.items ≡ chunk.row.items
       → changed.link ≡ chunk.link → IsLinked (set kept number (Some (at, changed))) head tail
   IsLinked-recounted kept head tail number at chunk changed linked found same_row same_link =
       let after : List (Option (Ptr × Chunk T N)) = set kept number (Some (at, changed)) in
@@ -75,7 +75,7 @@ module _ {T : Type 0} {N : ℕ} where
   -- an item more at the tail
   module _ (kept : List (Option (Ptr × Chunk T N))) (head tail : Address) (chunk changed : Chunk T N) (item : T)
       (linked : IsLinked kept head tail) (found : block_at kept tail.number ≡ Some (tail.at, chunk))
-      (row : changed.row ≡ chunk.row ++ item ∷ []) (link : changed.link ≡ chunk.link) where
+      (row : changed.row.items ≡ chunk.row.items ++ item ∷ []) (link : changed.link ≡ chunk.link) where
     abbrev written : List (Option (Ptr × Chunk T N))
     written = set kept tail.number (Some (tail.at, changed))
 
@@ -131,9 +131,9 @@ module _ {T : Type 0} {N : ℕ} where
               let exact = mul-add N (tail.number - head.number) 1 in
               let one = mul-one N in
               let room : length all < N * (tail.number - head.number) + N = omega (arith, ends, exact, one) in
-              let here : row_at written tail.number ≡ chunk.row ++ item ∷ [] =
+              let here : row_at written tail.number ≡ chunk.row.items ++ item ∷ [] =
               ap row_of (block_at-here kept tail.number (tail.at, chunk) (Some (tail.at, changed)) found) ∙ row in
-              let part : chunk.row ≡ drop (N * (tail.number - head.number)) all = sym (ap row_of found)
+              let part : chunk.row.items ≡ drop (N * (tail.number - head.number)) all = sym (ap row_of found)
               ∙ linked.rows tail.number linked.order ∙ take_all N (drop (N * (tail.number - head.number)) all)
               (omega (arith, length-drop (N * (tail.number - head.number)) all, room)) in
               ap (row_at written) equal ∙ here ∙ ap (λ xs. xs ++ item ∷ []) part
@@ -161,7 +161,7 @@ module _ {T : Type 0} {N : ℕ} where
   -- one more chunk, to which the full tail is linked
   module _ (kept : List (Option (Ptr × Chunk T N))) (head tail : Address) (chunk fresh : Chunk T N) (next : Address)
       (linked : IsLinked kept head tail) (found : block_at kept tail.number ≡ Some (tail.at, chunk))
-      (number : next.number ≡ tail.number + 1) (empty : fresh.row ≡ [])
+      (number : next.number ≡ tail.number + 1) (empty : fresh.row.items ≡ [])
       (full : length (items_of kept) ≡ N * (tail.number - head.number + 1)) where
     abbrev tailed : List (Option (Ptr × Chunk T N))
     tailed = kept ++ Some (next.at, fresh) ∷ []
@@ -250,7 +250,7 @@ module _ {T : Type 0} {N : ℕ} where
 
     pub items_of-without : items_of without ≡ drop N (items_of kept)
     items_of-without =
-        let size : length linked.starts.0.row ≡ N =
+        let size : length linked.starts.0.row.items ≡ N =
         ap length (sym (ap row_of linked.starts.1) ∙ linked.rows head.number (omega arith)
         ∙ ap (λ n. take N (drop n (items_of kept))) (nothing_before head.number))
         ∙ length-take-le N (items_of kept) whole in

@@ -48,6 +48,7 @@ module _ {T : Type 0} (n : ℕ) where
         counts = λ number. refl;
         bare = λ number low high. absurd (omega (arith, low, high));
         followed = omega arith;
+        taken = inr (refl, refl);
       }
     where
       nothing : (m : ℕ) → n * (m - m) ≡ 0
@@ -77,6 +78,7 @@ module _ {T : Type 0} (n : ℕ) where
               sym (went.counts number) ∙ ap (count_at mid.cells) here ∙ idle_bare mid idle
         ];
         followed = omega (arith, went.followed);
+        taken = inl refl;
       }
     where
       sum : old.given ≤ mid.given → n * (mid.given - old.given) + n ≡ n * (mid.given + 1 - old.given)

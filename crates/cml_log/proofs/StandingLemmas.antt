@@ -1,9 +1,9 @@
 -- Lemmas on how many cursors are in a chunk.
-use Rattle.std.proofs.Common.{◌≡◌, ◌≢◌, ℕ, zero, suc, ◌+◌, ◌/◌, ◌<◌, ◌≤◌, ◌==◌, cond, Bool, true, false, List, [], ◌∷◌, set}
-use Rattle.std.proofs.Common.{count_by, is_some, Option, Some, None, refl, ap, arith}
+use Rattle.std.proofs.Common.{◌≡◌, ◌≢◌, ℕ, zero, suc, ◌+◌, ◌/◌, ◌<◌, ◌≤◌, ◌==◌, cond, Bool, true, false, List, [], ◌∷◌, set, map}
+use Rattle.std.proofs.Common.{count_by, is_some, Option, Some, None, refl, sym, ap, ◌∙◌, arith}
 use Rattle.std.proofs.lemmas.Bool.{eqb-true, eq-eqb, ne_eqb}
 use Rattle.std.proofs.lemmas.List.Recursion.{is_count_by}
-use Rattle.cml_log.specs.{Cursor, cursor_at, weight, standing}
+use Rattle.cml_log.specs.{Cursor, cursor_at, place_in, weight, standing}
 
 -- how many of these slots have a cursor
 abbrev open_count : List (Option Cursor) → ℕ
@@ -18,6 +18,51 @@ open_count-is = is_count_by open_count is_some refl counts
         → open_count (slot ∷ rest) ≡ cond (is_some slot) (1 + open_count rest) (open_count rest)
     counts None rest = refl
     counts (Some cursor) rest = refl
+
+-- as many as there are places
+place_count : List (Option ℕ) → ℕ
+place_count [] = 0
+place_count (None ∷ rest) = place_count rest
+place_count (Some place ∷ rest) = 1 + place_count rest
+
+pub count_places : (slots : List (Option Cursor)) → count_by is_some (map place_in slots) ≡ count_by is_some slots
+unfolding place_count
+count_places slots = sym (is_count_by place_count is_some refl counts (map place_in slots)) ∙ same slots ∙ open_count-is slots
+  where
+    counts : (slot : Option ℕ) (rest : List (Option ℕ))
+        → place_count (slot ∷ rest) ≡ cond (is_some slot) (1 + place_count rest) (place_count rest)
+    counts None rest = refl
+    counts (Some place) rest = refl
+
+    same : (slots : List (Option Cursor)) → place_count (map place_in slots) ≡ open_count slots
+    same [] = refl
+    same (None ∷ rest) = same rest
+    same (Some cursor ∷ rest) = ap (λ n. 1 + n) (same rest)
+
+-- where one cursor is open, there is no other
+pub sole_key : (slots : List (Option Cursor)) (key other : ℕ) (cursor held : Cursor) → count_by is_some slots ≡ 1
+    → cursor_at slots key ≡ Some cursor → cursor_at slots other ≡ Some held → other ≢ key → ⊥
+sole_key slots key other cursor held sole found seen differs =
+    omega (arith, two slots key other found seen differs, open_count-is slots, sole)
+  where
+    one : (slots : List (Option Cursor)) (key : ℕ) (cursor : Cursor) → cursor_at slots key ≡ Some cursor → 1 ≤ open_count slots
+    one [] key cursor found = absurd (cc)
+    one (None ∷ rest) zero cursor found = absurd (cc)
+    one (Some held ∷ rest) zero cursor found = omega arith
+    one (None ∷ rest) (suc key) cursor found = one rest key cursor found
+    one (Some held ∷ rest) (suc key) cursor found = omega arith
+
+    two : (slots : List (Option Cursor)) (key other : ℕ) → cursor_at slots key ≡ Some cursor → cursor_at slots other ≡ Some held
+        → other ≢ key → 2 ≤ open_count slots
+    two [] key other found seen differs = absurd (cc)
+    two (slot ∷ rest) zero zero found seen differs = absurd (differs refl)
+    two (None ∷ rest) zero (suc other) found seen differs = absurd (cc)
+    two (None ∷ rest) (suc key) zero found seen differs = absurd (cc)
+    two (None ∷ rest) (suc key) (suc other) found seen differs = two rest key other found seen (λ same. differs (ap suc same))
+    two (Some first ∷ rest) zero (suc other) found seen differs = omega (arith, one rest other held seen)
+    two (Some first ∷ rest) (suc key) zero found seen differs = omega (arith, one rest key cursor found)
+    two (Some first ∷ rest) (suc key) (suc other) found seen differs =
+        omega (arith, two rest key other found seen (λ same. differs (ap suc same)))
 
 module _ (chunk number : ℕ) where
   pub weight-le : (slot : Option Cursor) → weight chunk number slot ≤ 1

@@ -1,27 +1,37 @@
 -- What the log sees of its chunks, and each change that a call makes to them.
-use Rattle.std.specs.Prelude.{◌≡◌, ℕ, ◌+◌, ◌-◌, ◌*◌, ◌/◌, ◌<◌, ◌≤◌, ◌&&◌, ◌==◌, Bool, ltb, List, [], ◌∷◌, ◌++◌, length, drop}
+use Rattle.std.specs.Prelude.{◌≡◌, ◌⊎◌, ℕ, ◌+◌, ◌-◌, ◌*◌, ◌/◌, ◌<◌, ◌≤◌, ◌&&◌, ◌==◌, Bool, ltb, List, [], ◌∷◌, ◌++◌, length, drop}
 use Rattle.std.specs.Prelude.{Option, Some, None, slice_index_or, slice_set, refl}
 use Rattle.std.specs.Coded.{Coded, code_by, coded×, coded_ℕ, coded_list, coded_option}
 use denote.RawPtr.{Ptr, coded_ptr}
 
 -- how many chunks were given back, which is the number of the first kept one; the items of those
 -- kept; for each chunk ever made where it lies and how many cursors are in it, or nothing where it
--- was given back; how many were made; and how many links were followed
+-- was given back; how many were made; how many links were followed; and the first slot of the first
+-- kept chunk from which on no item was moved out
 pub record Chunks (T : Type 0) : Type 0 where
   pub given : ℕ
   pub items : List T
   pub cells : List (Option (Ptr × ℕ))
   pub made : ℕ
   pub followed : ℕ
+  pub taken : ℕ
 
 -- chunks are stored as the tuple of these
 abbrev pub chunks_code : {T : Type 0} → Coded T → Coded (Chunks T)
 chunks_code {T} code =
     code_by
-    (ℕ × (List T × (List (Option (Ptr × ℕ)) × (ℕ × ℕ))))
-    (coded× coded_ℕ (coded× (coded_list code) (coded× (coded_list (coded_option (coded× coded_ptr coded_ℕ))) (coded× coded_ℕ coded_ℕ))))
-    (λ c. (c.given, (c.items, (c.cells, (c.made, c.followed)))))
-    (λ p. record { given = p.0; items = p.1.0; cells = p.1.1.0; made = p.1.1.1.0; followed = p.1.1.1.1 })
+    (ℕ × (List T × (List (Option (Ptr × ℕ)) × (ℕ × (ℕ × ℕ)))))
+    (coded× coded_ℕ (coded× (coded_list code) (coded× (coded_list (coded_option (coded× coded_ptr coded_ℕ))) (coded× coded_ℕ
+    (coded× coded_ℕ coded_ℕ)))))
+    (λ c. (c.given, (c.items, (c.cells, (c.made, (c.followed, c.taken))))))
+    (λ p. record {
+      given = p.0;
+      items = p.1.0;
+      cells = p.1.1.0;
+      made = p.1.1.1.0;
+      followed = p.1.1.1.1.0;
+      taken = p.1.1.1.1.1;
+    })
     (λ _. refl)
 
 -- the chunk of this number
@@ -56,6 +66,7 @@ module _ {T : Type 0} where
         given = c.given + 1;
         items = drop chunk c.items;
         cells = slice_set c.cells c.given None;
+        taken = 0;
       }
 
   -- this many cursors are in the chunk of this number
@@ -67,6 +78,7 @@ module _ {T : Type 0} where
     pub given : new.given ≡ old.given
     pub items : new.items ≡ old.items ++ item ∷ []
     pub followed : new.followed ≡ old.followed
+    pub taken : new.taken ≡ old.taken
     pub lies : (number count : ℕ) (at : Ptr) → cell_at old.cells number ≡ Some (at, count) → cell_at new.cells number ≡ Some (at, count)
     pub counts : (number : ℕ) → count_at new.cells number ≡ count_at old.cells number
 
@@ -79,6 +91,7 @@ module _ {T : Type 0} where
     pub counts : (number : ℕ) → count_at new.cells number ≡ count_at old.cells number
     pub bare : (number : ℕ) → old.given ≤ number → number < new.given → count_at old.cells number ≡ 0
     pub followed : new.followed + old.given ≡ old.followed + new.given
+    pub taken : (new.taken ≡ 0) ⊎ ((new.given ≡ old.given) × (new.taken ≡ old.taken))
 
   -- one chunk, in which nothing is
   pub record Begins (c : Chunks T) : Type 0 where
@@ -86,3 +99,4 @@ module _ {T : Type 0} where
     pub items : c.items ≡ []
     pub cells : (at : Ptr) × (c.cells ≡ Some (at, 0) ∷ [])
     pub followed : c.followed ≡ 0
+    pub taken : c.taken ≡ 0

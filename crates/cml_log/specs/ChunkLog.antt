@@ -3,7 +3,7 @@ use Rattle.std.specs.Prelude.{◌≡◌, ℕ, ◌+◌, ◌*◌, ◌/◌, ◌<◌
 use Rattle.std.specs.Prelude.{None, slice_index_or, refl}
 use Rattle.std.specs.Coded.{Coded, code_by, coded×, coded_ℕ}
 use Rattle.cml_log.specs.declared.chunk_log.Cursor.{Cursor}
-use Rattle.cml_log.specs.Log.{Log, log_code}
+use Rattle.cml_log.specs.Log.{Log, log_code, place_at}
 use Rattle.cml_log.specs.Chain.{Chunks, LiesAt, count_at, end_of, is_idle}
 
 -- the log; how many chunks were made and given back, each counted by the call that did it alone; and
@@ -73,6 +73,16 @@ module _ {T : Type 0} where
   -- the log that these chunks and cursors show
   abbrev pub log_of : ℕ → Chunks T → List (Option Cursor) → Log T
   log_of chunk c slots = record { first = chunk * c.given; kept = c.items; places = map place_in slots }
+
+  -- no item was moved out from a cursor's place on
+  pub record IsAhead (chunk : ℕ) (c : Chunks T) (slots : List (Option Cursor)) : Type 0 where
+    pub part : chunk * c.given + c.taken ≤ end_of chunk c
+    pub behind : (key place : ℕ) → place_at (log_of chunk c slots) key ≡ Some place → chunk * c.given + c.taken ≤ place
+
+  -- what holds of each log in chunks
+  pub record IsWhole (chunk : ℕ) (c : Chunks T) (slots : List (Option Cursor)) : Type 0 where
+    pub is_trim : IsTrim chunk c slots
+    pub is_ahead : IsAhead chunk c slots
 
   abbrev pub counted_of : ℕ → Chunks T → List (Option Cursor) → Counted T
   counted_of chunk c slots =

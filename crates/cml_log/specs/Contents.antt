@@ -10,7 +10,12 @@ module _ {T : Type 0} {N : ℕ} where
   -- the items of a block's chunk, and none where it isn't kept
   abbrev pub row_of : Option (Ptr × Chunk T N) → List T
   row_of None = []
-  row_of (Some block) = block.1.row
+  row_of (Some block) = block.1.row.items
+
+  -- the first slot of a block's chunk from which on no item was moved out
+  abbrev pub taken_of : Option (Ptr × Chunk T N) → ℕ
+  taken_of None = 0
+  taken_of (Some block) = block.1.row.taken
 
   -- where its link leads
   abbrev pub link_of : Option (Ptr × Chunk T N) → Option Address
@@ -24,6 +29,9 @@ module _ {T : Type 0} {N : ℕ} where
 
   abbrev pub row_at : List (Option (Ptr × Chunk T N)) → ℕ → List T
   row_at kept number = row_of (block_at kept number)
+
+  abbrev pub taken_at : List (Option (Ptr × Chunk T N)) → ℕ → ℕ
+  taken_at kept number = taken_of (block_at kept number)
 
   abbrev pub link_at : List (Option (Ptr × Chunk T N)) → ℕ → Option Address
   link_at kept number = link_of (block_at kept number)
@@ -46,7 +54,10 @@ module _ {T : Type 0} {N : ℕ} where
     pub followed : new.followed.count ≡ old.followed.count
 
   abbrev pub with_row : List T → Chunk T N → Chunk T N
-  with_row items chunk = record chunk { row = items }
+  with_row items chunk = record chunk { row = record { items = items; taken = chunk.row.taken } }
+
+  abbrev pub with_taken : ℕ → Chunk T N → Chunk T N
+  with_taken taken chunk = record chunk { row = record { items = chunk.row.items; taken = taken } }
 
   abbrev pub with_link : Option Address → Chunk T N → Chunk T N
   with_link next chunk = record chunk { link = next }

@@ -17,7 +17,7 @@ pub(crate) struct Chain<T: Drop, const N: usize> {
 
 impl<T: Drop, const N: usize> Model for Chain<T, N> {
     ghost use Rattle.std.specs.Prelude.{map};
-    ghost use Rattle.cml_log.specs.Contents.{items_of, cell_of};
+    ghost use Rattle.cml_log.specs.Contents.{items_of, cell_of, taken_at};
     ghost use Rattle.cml_log.specs.Chain.{Chunks, chunks_code};
     ghost use Rattle.cml_log.specs.Linked.{IsChain};
 
@@ -31,6 +31,7 @@ impl<T: Drop, const N: usize> Model for Chain<T, N> {
       cells = map cell_of c.chunks.blocks.kept;
       made = c.chunks.made.count;
       followed = c.chunks.followed.count;
+      taken = taken_at c.chunks.blocks.kept c.chunks.given.count;
     } };
 
     ghost invariant = { λ c.
@@ -90,10 +91,25 @@ impl<T: Drop, const N: usize> Chain<T, N> {
     pub(crate) fn item(&self, at: Address, slot: usize) -> Option<&T>
         requires lies { LiesAt self.now.cells at.number at.at }
         requires within { slot < N }
+        requires left { N * self.now.given + self.now.taken ≤ N * at.number + slot }
         ensures { option_copied result
             ≡ slice_get (drop (N * (at.number - self.now.given)) self.now.items) slot }
     {
         self.chunks.item(at, slot)
+    }
+
+    /// Moves the item at a slot of the head out.
+    #[inline(always)]
+    pub(crate) fn take(&mut self, at: Address, slot: usize) -> T
+        requires lies { LiesAt self.old.cells at.number at.at }
+        requires head { at.number ≡ self.old.given }
+        requires within { slot < N }
+        requires left { self.old.taken ≤ slot }
+        requires written { slot < length self.old.items }
+        ensures item { slice_get (drop (N * (at.number - self.old.given)) self.old.items) slot ≡ Some result }
+        ensures taken { self.new ≡ record self.old { taken = slot + 1 } }
+    {
+        self.chunks.take(at, slot)
     }
 
     /// Where the chunk of the next place lies.

@@ -1,7 +1,7 @@
 //! The chunks of a log in their blocks. This file has every call that reads or changes a chunk.
-ghost use Rattle.std.specs.Prelude.{◌≡◌, ◌+◌, ◌<◌, [], ◌∷◌, ◌++◌, Some, None, length, option_copied, slice_get, slice_set, IfOk, OnErr};
+ghost use Rattle.std.specs.Prelude.{◌≡◌, ◌+◌, ◌<◌, ◌≤◌, [], ◌∷◌, ◌++◌, Some, None, length, option_copied, slice_get, slice_set, IfOk, OnErr};
 ghost use Rattle.cml_log.specs.{block_at, IsKept, IsBare, row_at, link_at, cell_of, KeepsCounts, Rewrites, with_row, with_link};
-ghost use Rattle.cml_log.specs.{with_cursors};
+ghost use Rattle.cml_log.specs.{with_cursors, with_taken, taken_at, unwritten};
 
 mod raw;
 
@@ -21,7 +21,7 @@ struct Chunk<T, const N: usize> {
 impl<T: Drop, const N: usize> Chunk<T, N> {
     /// A chunk with no item, no link and no cursor.
     fn empty() -> Chunk<T, N>
-        ensures { result ≡ record { row = []; link = None; cursors = 0 } }
+        ensures { result ≡ record { row = unwritten; link = None; cursors = 0 } }
     {
         Chunk {
             row: Row::new(),
@@ -71,7 +71,7 @@ impl<T: Drop, const N: usize> KeptChunks<T, N> {
         requires { number ≡ length self.old.blocks.kept }
         ensures number { IfOk result (λ at. at.number ≡ number) }
         ensures kept { IfOk result (λ at. self.new.blocks.kept
-            ≡ self.old.blocks.kept ++ Some (at.at, record { row = []; link = None; cursors = 0 }) ∷ []) }
+            ≡ self.old.blocks.kept ++ Some (at.at, record { row = unwritten; link = None; cursors = 0 }) ∷ []) }
         ensures counted { IfOk result (λ _. (self.new.made.count ≡ self.old.made.count + 1)
             × (self.new.given.count ≡ self.old.given.count) × (self.new.followed.count ≡ self.old.followed.count)) }
         ensures err { OnErr result (self.new ≡ self.old) }
@@ -106,7 +106,8 @@ impl<T: Drop, const N: usize> KeptChunks<T, N> {
 
     /// Lends the item at a slot, if it was written.
     pub(crate) fn item(&self, at: Address, slot: usize) -> Option<&T>
-        requires { IsKept self.now.blocks.kept at.number at.at }
+        requires kept { IsKept self.now.blocks.kept at.number at.at }
+        requires left { taken_at self.now.blocks.kept at.number ≤ slot }
         ensures { option_copied result ≡ slice_get (row_at self.now.blocks.kept at.number) slot }
     {
         self.blocks.fit();
@@ -152,6 +153,21 @@ impl<T: Drop, const N: usize> KeptChunks<T, N> {
     {
         self.blocks.fit();
         self.blocks.get_mut(at).row.write(slot, item);
+    }
+
+    /// Moves the item at a slot of a chunk out.
+    #[inline(always)]
+    pub(crate) fn take(&mut self, at: Address, slot: usize) -> T
+        requires kept { IsKept self.old.blocks.kept at.number at.at }
+        requires left { taken_at self.old.blocks.kept at.number ≤ slot }
+        requires written { slot < length (row_at self.old.blocks.kept at.number) }
+        requires within { slot < N }
+        ensures item { slice_get (row_at self.old.blocks.kept at.number) slot ≡ Some result }
+        ensures rewrites { Rewrites self.old.blocks.kept self.new.blocks.kept at.number at.at (with_taken (slot + 1)) }
+        ensures counts { KeepsCounts self.old self.new }
+    {
+        self.blocks.fit();
+        self.blocks.get_mut(at).row.take(slot)
     }
 
     /// Ends the chunks, once each was given back.

@@ -1,8 +1,9 @@
 ghost use Rattle.std.specs.Prelude.{◌≡◌, ℕ, ◌+◌, ◌-◌, ◌%◌, ◌<◌, ◌≤◌, ◌↔◌, Some, None, IsTrue, OnOk, OnErr, IfOk, IfErr};
+ghost use Rattle.std.specs.Prelude.{IfSome, IfNone, IsSome};
 ghost use Rattle.std.specs.Prelude.{length, slice_get, slice_set, option_copied};
 ghost use Rattle.std.proofs.Common.{rules};
 ghost use Rattle.slab.specs.Slab.{ContainsKey};
-ghost use Rattle.cml_log.specs.{chunk_of};
+ghost use Rattle.cml_log.specs.{chunk_of, cursor_at, end_of, log_of, trimmed, with_place, IsAhead, IsTrim, IsWhole};
 
 use crate::chain::Chain;
 use crate::chunk::Address;
@@ -28,6 +29,42 @@ fn move_to(cursors: &mut Slab<Cursor>, key: usize, to: Cursor)
     }
 }
 
+// Moves the cursor under a key past the item at its place.
+#[inline(always)]
+fn step<T: Drop, const N: usize>(
+    chain: &mut Chain<T, N>,
+    cursors: &mut Slab<Cursor>,
+    key: usize,
+    cursor: Cursor,
+)
+    requires trim { IsTrim N chain.old cursors.old.slots }
+    requires found { cursor_at cursors.old.slots key ≡ Some cursor }
+    requires below { cursor.place + 1 ≤ end_of N chain.old }
+    requires ahead { IsAhead N chain.old (slice_set cursors.old.slots key
+        (Some (record { at = cursor.at; place = cursor.place + 1 }))) }
+    ensures whole { IsWhole N chain.new cursors.new.slots }
+    ensures log { log_of N chain.new cursors.new.slots
+        ≡ trimmed (chunk_of N) (with_place (log_of N chain.old cursors.old.slots) key (Some (cursor.place + 1))) }
+    ensures followed { chain.new.followed ≤ chain.old.followed + 1 }
+    ensures given { chain.new.given ≤ chain.old.given + 1 }
+{
+    let Cursor { at, place } = cursor;
+    let place = place + 1;
+    if place % N as u64 != 0 {
+        move_to(cursors, key, Cursor { at, place });
+        return;
+    }
+    let next = chain.follow(at);
+    // So that one cursor more in the next chunk can be counted.
+    let _ = cursors.len();
+    move_to(cursors, key, Cursor { at: next, place });
+    chain.leave(at);
+    chain.enter(next);
+    if chain.is_idle() {
+        chain.pass_head_to(next);
+    }
+}
+
 /// A log whose items lie in chunks of `N` places of raw memory.
 ///
 /// Each cursor holds its chunk, and each chunk counts the cursors in it, so no call looks at all cursors.
@@ -39,7 +76,7 @@ pub struct ChunkLog<T: Drop, const N: usize> {
 }
 
 impl<T: Drop, const N: usize> Model for ChunkLog<T, N> {
-    ghost use Rattle.cml_log.specs.ChunkLog.{Counted, counted_code, counted_of, IsTrim};
+    ghost use Rattle.cml_log.specs.ChunkLog.{Counted, counted_code, counted_of, IsWhole};
 
     ghost Value = { Counted T };
 
@@ -47,11 +84,11 @@ impl<T: Drop, const N: usize> Model for ChunkLog<T, N> {
 
     ghost view = { λ a. counted_of N a.chain a.cursors.slots };
 
-    ghost invariant = { λ a. IsTrim N a.chain a.cursors.slots };
+    ghost invariant = { λ a. IsWhole N a.chain a.cursors.slots };
 }
 
 impl<T: Drop, const N: usize> MessageLog<T> for ChunkLog<T, N> {
-    ghost use Rattle.cml_log.specs.Log.{next_of, trimmed, with_item, with_place, place_of, owed_items, IsOpen, Opens};
+    ghost use Rattle.cml_log.specs.Log.{next_of, with_item, place_of, owed_items, cursor_count, IsOpen, Opens};
     ghost use Rattle.cml_log.specs.ChunkLog.{KeepsCounted};
 
     const CHUNK: u64 = if N == 0 {
@@ -147,21 +184,34 @@ impl<T: Drop, const N: usize> MessageLog<T> for ChunkLog<T, N> {
         ensures followed { self.new.followed ≤ self.old.followed + 1 }
         ensures given { self.new.given ≤ self.old.given + 1 }
     {
-        let Cursor { at, place } = self.cursors[k.0];
-        let place = place + 1;
-        if place % N as u64 != 0 {
-            move_to(&mut self.cursors, k.0, Cursor { at, place });
-            return;
+        let cursor = self.cursors[k.0];
+        step(&mut self.chain, &mut self.cursors, k.0, cursor);
+    }
+
+    #[inline(always)]
+    fn take(&mut self, k: Key) -> Option<T>
+        requires opened { IsOpen self.old.log k }
+        requires owed { 0 < length (owed_items self.old.log k) }
+        ensures moved { IfSome result (λ item. (slice_get (owed_items self.old.log k) 0 ≡ Some item)
+            × (self.new.log ≡ trimmed (chunk_of N) (with_place self.old.log k (Some (place_of self.old.log k + 1))))) }
+        ensures kept { IfNone result (self.new.log ≡ self.old.log) }
+
+        // It moves the item out where no other cursor may still read it.
+        ensures sole { IsSome result ↔ (cursor_count self.old.log ≡ 1) }
+
+        // One link at most, and one chunk given back at most.
+        ensures followed { self.new.followed ≤ self.old.followed + 1 }
+        ensures given { self.new.given ≤ self.old.given + 1 }
+    {
+        if self.cursors.len() != 1 {
+            return None;
         }
-        let next = self.chain.follow(at);
-        // So that one cursor more in the next chunk can be counted.
-        let _ = self.cursors.len();
-        move_to(&mut self.cursors, k.0, Cursor { at: next, place });
-        self.chain.leave(at);
-        self.chain.enter(next);
-        if self.chain.is_idle() {
-            self.chain.pass_head_to(next);
-        }
+        let cursor = self.cursors[k.0];
+        let item = self
+            .chain
+            .take(cursor.at, (cursor.place % N as u64) as usize);
+        step(&mut self.chain, &mut self.cursors, k.0, cursor);
+        Some(item)
     }
 
     fn first(&self) -> u64 {

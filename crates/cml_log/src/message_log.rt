@@ -1,5 +1,5 @@
 ghost use Rattle.std.specs.Prelude.{◌≡◌, ℕ, ◌+◌, ◌-◌, ◌%◌, ◌<◌, ◌≤◌, ◌↔◌, Some, None, length, IsTrue, OnOk, OnErr, IfOk};
-ghost use Rattle.std.specs.Prelude.{IfErr, option_copied, slice_get};
+ghost use Rattle.std.specs.Prelude.{IfErr, IfSome, IfNone, option_copied, slice_get};
 ghost use Rattle.cml_log.specs.Log.{Log, empty_log, next_of, IsOpen, place_of, owed_items, cursor_count, chunk_count};
 ghost use Rattle.cml_log.specs.Log.{chunk_start, trimmed, with_item, with_place, Opens};
 
@@ -62,6 +62,15 @@ pub trait MessageLog<T>: Drop {
         requires owed { 0 < length (owed_items (log self.old) k) }
         ensures { log self.new
             ≡ trimmed CHUNK (with_place (log self.old) k (Some (place_of (log self.old) k + 1))) };
+
+    /// Moves the item at a cursor's place out, and the cursor past it. If another cursor is open, or this log keeps its items until
+    /// it frees their chunk, it returns `None` and changes nothing.
+    fn take(&mut self, k: Key) -> Option<T>
+        requires opened { IsOpen (log self.old) k }
+        requires owed { 0 < length (owed_items (log self.old) k) }
+        ensures moved { IfSome result (λ item. (slice_get (owed_items (log self.old) k) 0 ≡ Some item)
+            × (log self.new ≡ trimmed CHUNK (with_place (log self.old) k (Some (place_of (log self.old) k + 1))))) }
+        ensures kept { IfNone result (log self.new ≡ log self.old) };
 
     /// Returns the place of the first kept item, where the chunk of the least place begins.
     fn first(&self) -> u64

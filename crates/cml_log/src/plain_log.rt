@@ -109,6 +109,10 @@ impl<T: Drop, const N: usize> MessageLog<T> for PlainLog<T, N> {
         );
     }
 
+    fn take(&mut self, _k: Key) -> Option<T> {
+        None
+    }
+
     fn first(&self) -> u64 {
         self.first
     }

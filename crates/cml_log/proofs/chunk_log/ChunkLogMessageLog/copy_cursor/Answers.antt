@@ -1,8 +1,9 @@
 use Rattle.std.proofs.Common.{◌≡◌, ◌+◌, ◌≤◌, count_by, is_some, sym, ap, subst, ◌∙◌, arith}
-use Rattle.cml_log.specs.{place_of, Opens, cursor_at, log_of}
+use Rattle.cml_log.specs.{place_of, Opens, cursor_at, log_of, IsAhead}
 use Rattle.cml_log.proofs.StandingLemmas.{standing-le}
 use Rattle.cml_log.proofs.CursorsLemmas.{place_shown}
 use Rattle.cml_log.proofs.ChunkLogLemmas.{opened_trim, opened_log}
+use Rattle.cml_log.proofs.AheadLemmas.{ahead_of, IsAhead-recounted, IsAhead-opened}
 use Rattle.cml_log.proofs.chunk_log.ChunkLogMessageLog.copy_cursor.Goals as goal
 
 pub enter-requires : goal.enter-requires
@@ -13,20 +14,30 @@ enter-requires g c =
     let few = standing-le g.row.N c.index-original.result.now.at.number c.self.inside.cursors.slots in (
       omega arith,
       (
-        (c.self.invariant.is_held.held c.k.inside.0 c.index-original.result.now c.index-original.ensures).lies,
-        omega (arith, few, c.self.invariant.is_held.counts c.index-original.result.now.at.number, room, c.capacity.ensures.value),
+        (c.self.invariant.is_trim.is_held.held c.k.inside.0 c.index-original.result.now c.index-original.ensures).lies,
+        omega (arith, few, c.self.invariant.is_trim.is_held.counts c.index-original.result.now.at.number, room, c.capacity.ensures.value),
       ),
     )
 
 pub invariant_of-self-2 : goal.invariant_of-self-2
 invariant_of-self-2 g c =
     let slots : c.reserve.new.self.slots ≡ c.self.inside.cursors.slots = ap (λ s. s.slots) c.reserve.ensures.rest_kept in
-    opened_trim g.row.N c.self.inside.chain c.self.inside.cursors.slots c.self.invariant c.insert_reserved.new.self.slots
-    c.insert_reserved.result (c.index-original.result.now) c.enter.new.self
-    (c.self.invariant.is_held.held c.k.inside.0 c.index-original.result.now c.index-original.ensures)
-    (ap (λ s. cursor_at s c.insert_reserved.result) (sym slots) ∙ c.insert_reserved.ensures.was_vacant)
-    c.insert_reserved.ensures.updates.changed
-    (λ other differs. c.insert_reserved.ensures.updates.others other differs ∙ ap (λ s. cursor_at s other) slots) c.enter.ensures
+    record {
+      is_trim = opened_trim g.row.N c.self.inside.chain c.self.inside.cursors.slots c.self.invariant.is_trim c.insert_reserved.new.self.slots
+          c.insert_reserved.result (c.index-original.result.now) c.enter.new.self
+          (c.self.invariant.is_trim.is_held.held c.k.inside.0 c.index-original.result.now c.index-original.ensures)
+          (ap (λ s. cursor_at s c.insert_reserved.result) (sym slots) ∙ c.insert_reserved.ensures.was_vacant)
+          c.insert_reserved.ensures.updates.changed
+          (λ other differs. c.insert_reserved.ensures.updates.others other differs ∙ ap (λ s. cursor_at s other) slots) c.enter.ensures;
+      is_ahead = subst (λ m. IsAhead g.row.N m c.insert_reserved.new.self.slots) (sym c.enter.ensures)
+          (IsAhead-recounted g.row.N c.self.inside.chain c.insert_reserved.new.self.slots _ _ _
+          (IsAhead-opened g.row.N c.self.inside.chain c.self.inside.cursors.slots c.insert_reserved.new.self.slots c.insert_reserved.result
+          (c.index-original.result.now) c.self.invariant.is_ahead
+          (ahead_of g.row.N c.self.inside.chain c.self.inside.cursors.slots c.k.inside.0 c.index-original.result.now
+          c.self.invariant.is_ahead c.index-original.ensures)
+          c.insert_reserved.ensures.updates.changed
+          (λ other differs. c.insert_reserved.ensures.updates.others other differs ∙ ap (λ s. cursor_at s other) slots)));
+    }
 
 pub returns-clause-ok : goal.returns-clause-ok
 returns-clause-ok g c =
@@ -37,9 +48,9 @@ returns-clause-ok g c =
     (place_of m.log c.args.k)) c.self.view_is
     (subst (λ p. Opens (log_of g.row.N c.self.inside.chain c.self.inside.cursors.slots)
     (log_of g.row.N c.enter.new.self c.insert_reserved.new.self.slots) c.insert_reserved.result p) place
-    (opened_log g.row.N c.self.inside.chain c.self.inside.cursors.slots c.self.invariant c.insert_reserved.new.self.slots
+    (opened_log g.row.N c.self.inside.chain c.self.inside.cursors.slots c.self.invariant.is_trim c.insert_reserved.new.self.slots
     c.insert_reserved.result (c.index-original.result.now) c.enter.new.self
-    (c.self.invariant.is_held.held c.k.inside.0 c.index-original.result.now c.index-original.ensures)
+    (c.self.invariant.is_trim.is_held.held c.k.inside.0 c.index-original.result.now c.index-original.ensures)
     (ap (λ s. cursor_at s c.insert_reserved.result) (sym slots) ∙ c.insert_reserved.ensures.was_vacant)
     c.insert_reserved.ensures.updates.changed
     (λ other differs. c.insert_reserved.ensures.updates.others other differs ∙ ap (λ s. cursor_at s other) slots) c.enter.ensures))

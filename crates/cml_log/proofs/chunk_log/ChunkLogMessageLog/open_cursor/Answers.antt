@@ -1,7 +1,8 @@
-use Rattle.std.proofs.Common.{◌≡◌, ◌+◌, ◌≤◌, count_by, is_some, sym, ap, subst, ◌∙◌, arith}
-use Rattle.cml_log.specs.{next_of, Opens, cursor_at, log_of}
+use Rattle.std.proofs.Common.{◌≡◌, ◌+◌, ◌*◌, ◌≤◌, count_by, is_some, sym, ap, subst, ◌∙◌, arith}
+use Rattle.cml_log.specs.{next_of, Opens, cursor_at, log_of, IsAhead}
 use Rattle.cml_log.proofs.StandingLemmas.{standing-le}
 use Rattle.cml_log.proofs.ChunkLogLemmas.{end_held, opened_trim, opened_log}
+use Rattle.cml_log.proofs.AheadLemmas.{IsAhead-recounted, IsAhead-opened}
 use Rattle.cml_log.proofs.chunk_log.ChunkLogMessageLog.open_cursor.Goals as goal
 
 pub enter-requires : goal.enter-requires
@@ -11,19 +12,28 @@ enter-requires g c =
     subst (λ s. count_by is_some s + 1 ≤ c.reserve.new.self.capacity) slots c.in_ok-reserve.ensures.room in
     let few = standing-le g.row.N c.end.result.number c.self.inside.cursors.slots in (
       omega arith,
-      (c.end.ensures.lies, omega (arith, few, c.self.invariant.is_held.counts c.end.result.number, room, c.capacity.ensures.value)),
+      (c.end.ensures.lies, omega (arith, few, c.self.invariant.is_trim.is_held.counts c.end.result.number, room, c.capacity.ensures.value)),
     )
 
 pub invariant_of-self-2 : goal.invariant_of-self-2
 invariant_of-self-2 g c =
     let slots : c.reserve.new.self.slots ≡ c.self.inside.cursors.slots = ap (λ s. s.slots) c.reserve.ensures.rest_kept in
-    opened_trim g.row.N c.self.inside.chain c.self.inside.cursors.slots c.self.invariant c.insert_reserved.new.self.slots
-    c.insert_reserved.result (record { at = c.end.result; place = c.next.result }) c.enter.new.self
-    (end_held g.row.N c.self.inside.chain c.self.inside.cursors.slots c.self.invariant
-    (record { at = c.end.result; place = c.next.result }) c.end.ensures.number c.end.ensures.lies c.next.ensures)
-    (ap (λ s. cursor_at s c.insert_reserved.result) (sym slots) ∙ c.insert_reserved.ensures.was_vacant)
-    c.insert_reserved.ensures.updates.changed
-    (λ other differs. c.insert_reserved.ensures.updates.others other differs ∙ ap (λ s. cursor_at s other) slots) c.enter.ensures
+    record {
+      is_trim = opened_trim g.row.N c.self.inside.chain c.self.inside.cursors.slots c.self.invariant.is_trim c.insert_reserved.new.self.slots
+          c.insert_reserved.result (record { at = c.end.result; place = c.next.result }) c.enter.new.self
+          (end_held g.row.N c.self.inside.chain c.self.inside.cursors.slots c.self.invariant.is_trim
+          (record { at = c.end.result; place = c.next.result }) c.end.ensures.number c.end.ensures.lies c.next.ensures)
+          (ap (λ s. cursor_at s c.insert_reserved.result) (sym slots) ∙ c.insert_reserved.ensures.was_vacant)
+          c.insert_reserved.ensures.updates.changed
+          (λ other differs. c.insert_reserved.ensures.updates.others other differs ∙ ap (λ s. cursor_at s other) slots) c.enter.ensures;
+      is_ahead = subst (λ m. IsAhead g.row.N m c.insert_reserved.new.self.slots) (sym c.enter.ensures)
+          (IsAhead-recounted g.row.N c.self.inside.chain c.insert_reserved.new.self.slots _ _ _
+          (IsAhead-opened g.row.N c.self.inside.chain c.self.inside.cursors.slots c.insert_reserved.new.self.slots c.insert_reserved.result
+          (record { at = c.end.result; place = c.next.result }) c.self.invariant.is_ahead
+          (subst (λ p. g.row.N * c.self.inside.chain.given + c.self.inside.chain.taken ≤ p) (sym c.next.ensures) c.self.invariant.is_ahead.part)
+          c.insert_reserved.ensures.updates.changed
+          (λ other differs. c.insert_reserved.ensures.updates.others other differs ∙ ap (λ s. cursor_at s other) slots)));
+    }
 
 pub returns-clause-ok : goal.returns-clause-ok
 returns-clause-ok g c =
@@ -33,9 +43,9 @@ returns-clause-ok g c =
     c.self.view_is
     (subst (λ p. Opens (log_of g.row.N c.self.inside.chain c.self.inside.cursors.slots)
     (log_of g.row.N c.enter.new.self c.insert_reserved.new.self.slots) c.insert_reserved.result p) place
-    (opened_log g.row.N c.self.inside.chain c.self.inside.cursors.slots c.self.invariant c.insert_reserved.new.self.slots
+    (opened_log g.row.N c.self.inside.chain c.self.inside.cursors.slots c.self.invariant.is_trim c.insert_reserved.new.self.slots
     c.insert_reserved.result (record { at = c.end.result; place = c.next.result }) c.enter.new.self
-    (end_held g.row.N c.self.inside.chain c.self.inside.cursors.slots c.self.invariant
+    (end_held g.row.N c.self.inside.chain c.self.inside.cursors.slots c.self.invariant.is_trim
     (record { at = c.end.result; place = c.next.result }) c.end.ensures.number c.end.ensures.lies c.next.ensures)
     (ap (λ s. cursor_at s c.insert_reserved.result) (sym slots) ∙ c.insert_reserved.ensures.was_vacant)
     c.insert_reserved.ensures.updates.changed
