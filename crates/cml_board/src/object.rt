@@ -1,5 +1,5 @@
 //! The objects of a board, and what a call does to one of them.
-ghost use Rattle.std.specs.Prelude.{◌≡◌, ℕ, ◌-◌, ◌%◌, ◌<◌, length, Some, IsSome, OnOk, OnErr, IfOk};
+ghost use Rattle.std.specs.Prelude.{◌≡◌, ℕ, ◌-◌, ◌%◌, ◌<◌, length, false, Some, IsSome, OnOk, OnErr, IfOk, slice_get};
 ghost use Rattle.std.specs.Option.{option_map};
 ghost use Rattle.cml_log.specs.Log.{Log};
 ghost use Rattle.cml_log.specs.{next_of, IsOpen, place_of, owed_items, Opens};
@@ -7,9 +7,10 @@ ghost use Rattle.cml_board.specs.{map_log, log_in, cursor_in, held_in, with_held
 ghost use Rattle.cml_board.specs.{begun_as};
 
 use crate::call::{Call, Name};
+use crate::message::Message;
 use cml_calls::Kind;
 use cml_log::{Back, Key, MessageLog};
-use std::alloc::AllocError;
+use std::alloc::{AllocError, Global};
 use std::mem;
 
 /// An object: the messages of a mailbox or of a channel, a port, or a variable and what it holds.
@@ -98,17 +99,65 @@ pub fn push<M, L: MessageLog<M>>(object: &mut Object<M, L>, message: M) -> Resul
     }
 }
 
-/// Moves a cursor of the object's log past the message at its place.
+/// A message equal to the one at a cursor's place.
+pub fn share_first<M: Message, L: MessageLog<M>>(
+    log: &L,
+    alloc: Global,
+    key: Key,
+) -> Result<M, AllocError>
+    requires opened { IsOpen (L.log log.now) key }
+    requires owed { 0 < length (owed_items (L.log log.now) key) }
+    ensures copy { IfOk result (λ copy. slice_get (owed_items (L.log log.now) key) 0 ≡ Some copy) }
+    ensures sure { OnErr result (M.SURE ≡ false) }
+{
+    match log.peek(key) {
+        Some(message) => message.share(alloc),
+        None => unreachable!(),
+    }
+}
+
+// Moves the message at a cursor's place out of a log. If the log doesn't part with it, shares it and moves the cursor past it.
 #[inline(always)]
-pub fn advance<M, L: MessageLog<M>>(object: &mut Object<M, L>, key: Key)
+fn take_first<M: Message, L: MessageLog<M>>(
+    log: &mut L,
+    alloc: Global,
+    key: Key,
+) -> Result<M, AllocError>
+    requires opened { IsOpen (L.log log.old) key }
+    requires owed { 0 < length (owed_items (L.log log.old) key) }
+    ensures first { IfOk result (λ message. slice_get (owed_items (L.log log.old) key) 0 ≡ Some message) }
+    ensures ok { OnOk result (L.log log.new ≡ advanced L.CHUNK key (L.log log.old)) }
+    ensures err { OnErr result (L.log log.new ≡ L.log log.old) }
+    ensures sure { OnErr result (M.SURE ≡ false) }
+{
+    if let Some(message) = log.take(key) {
+        return Ok(message);
+    }
+    let message = share_first(log, alloc, key)?;
+    log.advance(key);
+    Ok(message)
+}
+
+/// Takes the message at a cursor's place out of the object's log, and moves the cursor past it. If another cursor may still read
+/// that message, it returns an equal one.
+#[inline(always)]
+pub fn take<M: Message, L: MessageLog<M>>(
+    object: &mut Object<M, L>,
+    alloc: Global,
+    key: Key,
+) -> Result<M, AllocError>
     requires stands { IsSome (log_in (map_log L.log object.old)) }
     requires opened { (log : Log M) → log_in (map_log L.log object.old) ≡ Some log → IsOpen log key }
     requires owed { (log : Log M) → log_in (map_log L.log object.old) ≡ Some log → 0 < length (owed_items log key) }
-    ensures { map_log L.log object.new ≡ map_log (advanced L.CHUNK key) (map_log L.log object.old) }
+    ensures first { IfOk result (λ message. (log : Log M) → log_in (map_log L.log object.old) ≡ Some log
+        → slice_get (owed_items log key) 0 ≡ Some message) }
+    ensures ok { OnOk result (map_log L.log object.new ≡ map_log (advanced L.CHUNK key) (map_log L.log object.old)) }
+    ensures err { OnErr result (map_log L.log object.new ≡ map_log L.log object.old) }
+    ensures sure { OnErr result (M.SURE ≡ false) }
 {
     match object {
-        Object::Mailbox(log, _) => log.advance(key),
-        Object::Channel(log) => log.advance(key),
+        Object::Mailbox(log, _) => take_first(log, alloc, key),
+        Object::Channel(log) => take_first(log, alloc, key),
         Object::Port(_) | Object::Variable(_, _) => unreachable!(),
     }
 }

@@ -1,20 +1,19 @@
 //! Calls that put a message into a log or take one out of it.
-ghost use Rattle.std.specs.Prelude.{◌≡◌, ◌≢◌, ◌<◌, true, false, [], length, Some, IfOk, OnErr, slice_get};
-ghost use Rattle.cml_log.specs.{IsOpen, owed_items};
+ghost use Rattle.std.specs.Prelude.{◌≡◌, ◌≢◌, true, false, []};
 ghost use Rattle.cml_calls.specs.{is_receiver};
 ghost use Rattle.cml_board.specs.{is_a, owed, is_open, Fits, given_call, asked_call, adds, takes_next, asks_port, ReadsAt, Performs};
 ghost use Rattle.cml_board.specs.{HasRoom, given_response};
 
 use super::Board;
 use super::note::{denied, note};
-use super::objects::{advance_at, push_at};
+use super::objects::{push_at, take_at};
 use crate::call::{Call, Name};
 use crate::entry::{Entry, Reply, Who};
 use crate::message::Message;
+use crate::object::share_first;
 use crate::outcome::Response;
 use cml_calls::{Ask, Give};
 use cml_log::{Key, MessageLog};
-use std::alloc::{AllocError, Global};
 
 impl<M: Message, L: MessageLog<M>> Board<M, L> {
     /// Sends a message to a mailbox, or multicasts it on a channel. The answer is `Done`. Returns the message if it fails for
@@ -128,16 +127,15 @@ impl<M: Message, L: MessageLog<M>> Board<M, L> {
         ensures { Performs L.CHUNK M.SURE self.old self.new who (asked_call ask name) result }
     {
         let call = Call::ask(ask, name);
-        let Ok(message) = share_first(self.log(source), self.alloc, key) else {
-            return denied(call);
-        };
-        let Ok(noted) = message.share(self.alloc) else {
+        let Ok(noted) = share_first(self.log(source), self.alloc, key) else {
             return denied(call);
         };
         let Ok(()) = self.journal.reserve(1) else {
             return denied(call);
         };
-        advance_at(&mut self.objects, source, key);
+        let Ok(message) = take_at(&mut self.objects, self.alloc, source, key) else {
+            return denied(call);
+        };
         let entry = Entry {
             who,
             call,
@@ -145,22 +143,5 @@ impl<M: Message, L: MessageLog<M>> Board<M, L> {
         };
         note(&mut self.journal, entry);
         Response::Reply(Reply::Got(message))
-    }
-}
-
-/// A message equal to the one at a cursor's place.
-fn share_first<M: Message, L: MessageLog<M>>(
-    log: &L,
-    alloc: Global,
-    key: Key,
-) -> Result<M, AllocError>
-    requires opened { IsOpen (L.log log.now) key }
-    requires owed { 0 < length (owed_items (L.log log.now) key) }
-    ensures copy { IfOk result (λ copy. slice_get (owed_items (L.log log.now) key) 0 ≡ Some copy) }
-    ensures sure { OnErr result (M.SURE ≡ false) }
-{
-    match log.peek(key) {
-        Some(message) => message.share(alloc),
-        None => unreachable!(),
     }
 }

@@ -1,13 +1,14 @@
 //! What a call does to the objects of a board, by their names.
-ghost use Rattle.std.specs.Prelude.{◌≡◌, ◌-◌, ◌%◌, ◌<◌, ◌≤◌, ◌++◌, ◌∷◌, [], Some, OnOk, OnErr};
+ghost use Rattle.std.specs.Prelude.{◌≡◌, ◌-◌, ◌%◌, ◌<◌, ◌≤◌, ◌++◌, ◌∷◌, [], false, Some, OnOk, OnErr, IfOk, slice_get};
 ghost use Rattle.cml_log.specs.Log.{Log};
-ghost use Rattle.cml_log.specs.{empty_log, next_of, place_of};
+ghost use Rattle.cml_log.specs.{empty_log, next_of, owed_items, place_of};
 ghost use Rattle.cml_board.specs.declared.object.Object.TheVariants.{Channel, Variable};
 ghost use Rattle.cml_board.specs.{HasSource, AddsMade, seen_all, log_at, on_log, pushed, advanced, HasLog, HasRoomAt, HasCursor, HasOwed};
 ghost use Rattle.cml_board.specs.{HasPort, HasVariable, AddsMailbox, AddsPort, ClosesPort, SetsHeld};
 
 use super::note::Making;
 use crate::call::Name;
+use crate::message::Message;
 use crate::object::{self, Form, Object, Port, Reading};
 use cml_log::{Back, Key, MessageLog};
 use std::alloc::{AllocError, Global};
@@ -36,13 +37,23 @@ pub fn push_at<M, L: MessageLog<M>>(
     object::push(&mut objects[name.0 as usize], message)
 }
 
-/// Moves a log's cursor past the message at its place.
+/// Takes the message at a cursor's place out of a log, and moves the cursor past it.
 #[inline(always)]
-pub fn advance_at<M, L: MessageLog<M>>(objects: &mut Vec<Object<M, L>>, name: Name, key: Key)
+pub fn take_at<M: Message, L: MessageLog<M>>(
+    objects: &mut Vec<Object<M, L>>,
+    alloc: Global,
+    name: Name,
+    key: Key,
+) -> Result<M, AllocError>
     requires { HasOwed (seen_all L.log objects.old.items) name.0 key }
-    ensures { seen_all L.log objects.new.items ≡ on_log (advanced L.CHUNK key) (seen_all L.log objects.old.items) name.0 }
+    ensures first { IfOk result (λ message. (log : Log M) → log_at (seen_all L.log objects.old.items) name.0 ≡ Some log
+        → slice_get (owed_items log key) 0 ≡ Some message) }
+    ensures ok { OnOk result
+        (seen_all L.log objects.new.items ≡ on_log (advanced L.CHUNK key) (seen_all L.log objects.old.items) name.0) }
+    ensures err { OnErr result (seen_all L.log objects.new.items ≡ seen_all L.log objects.old.items) }
+    ensures sure { OnErr result (M.SURE ≡ false) }
 {
-    object::advance(&mut objects[name.0 as usize], key)
+    object::take(&mut objects[name.0 as usize], alloc, key)
 }
 
 fn add_mailbox<M, L: MessageLog<M>>(

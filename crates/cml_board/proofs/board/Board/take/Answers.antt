@@ -1,8 +1,9 @@
-use Rattle.std.proofs.Common.{refl, sym, ap, ◌∙◌, reverse, Some, arith, ◌++◌}
+use Rattle.std.proofs.Common.{refl, sym, ap, ◌∙◌, reverse, arith, ◌++◌}
+use Rattle.std.proofs.lemmas.Option.{same_Some}
 use Rattle.cml_board.specs.declared.entry.Reply.TheVariants.{Got}
-use Rattle.cml_board.specs.{asked_call, owed, HasOwed, seen_all, ReadsAt}
+use Rattle.cml_board.specs.{asked_call, log_at, owed, HasOwed, seen_all, ReadsAt}
 use Rattle.cml_board.specs.Shown.{Shown}
-use Rattle.cml_board.proofs.NotingLemmas.{keeps_call, as_before, inside, adds_entry, unchanged, lacks}
+use Rattle.cml_board.proofs.NotingLemmas.{keeps_call, keeps_same, as_before, inside, adds_entry, unchanged, lacks}
 use Rattle.cml_board.proofs.AnsweringLemmas.{answer_taken, some_owed, fits_taking}
 use Rattle.cml_board.proofs.LookingLemmas.{reads_owed, first_owed}
 use Rattle.cml_board.proofs.SteppingLemmas.{step_taken}
@@ -19,16 +20,6 @@ returns-in_default g c =
     (answer_takes c.args.self.now (asked_call c.args.ask c.args.name) some.0 answers c.in_default.ensures.sure)
     (unchanged c.args.self.now)
 
-pub returns-in_default-share : goal.returns-in_default-share
-returns-in_default-share g c =
-    let some = some_owed (owed c.args.self.now.history c.args.name.0) c.requires.owed in
-    let answers = answer_taken c.args.self.now.history c.args.ask c.args.name some.0 c.requires.takes c.requires.reads.opened some.1 in
-    lacks g.L.MessageLog.CHUNK g.M.Message.SURE c.args.self.now _ c.args.who (asked_call c.args.ask c.args.name) (Got some.0)
-    c.denied-in_default-share.result (c.ask-call.result) c.denied-in_default-share.ensures c.ask-call.ensures
-    (answers)
-    (answer_takes c.args.self.now (asked_call c.args.ask c.args.name) some.0 answers c.in_default-share.ensures.sure)
-    (unchanged c.args.self.now)
-
 pub returns-in_default-reserve : goal.returns-in_default-reserve
 returns-in_default-reserve g c =
     let some = some_owed (owed c.args.self.now.history c.args.name.0) c.requires.owed in
@@ -39,8 +30,23 @@ returns-in_default-reserve g c =
     (no_room (asked_call c.args.ask c.args.name) c.self.view_is (omega (arith, c.in_default-reserve.ensures.full)))
     (as_before c.self.view_is c.in_default-reserve.ensures.items refl (omega (arith, c.reserve.ensures.len, c.reserve.ensures.capacity)))
 
-pub advance_at-requires : goal.advance_at-requires
-advance_at-requires g c =
+pub invariant_of-self-in_default-take_at : goal.invariant_of-self-in_default-take_at
+invariant_of-self-in_default-take_at g c =
+    keeps_same g.L.MessageLog.CHUNK _ _ _ _ _ c.self.invariant c.reserve.ensures.items c.in_default-take_at.ensures.err
+
+pub returns-in_default-take_at : goal.returns-in_default-take_at
+returns-in_default-take_at g c =
+    let some = some_owed (owed c.args.self.now.history c.args.name.0) c.requires.owed in
+    let answers = answer_taken c.args.self.now.history c.args.ask c.args.name some.0 c.requires.takes c.requires.reads.opened some.1 in
+    lacks g.L.MessageLog.CHUNK g.M.Message.SURE c.args.self.now _ c.args.who (asked_call c.args.ask c.args.name) (Got some.0)
+    c.denied-in_default-take_at.result (c.ask-call.result) c.denied-in_default-take_at.ensures c.ask-call.ensures
+    (answers)
+    (answer_takes c.args.self.now (asked_call c.args.ask c.args.name) some.0 answers c.in_default-take_at.ensures.sure)
+    (as_before c.self.view_is c.reserve.ensures.items c.in_default-take_at.ensures.err
+    (omega (arith, c.reserve.ensures.len, c.reserve.ensures.capacity)))
+
+pub take_at-requires : goal.take_at-requires
+take_at-requires g c =
     inside (λ (b : Shown g.row.M.Denot). HasOwed b.objects c.args.source.0 c.args.key) c.self.view_is
     (reads_owed c.args.self.now c.args.name.0 c.args.source.0 c.args.key c.requires.reads c.requires.owed)
 
@@ -50,16 +56,16 @@ invariant_of-self-2 g c =
     let h = c.args.self.now.history in
     let call = asked_call c.args.ask c.args.name in
     let first = first_owed c.args.self.now c.args.name.0 c.args.source.0 c.args.key (g.L.MessageLog.log c.log.result.now)
-    c.in-Ok-share.noted c.requires.reads c.log.ensures (c.in-Ok.ensures.copy ∙ ap Some (sym c.in-Ok-share.ensures.copy)) in
+    c.in-Ok.noted c.requires.reads c.log.ensures c.in-Ok.ensures.copy in
     let reads = inside (λ (b : Shown g.row.M.Denot). ReadsAt b c.args.name.0 c.args.source.0 c.args.key) c.self.view_is c.requires.reads in
     let owes = inside (λ (b : Shown g.row.M.Denot). HasOwed b.objects c.args.source.0 c.args.key) c.self.view_is
     (reads_owed c.args.self.now c.args.name.0 c.args.source.0 c.args.key c.requires.reads c.requires.owed) in
-    keeps_call chunk c.args.who call c.ask-call.result (Got c.in-Ok-share.noted)
-    (Got c.in-Ok-share.noted) c.self.view_is c.self.invariant c.note.ensures.entries c.reserve.ensures.items
+    keeps_call chunk c.args.who call c.ask-call.result (Got c.in-Ok.noted)
+    (Got c.in-Ok.noted) c.self.view_is c.self.invariant c.note.ensures.entries c.reserve.ensures.items
     c.ask-call.ensures refl c.requires.room (fits_taking h c.args.ask c.args.name c.requires.takes c.requires.reads.receiver)
-    (answer_taken h c.args.ask c.args.name c.in-Ok-share.noted c.requires.takes c.requires.reads.opened first)
-    (λ lawful shows. rw c.advance_at.ensures
-    (step_taken chunk c.args.who c.args.ask c.args.name c.in-Ok-share.noted (reverse c.self.inside.journal.items ++ c.self.inside.past)
+    (answer_taken h c.args.ask c.args.name c.in-Ok.noted c.requires.takes c.requires.reads.opened first)
+    (λ lawful shows. rw c.in-Ok-take_at.ensures.ok
+    (step_taken chunk c.args.who c.args.ask c.args.name c.in-Ok.noted (reverse c.self.inside.journal.items ++ c.self.inside.past)
     (seen_all g.L.MessageLog.log c.self.inside.objects.items) c.args.source.0 c.args.key c.requires.takes shows reads.reads owes))
 
 pub returns : goal.returns
@@ -67,10 +73,13 @@ returns g c =
     let h = c.args.self.now.history in
     let call = asked_call c.args.ask c.args.name in
     let log = g.L.MessageLog.log c.log.result.now in
-    let first = first_owed c.args.self.now c.args.name.0 c.args.source.0 c.args.key log c.in-Ok.message c.requires.reads
-    c.log.ensures c.in-Ok.ensures.copy in (
-      answer_taken h c.args.ask c.args.name c.in-Ok.message c.requires.takes c.requires.reads.opened first,
-      adds_entry c.args.who call c.ask-call.result (Got c.in-Ok-share.noted)
-          (Got c.in-Ok.message) c.self.view_is c.note.ensures.entries c.reserve.ensures.items c.ask-call.ensures
-          (ap Got c.in-Ok-share.ensures.copy) (omega (arith, c.reserve.ensures.len, c.reserve.ensures.capacity, c.note.ensures.spare)),
+    let there = ap (λ (b : Shown g.row.M.Denot). log_at b.objects c.args.source.0) c.self.view_is ∙ c.log.ensures in
+    let is = c.in-Ok-take_at.ensures.first log there in
+    let first = first_owed c.args.self.now c.args.name.0 c.args.source.0 c.args.key log c.in-Ok-take_at.message c.requires.reads
+    c.log.ensures is in (
+      answer_taken h c.args.ask c.args.name c.in-Ok-take_at.message c.requires.takes c.requires.reads.opened first,
+      adds_entry c.args.who call c.ask-call.result (Got c.in-Ok.noted)
+          (Got c.in-Ok-take_at.message) c.self.view_is c.note.ensures.entries c.reserve.ensures.items c.ask-call.ensures
+          (ap Got (same_Some c.in-Ok.noted c.in-Ok-take_at.message (sym c.in-Ok.ensures.copy ∙ is)))
+          (omega (arith, c.reserve.ensures.len, c.reserve.ensures.capacity, c.note.ensures.spare)),
     )
