@@ -1,6 +1,6 @@
 /* What a message costs from C, on one thread and without a lock: `speed [MESSAGES [ROUNDS]]`. A seat sends it and receives it, again
  * and again. Beside it a ring and a journal by hand, whose entries have as many bytes as those of a room of numbers. Both cut the
- * journal behind each 10,000 messages. A line has the workload, the way, and the median of the rounds in nanoseconds a
+ * journal after each 10,000 messages. A line has the workload, the way, and the median of the rounds in nanoseconds a
  * message, two spaces apart at least. All come in turn in each round. */
 #include "checks.h"
 

@@ -20,7 +20,7 @@ const SPINS: u32 = 5;
 /// In so many waits a thread doesn't look, at the most. With 64 two threads that answer each other slept now and then.
 const MOST_WITHOUT: u16 = 16;
 
-/// A thread that waits looks at a state. It looks again behind each of `SPINS` spins, and then behind each of `YIELDS` yields, or of as
+/// A thread that waits looks at a state. It looks again after each of `SPINS` spins, and then after each of `YIELDS` yields, or of as
 /// many spins if it has a time limit. Once it has looked in vain, it doesn't look in its next waits: in one, and then in twice as many each time. For that thread alone.
 pub(crate) struct Backoff<const YIELDS: u32> {
     without: AtomicU16,
@@ -85,7 +85,7 @@ pub(crate) fn look<T>(pauses: u32, spins: u32, pass: Pass, passes: u32, mut see:
     None
 }
 
-/// Spins in place of a yield. A thread that has a time limit does so: on a busy machine a yield may end long behind the limit.
+/// Spins in place of a yield. A thread that has a time limit does so: on a busy machine a yield may end long after the limit.
 pub(crate) fn pass_by_spinning() -> bool {
     spin(64);
     true

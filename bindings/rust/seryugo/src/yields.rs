@@ -9,7 +9,7 @@ use std::time::{Duration, Instant};
 /// A yield that takes longer has let another thread compute for a whole time slice. Threads that only call and look take less, even if
 /// many take their turns.
 const LONG: Duration = Duration::from_millis(1);
-/// Behind a long yield no thread yields for so many times as long. So long yields take a small part of the time.
+/// After a long yield no thread yields for so many times as long. So long yields take a small part of the time.
 const REST: u32 = 16;
 
 /// What the threads of this process know of yields.
@@ -67,7 +67,7 @@ mod tests {
     use super::*;
 
     #[test]
-    fn behind_a_long_yield_none_is_made_for_a_while() {
+    fn after_a_long_yield_none_is_made_for_a_while() {
         let yields = Yields::new();
         let at = Duration::from_millis;
         let are_short = |ms| yields.are_short_at(|| at(ms));

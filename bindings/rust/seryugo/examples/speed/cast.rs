@@ -18,7 +18,7 @@ const WHO: Who = Who::Seat(0);
 /// The number under which the journal names the channel. Its ports have the next ones.
 const CHANNEL: u64 = 0;
 
-/// One list of messages, from the first that a port still has to receive, and the place of each port behind that.
+/// One list of messages, from the first that a port still has to receive, and the place of each port after that.
 struct Channel<M> {
     messages: VecDeque<M>,
     places: [usize; PORTS],

@@ -32,7 +32,7 @@ fn main() {
     measure_all(|_| Vec::new());
 }
 
-/// Measures each workload, with more ways of it behind those of the library and of the standard library.
+/// Measures each workload, with more ways of it after those of the library and of the standard library.
 pub fn measure_all(more: fn(&str) -> Vec<Way>) {
     let asked = measure::Asked::by_words();
     let many = asked.messages;

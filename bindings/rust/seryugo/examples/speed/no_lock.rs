@@ -120,12 +120,12 @@ pub fn copies() -> impl Fn(u64) -> Arc<[u8]> {
     }
 }
 
-/// The sum with another number behind it.
+/// The sum with another number after it.
 pub fn with_number(sum: u64, number: u64) -> u64 {
     sum.wrapping_mul(31).wrapping_add(number)
 }
 
-/// The sum with the first and the last byte behind it.
+/// The sum with the first and the last byte after it.
 pub fn with_ends(sum: u64, bytes: Arc<[u8]>) -> u64 {
     with_number(with_number(sum, bytes[0].into()), bytes[LENGTH - 1].into())
 }
