@@ -21,7 +21,8 @@ const SPINS: u32 = 5;
 const MOST_WITHOUT: u16 = 16;
 
 /// A thread that waits looks at a state. It looks again after each of `SPINS` spins, and then after each of `YIELDS` yields, or of as
-/// many spins if it has a time limit. Once it has looked in vain, it doesn't look in its next waits: in one, and then in twice as many each time. For that thread alone.
+/// many spins if it has a time limit. Once it has looked in vain, it doesn't look in its next waits: in one, and then in twice as
+/// many each time. For that thread alone.
 pub(crate) struct Backoff<const YIELDS: u32> {
     without: AtomicU16,
     left: AtomicU16,
