@@ -6,7 +6,8 @@ use Rattle.std.specs.Option.{option_map, option_map_or}
 use Rattle.std.proofs.lemmas.Bool.{false≢true, cases_lt}
 use Rattle.std.proofs.lemmas.Option.{same_Some, none-some}
 use Rattle.cml_board.proofs.SuitingLemmas.{answer_suits}
-use Rattle.cml_board.specs.{only_if, held, Fits, answer, is_open, kind_of, owed, received, given, Call, Entry, Reply, entries_in, outcome_of}
+use Rattle.cml_board.specs.{only_if, held, Fits, answer, is_open, kind_of, owed, received, given, Call, Entry, Reply}
+use Rattle.cml_board.specs.{entries_in, outcome_of}
 use Rattle.cml_board.specs.declared.outcome.Response.{Response}
 use Rattle.cml_board.specs.declared.call.Call.TheVariants.{Recv, Poll, Get, GetPoll, Take, TakePoll, Swap}
 use Rattle.cml_board.specs.declared.entry.Reply.TheVariants.{Got, Nothing, Closed}
