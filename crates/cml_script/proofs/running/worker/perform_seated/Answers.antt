@@ -50,7 +50,7 @@ returns-clause-way g c =
     closed_before script seat step _ c.close_before.new.course made c.requires.at.way told.made told.course in
     let seated = ap is_by_ring (turn_goes script seat step turn route.Seat c.requires.called) in
     let bound = c.bind.ensures ∙ ap₂ (λ a r. with_binding c.close_before.new.course.bindings.items c.given-given.result (bound_by a r))
-    (c.call-3.ensures ∙ c.in_ok-answer.ensures.call) c.reply.ensures in
+    (c.call-2.ensures ∙ c.in_ok-answer.ensures.call) c.reply.ensures in
     more_made script seat (omega arith) step under c.requires.at.known turn c.in-Ok.call c.in_ok-answer.answer.reply c.given-given.result
     _ _ seated c.in_ok-answer.ensures.reply
     (λ history long is. c.in-Ok.ensures history (long ∙ ap (λ (k : Course). k.made) told.course)
