@@ -16,6 +16,13 @@ pub trait Message: Drop + Sized {
     /// Says whether two messages are equal.
     fn same(&self, other: &Self) -> bool
         ensures { IsTrue result ↔ (self.now ≡ other.now) };
+
+    /// Says whether a receive moves the message out of its log, where no other reader needs it. Otherwise it shares the message.
+    /// To share is faster only for a type that owns no memory, such as a number.
+    #[inline(always)]
+    fn owns_memory() -> bool {
+        true
+    }
 }
 
 impl Message for u64 {
@@ -27,6 +34,11 @@ impl Message for u64 {
 
     fn same(&self, other: &u64) -> bool {
         *self == *other
+    }
+
+    #[inline(always)]
+    fn owns_memory() -> bool {
+        false
     }
 }
 

@@ -116,7 +116,8 @@ pub fn share_first<M: Message, L: MessageLog<M>>(
     }
 }
 
-// Moves the message at a cursor's place out of a log. If the log doesn't part with it, shares it and moves the cursor past it.
+// Moves the message at a cursor's place out of a log. If it owns no memory, or the log doesn't part with it, shares it and moves the
+// cursor past it.
 #[inline(always)]
 fn take_first<M: Message, L: MessageLog<M>>(
     log: &mut L,
@@ -130,7 +131,9 @@ fn take_first<M: Message, L: MessageLog<M>>(
     ensures err { OnErr result (L.log log.new ≡ L.log log.old) }
     ensures sure { OnErr result (M.SURE ≡ false) }
 {
-    if let Some(message) = log.take(key) {
+    if M::owns_memory()
+        && let Some(message) = log.take(key)
+    {
         return Ok(message);
     }
     let message = share_first(log, alloc, key)?;

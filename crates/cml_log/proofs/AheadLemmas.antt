@@ -6,7 +6,8 @@ use Rattle.std.proofs.lemmas.Bool.{cases_eq, cases_lt, lt-ltb, eq-eqb}
 use Rattle.std.proofs.lemmas.Nat.{le-div}
 use Rattle.std.proofs.lemmas.List.{get_or-set_same, get_or-set_other, get_or_past, length-set}
 use denote.RawPtr.{Ptr}
-use Rattle.cml_log.specs.{Cursor, place_at, Chunks, count_at, end_of, is_idle, with_count, Pushed, Passed, cursor_at, place_in, HoldsChunk, IsHeld}
+use Rattle.cml_log.specs.{Cursor, place_at, Chunks, count_at, end_of, is_idle, with_count, Pushed, Passed, cursor_at, place_in}
+use Rattle.cml_log.specs.{HoldsChunk, IsHeld}
 use Rattle.cml_log.specs.{IsAhead, IsTrim, log_of}
 use Rattle.cml_log.proofs.StandingLemmas.{standing-lt, sole_key, weight-elsewhere}
 use Rattle.cml_log.proofs.CursorsLemmas.{place_shows, cursor_under, end_of-pushed}
@@ -17,10 +18,12 @@ set_or_old : (slots : List (Option Cursor)) (key : ℕ) (slot : Option Cursor) (
     → (place_in slot ≡ Some place) ⊎ ((other ≢ key) × (get_or (map place_in slots) other None ≡ Some place))
 set_or_old slots key slot other place found = elim (cases_eq other key) [
   | inl equal ↦ elim (cases_lt key (length slots)) [
-    | inl inside ↦ inl (ap place_in (sym (get_or-set_same slots key slot None inside)) ∙ ap (λ k. place_in (cursor_at (set slots key slot) k)) (sym equal) ∙ shown)
+    | inl inside ↦ inl (ap place_in (sym (get_or-set_same slots key slot None inside))
+        ∙ ap (λ k. place_in (cursor_at (set slots key slot) k)) (sym equal) ∙ shown)
     | inr past ↦ absurd (let none : cursor_at (set slots key slot) key ≡ None = get_or_past (set slots key slot) key None
         (omega (arith, past, length-set slots key slot)) in
-        let some : place_in (cursor_at (set slots key slot) key) ≡ Some place = ap (λ k. place_in (cursor_at (set slots key slot) k)) (sym equal) ∙ shown in
+        let some : place_in (cursor_at (set slots key slot) key) ≡ Some place =
+        ap (λ k. place_in (cursor_at (set slots key slot) k)) (sym equal) ∙ shown in
         let never : None ≡ Some place = sym (ap place_in none) ∙ some in cc)
   ]
   | inr differs ↦ inr (differs, place_shows slots other ∙ ap place_in (sym (get_or-set_other slots key other slot None differs)) ∙ shown)
@@ -182,7 +185,8 @@ module _ {T : Type 0} (n : ℕ) where
 
         -- once its item was moved out and it went on, it is ahead of that too
         pub IsAhead-taken : cursor.place + 1 ≤ end_of n c
-            → IsAhead n (record c { taken = cursor.place % n + 1 }) (set slots key (Some (record { at = cursor.at; place = cursor.place + 1 })))
+            → IsAhead n (record c { taken = cursor.place % n + 1 })
+            (set slots key (Some (record { at = cursor.at; place = cursor.place + 1 })))
         IsAhead-taken below =
             record {
               part = omega (arith, place_is, below);

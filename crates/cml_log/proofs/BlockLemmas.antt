@@ -101,7 +101,8 @@ module _ {T : Type 0} {N : ℕ} where
       → items_of (set kept number None) ≡ drop (length block.1.row.items) (items_of kept)
   items_of-passed [] number block gone found = absurd (cc)
   items_of-passed (here ∷ rest) zero block gone found =
-      sym (drop-append_seam block.1.row.items (items_of rest)) ∙ ap (λ b. drop (length block.1.row.items) (row_of b ++ items_of rest)) (sym found)
+      sym (drop-append_seam block.1.row.items (items_of rest))
+      ∙ ap (λ b. drop (length block.1.row.items) (row_of b ++ items_of rest)) (sym found)
   items_of-passed (here ∷ rest) (suc number) block gone found =
       let none : here ≡ None = gone 0 (omega arith) in
       let below = items_of-passed rest number block (λ before low. gone (suc before) (omega (arith, low))) found in

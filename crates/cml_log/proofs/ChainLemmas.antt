@@ -522,8 +522,8 @@ module _ {T : Type 0} {N : ℕ} where
 
         size : {n : ℕ} → length (take N (items_of kept)) ≡ n → length (row_at kept head.number) ≡ n
         size long =
-            ap length (chain.linked.rows head.number (omega arith)) ∙ ap (λ n. length (take N (drop n (items_of kept)))) (nothing head.number)
-            ∙ long
+            ap length (chain.linked.rows head.number (omega arith))
+            ∙ ap (λ n. length (take N (drop n (items_of kept)))) (nothing head.number) ∙ long
 
     -- where the head is the tail, nothing is kept without it
     pub gone_with_head : tail.number ≤ head.number → (number : ℕ) → block_at (set kept head.number None) number ≡ None

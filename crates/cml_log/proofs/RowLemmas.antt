@@ -90,8 +90,10 @@ module _ {T : Type 0} where
     reach-next = ap (λ n. reach (set places n (Full item))) next ∙ reach-first places item
 
     pub IsRow-next : IsRow count (set places slot (Full item))
-    IsRow-next =
-        (length-set places slot (Full item) ∙ row.0, subst (λ n. IsFilled (set places n (Full item))) (sym next) (IsFilled-first places item row.1))
+    IsRow-next = (
+      length-set places slot (Full item) ∙ row.0,
+      subst (λ n. IsFilled (set places n (Full item))) (sym next) (IsFilled-first places item row.1),
+    )
 
   -- an item that was written and not moved out is in its slot
   slot_blank : (places : List (Slot T)) (slot : ℕ) → IsBlank places → get_or places slot Empty ≡ Empty

@@ -16,8 +16,8 @@ pub use PlainLog.{IsSound, chunk_of}
 pub use Blocks.{IsBare, IsKept, block_at, block_lent, block_owns, blocks_lent, blocks_own, fits, heap, right_owns, token}
 pub use Lends.{with_content}
 pub use Row.{IsBlank, IsFilled, IsRow, Written, past, reach, unwritten, written}
-pub use Contents.{KeepsCounts, Rewrites, cell_of, items_of, link_at, link_of, row_at, row_of, taken_at, taken_of, with_cursors, with_link, with_row}
-pub use Contents.{with_taken}
+pub use Contents.{KeepsCounts, Rewrites, cell_of, items_of, link_at, link_of, row_at, row_of, taken_at, taken_of}
+pub use Contents.{with_cursors, with_link, with_row, with_taken}
 pub use Chain.{Chunks, LiesAt, Passed, Pushed, cell_at, count_at, count_of, end_of, is_idle, passed, with_count}
 pub use Linked.{IsChain, IsLinked}
 pub use ChunkLog.{HoldsChunk, IsAhead, IsHeld, IsTrim, IsWhole, cursor_at, log_of, place_in, standing, weight}

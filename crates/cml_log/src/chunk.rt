@@ -1,5 +1,6 @@
 //! The chunks of a log in their blocks. This file has every call that reads or changes a chunk.
-ghost use Rattle.std.specs.Prelude.{◌≡◌, ◌+◌, ◌<◌, ◌≤◌, [], ◌∷◌, ◌++◌, Some, None, length, option_copied, slice_get, slice_set, IfOk, OnErr};
+ghost use Rattle.std.specs.Prelude.{◌≡◌, ◌+◌, ◌<◌, ◌≤◌, [], ◌∷◌, ◌++◌, Some, None, length, IfOk, OnErr};
+ghost use Rattle.std.specs.Prelude.{option_copied, slice_get, slice_set};
 ghost use Rattle.cml_log.specs.{block_at, IsKept, IsBare, row_at, link_at, cell_of, KeepsCounts, Rewrites, with_row, with_link};
 ghost use Rattle.cml_log.specs.{with_cursors, with_taken, taken_at, unwritten};
 

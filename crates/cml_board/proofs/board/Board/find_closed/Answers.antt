@@ -30,6 +30,7 @@ pub returns : goal.returns
 returns g c =
     let call = asked_call c.args.ask c.args.name in (
       answer_closed c.args.self.now.history c.args.ask c.args.name c.requires.asks c.requires.closed,
-      adds_entry c.args.who call c.ask-call.result Closed Closed c.self.view_is c.note.ensures.entries c.reserve.ensures.items c.ask-call.ensures refl
+      adds_entry c.args.who call c.ask-call.result Closed Closed c.self.view_is c.note.ensures.entries c.reserve.ensures.items
+          c.ask-call.ensures refl
           (omega (arith, c.reserve.ensures.len, c.reserve.ensures.capacity, c.note.ensures.spare)),
     )

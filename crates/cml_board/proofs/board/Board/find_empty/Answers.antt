@@ -32,6 +32,6 @@ pub returns : goal.returns
 returns g c =
     let asked = asked_call c.args.ask c.args.name in (
       answer_empty c.args.self.now.history c.args.ask c.args.name c.requires.reads c.requires.polls c.requires.empty,
-      adds_entry c.args.who asked c.ask-call.result Nothing Nothing c.self.view_is c.note.ensures.entries c.reserve.ensures.items c.ask-call.ensures
-          refl (omega (arith, c.reserve.ensures.len, c.reserve.ensures.capacity, c.note.ensures.spare)),
+      adds_entry c.args.who asked c.ask-call.result Nothing Nothing c.self.view_is c.note.ensures.entries c.reserve.ensures.items
+          c.ask-call.ensures refl (omega (arith, c.reserve.ensures.len, c.reserve.ensures.capacity, c.note.ensures.spare)),
     )

@@ -13,8 +13,8 @@ item-requires g c =
       (
         there,
         left_there c.self.inside.chunks.blocks.kept c.self.inside.head c.self.inside.tail c.self.inside.next
-            c.self.inside.chunks.made.count c.self.inside.chunks.given.count c.self.invariant c.args.at.number c.args.at.at c.args.slot there
-            (subst (λ m. g.row.N * m.given + m.taken ≤ g.row.N * c.args.at.number + c.args.slot) (sym c.self.view_is) c.requires.left),
+            c.self.inside.chunks.made.count c.self.inside.chunks.given.count c.self.invariant c.args.at.number c.args.at.at c.args.slot
+            there (subst (λ m. g.row.N * m.given + m.taken ≤ g.row.N * c.args.at.number + c.args.slot) (sym c.self.view_is) c.requires.left),
       ),
     )
 

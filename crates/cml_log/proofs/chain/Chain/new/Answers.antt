@@ -15,7 +15,8 @@ pub returns : goal.returns
 returns g c =
     let begun = c.in_ok-chunks.ensures in
     let made = c.in-Ok.ensures in
-    let kept = made.kept ∙ ap (λ blocks. blocks ++ Some (c.in-Ok.head.at, record { row = unwritten; link = None; cursors = 0 }) ∷ []) begun.kept in
+    let kept = made.kept
+    ∙ ap (λ blocks. blocks ++ Some (c.in-Ok.head.at, record { row = unwritten; link = None; cursors = 0 }) ∷ []) begun.kept in
     record {
       given = made.counted.1 ∙ begun.counts.1;
       items = ap items_of kept;

@@ -33,8 +33,8 @@ invariant_of-self g c =
           c.pass_idle.ensures.passed
           (subst (λ m. IsAhead g.row.N m c.remove-cursor.new.self.slots) (sym c.leave.ensures)
           (subst (IsAhead g.row.N _) (sym c.remove-cursor.ensures.slots)
-          (IsAhead-recounted g.row.N c.self.inside.chain (set c.self.inside.cursors.slots c.k.inside.0 None) c.remove-cursor.result.at.number
-          c.remove-cursor.result.at.at _
+          (IsAhead-recounted g.row.N c.self.inside.chain (set c.self.inside.cursors.slots c.k.inside.0 None)
+          c.remove-cursor.result.at.number c.remove-cursor.result.at.at _
           (IsAhead-closed g.row.N c.self.inside.chain c.self.inside.cursors.slots c.k.inside.0 c.self.invariant.is_ahead))));
     }
 

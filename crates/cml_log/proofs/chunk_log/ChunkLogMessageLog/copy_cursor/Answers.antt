@@ -23,8 +23,8 @@ pub invariant_of-self-2 : goal.invariant_of-self-2
 invariant_of-self-2 g c =
     let slots : c.reserve.new.self.slots ≡ c.self.inside.cursors.slots = ap (λ s. s.slots) c.reserve.ensures.rest_kept in
     record {
-      is_trim = opened_trim g.row.N c.self.inside.chain c.self.inside.cursors.slots c.self.invariant.is_trim c.insert_reserved.new.self.slots
-          c.insert_reserved.result (c.index-original.result.now) c.enter.new.self
+      is_trim = opened_trim g.row.N c.self.inside.chain c.self.inside.cursors.slots c.self.invariant.is_trim
+          c.insert_reserved.new.self.slots c.insert_reserved.result (c.index-original.result.now) c.enter.new.self
           (c.self.invariant.is_trim.is_held.held c.k.inside.0 c.index-original.result.now c.index-original.ensures)
           (ap (λ s. cursor_at s c.insert_reserved.result) (sym slots) ∙ c.insert_reserved.ensures.was_vacant)
           c.insert_reserved.ensures.updates.changed

@@ -19,8 +19,8 @@ pub invariant_of-self-2 : goal.invariant_of-self-2
 invariant_of-self-2 g c =
     let slots : c.reserve.new.self.slots ≡ c.self.inside.cursors.slots = ap (λ s. s.slots) c.reserve.ensures.rest_kept in
     record {
-      is_trim = opened_trim g.row.N c.self.inside.chain c.self.inside.cursors.slots c.self.invariant.is_trim c.insert_reserved.new.self.slots
-          c.insert_reserved.result (record { at = c.end.result; place = c.next.result }) c.enter.new.self
+      is_trim = opened_trim g.row.N c.self.inside.chain c.self.inside.cursors.slots c.self.invariant.is_trim
+          c.insert_reserved.new.self.slots c.insert_reserved.result (record { at = c.end.result; place = c.next.result }) c.enter.new.self
           (end_held g.row.N c.self.inside.chain c.self.inside.cursors.slots c.self.invariant.is_trim
           (record { at = c.end.result; place = c.next.result }) c.end.ensures.number c.end.ensures.lies c.next.ensures)
           (ap (λ s. cursor_at s c.insert_reserved.result) (sym slots) ∙ c.insert_reserved.ensures.was_vacant)
@@ -30,7 +30,8 @@ invariant_of-self-2 g c =
           (IsAhead-recounted g.row.N c.self.inside.chain c.insert_reserved.new.self.slots _ _ _
           (IsAhead-opened g.row.N c.self.inside.chain c.self.inside.cursors.slots c.insert_reserved.new.self.slots c.insert_reserved.result
           (record { at = c.end.result; place = c.next.result }) c.self.invariant.is_ahead
-          (subst (λ p. g.row.N * c.self.inside.chain.given + c.self.inside.chain.taken ≤ p) (sym c.next.ensures) c.self.invariant.is_ahead.part)
+          (subst (λ p. g.row.N * c.self.inside.chain.given + c.self.inside.chain.taken ≤ p) (sym c.next.ensures)
+          c.self.invariant.is_ahead.part)
           c.insert_reserved.ensures.updates.changed
           (λ other differs. c.insert_reserved.ensures.updates.others other differs ∙ ap (λ s. cursor_at s other) slots)));
     }

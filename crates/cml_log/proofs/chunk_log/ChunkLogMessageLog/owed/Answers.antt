@@ -10,7 +10,8 @@ returns g c =
     ap (λ k. place_of (log_of g.row.N c.self.inside.chain c.self.inside.cursors.slots) k) (sym c.k.view_is)
     ∙ place_shown g.row.N c.self.inside.chain c.self.inside.cursors.slots c.k.inside.0 c.index.result.now c.index.ensures in
     let opened = subst (λ m. IsOpen m.log c.args.k) (sym c.self.view_is) c.requires in
-    let tidy = IsTidy-shown g.row.N c.self.inside.chain c.self.inside.cursors.slots c.self.invariant.is_trim.is_held c.self.invariant.is_trim.trim in
+    let tidy = IsTidy-shown g.row.N c.self.inside.chain c.self.inside.cursors.slots c.self.invariant.is_trim.is_held
+    c.self.invariant.is_trim.trim in
     let owed = length-owed_items g.row.N (log_of g.row.N c.self.inside.chain c.self.inside.cursors.slots) c.args.k tidy opened in
     let same : c.next.result - c.index.result.now.place ≡ length
     (owed_items (log_of g.row.N c.self.inside.chain c.self.inside.cursors.slots) c.args.k) = omega (arith, owed, place, c.next.ensures) in

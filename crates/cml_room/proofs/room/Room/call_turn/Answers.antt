@@ -70,7 +70,8 @@ waits g c = record {
 
 pub returns-in-Reply-clause-asks : goal.returns-in-Reply-clause-asks
 returns-in-Reply-clause-asks g c =
-    subst (λ n. Asks g.L.MessageLog.CHUNK g.M.Message.SURE ⊤ c.args.self.now (with_seats c.call.new.self c.finish_turn.new.seats) c.args.seat
+    subst
+    (λ n. Asks g.L.MessageLog.CHUNK g.M.Message.SURE ⊤ c.args.self.now (with_seats c.call.new.self c.finish_turn.new.seats) c.args.seat
     c.args.call (Answered (record { call = c.args.call; reply = c.in-Reply.reply; at = n })))
     (ap (λ (r : RoomShown g.row.M.Denot). entries_in r.board.history) c.self.view_is)
     (c.finish_turn.ensures.asks (answered g (goal.at.returns-in-Reply-clause-asks g c).In-Reply))
@@ -79,19 +80,25 @@ pub returns-in-Reply-clause-turns : goal.returns-in-Reply-clause-turns
 returns-in-Reply-clause-turns g c = c.finish_turn.ensures.turns (answered g (goal.at.returns-in-Reply-clause-turns g c).In-Reply)
 
 pub returns-in-Refused-clause-asks : goal.returns-in-Refused-clause-asks
-returns-in-Refused-clause-asks g c = c.finish_turn-in-Refused.ensures.asks (failed g (goal.at.returns-in-Refused-clause-asks g c).In-Refused)
+returns-in-Refused-clause-asks g c =
+    c.finish_turn-in-Refused.ensures.asks (failed g (goal.at.returns-in-Refused-clause-asks g c).In-Refused)
 
 pub returns-in-Refused-clause-turns : goal.returns-in-Refused-clause-turns
-returns-in-Refused-clause-turns g c = c.finish_turn-in-Refused.ensures.turns (failed g (goal.at.returns-in-Refused-clause-turns g c).In-Refused)
+returns-in-Refused-clause-turns g c =
+    c.finish_turn-in-Refused.ensures.turns (failed g (goal.at.returns-in-Refused-clause-turns g c).In-Refused)
 
 pub returns-then-finish_turn-clause-asks : goal.returns-then-finish_turn-clause-asks
-returns-then-finish_turn-clause-asks g c = c.if-finish_turn.ensures.asks (waits g (goal.at.returns-then-finish_turn-clause-asks g c).After-want)
+returns-then-finish_turn-clause-asks g c =
+    c.if-finish_turn.ensures.asks (waits g (goal.at.returns-then-finish_turn-clause-asks g c).After-want)
 
 pub returns-then-finish_turn-clause-turns : goal.returns-then-finish_turn-clause-turns
-returns-then-finish_turn-clause-turns g c = c.if-finish_turn.ensures.turns (waits g (goal.at.returns-then-finish_turn-clause-turns g c).After-want)
+returns-then-finish_turn-clause-turns g c =
+    c.if-finish_turn.ensures.turns (waits g (goal.at.returns-then-finish_turn-clause-turns g c).After-want)
 
 pub returns-else-finish_turn-clause-asks : goal.returns-else-finish_turn-clause-asks
-returns-else-finish_turn-clause-asks g c = c.if-finish_turn.ensures.asks (waits g (goal.at.returns-else-finish_turn-clause-asks g c).After-want)
+returns-else-finish_turn-clause-asks g c =
+    c.if-finish_turn.ensures.asks (waits g (goal.at.returns-else-finish_turn-clause-asks g c).After-want)
 
 pub returns-else-finish_turn-clause-turns : goal.returns-else-finish_turn-clause-turns
-returns-else-finish_turn-clause-turns g c = c.if-finish_turn.ensures.turns (waits g (goal.at.returns-else-finish_turn-clause-turns g c).After-want)
+returns-else-finish_turn-clause-turns g c =
+    c.if-finish_turn.ensures.turns (waits g (goal.at.returns-else-finish_turn-clause-turns g c).After-want)

@@ -6,7 +6,8 @@ use Rattle.cml_room.proofs.room.Room.take_turn.Goals.{In-Answered, In-Refused, A
 use Rattle.cml_room.proofs.room.Room.take_turn.Goals as goal
 
 -- the turn, where the call was answered, failed, or would wait
-abbrev answered : (g : _) (c : In-Answered g) → TurnEnds g.L.MessageLog.CHUNK g.M.Message.SURE c.apply.new.self c.self.inside.seats c.args.seat
+abbrev answered : (g : _) (c : In-Answered g)
+    → TurnEnds g.L.MessageLog.CHUNK g.M.Message.SURE c.apply.new.self c.self.inside.seats c.args.seat
     (ended.Answered c.news_in-news.result)
 answered g c = record {
   room = c.args.self.now;
@@ -70,19 +71,25 @@ pub returns-in-Answered-clause-turns : goal.returns-in-Answered-clause-turns
 returns-in-Answered-clause-turns g c = c.finish_turn.ensures.turns (answered g (goal.at.returns-in-Answered-clause-turns g c).In-Answered)
 
 pub returns-in-Refused-clause-asks : goal.returns-in-Refused-clause-asks
-returns-in-Refused-clause-asks g c = c.finish_turn-in-Refused.ensures.asks (failed g (goal.at.returns-in-Refused-clause-asks g c).In-Refused)
+returns-in-Refused-clause-asks g c =
+    c.finish_turn-in-Refused.ensures.asks (failed g (goal.at.returns-in-Refused-clause-asks g c).In-Refused)
 
 pub returns-in-Refused-clause-turns : goal.returns-in-Refused-clause-turns
-returns-in-Refused-clause-turns g c = c.finish_turn-in-Refused.ensures.turns (failed g (goal.at.returns-in-Refused-clause-turns g c).In-Refused)
+returns-in-Refused-clause-turns g c =
+    c.finish_turn-in-Refused.ensures.turns (failed g (goal.at.returns-in-Refused-clause-turns g c).In-Refused)
 
 pub returns-then-finish_turn-clause-asks : goal.returns-then-finish_turn-clause-asks
-returns-then-finish_turn-clause-asks g c = c.if-finish_turn.ensures.asks (waits g (goal.at.returns-then-finish_turn-clause-asks g c).After-want)
+returns-then-finish_turn-clause-asks g c =
+    c.if-finish_turn.ensures.asks (waits g (goal.at.returns-then-finish_turn-clause-asks g c).After-want)
 
 pub returns-then-finish_turn-clause-turns : goal.returns-then-finish_turn-clause-turns
-returns-then-finish_turn-clause-turns g c = c.if-finish_turn.ensures.turns (waits g (goal.at.returns-then-finish_turn-clause-turns g c).After-want)
+returns-then-finish_turn-clause-turns g c =
+    c.if-finish_turn.ensures.turns (waits g (goal.at.returns-then-finish_turn-clause-turns g c).After-want)
 
 pub returns-else-finish_turn-clause-asks : goal.returns-else-finish_turn-clause-asks
-returns-else-finish_turn-clause-asks g c = c.if-finish_turn.ensures.asks (waits g (goal.at.returns-else-finish_turn-clause-asks g c).After-want)
+returns-else-finish_turn-clause-asks g c =
+    c.if-finish_turn.ensures.asks (waits g (goal.at.returns-else-finish_turn-clause-asks g c).After-want)
 
 pub returns-else-finish_turn-clause-turns : goal.returns-else-finish_turn-clause-turns
-returns-else-finish_turn-clause-turns g c = c.if-finish_turn.ensures.turns (waits g (goal.at.returns-else-finish_turn-clause-turns g c).After-want)
+returns-else-finish_turn-clause-turns g c =
+    c.if-finish_turn.ensures.turns (waits g (goal.at.returns-else-finish_turn-clause-turns g c).After-want)
