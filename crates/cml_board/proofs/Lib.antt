@@ -42,3 +42,4 @@ pub mod PartsLemmas
 pub mod NumberingLemmas
 pub mod SuitingLemmas
 pub mod RespondingLemmas
+pub mod SharingLemmas

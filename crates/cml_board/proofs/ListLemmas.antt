@@ -1,6 +1,6 @@
 -- The element at a place, after a write and after a push.
-use Rattle.std.proofs.Common.{◌≡◌, ◌≢◌, ℕ, zero, suc, ◌⊎◌, inl, inr, List, [], ◌∷◌, ◌++◌, length, slice_get, slice_set, Some}
-use Rattle.std.proofs.Common.{Result, Ok, Err, OnOk, OnErr, true, false, refl, ap}
+use Rattle.std.proofs.Common.{◌≡◌, ◌≢◌, ℕ, zero, suc, ◌+◌, ◌≤◌, ◌⊎◌, inl, inr, List, [], ◌∷◌, ◌++◌, length, take, drop}
+use Rattle.std.proofs.Common.{slice_get, slice_set, Some, Result, Ok, Err, OnOk, OnErr, true, false, refl, ap, ◌∙◌, arith}
 use Rattle.std.proofs.lemmas.Option.{same_Some, none-some}
 use Rattle.std.proofs.lemmas.Bool.{true≢false, false≢true}
 use Rattle.std.specs.Result.{is_err}
@@ -50,3 +50,26 @@ on_err (Err error) e p = p
 pub on_ok : {X E P : Type 0} (r : Result X E) → is_err r ≡ false → OnOk r P → P
 on_ok (Ok x) e p = p
 on_ok (Err error) e p = absurd (true≢false e)
+
+-- one item more of a list's first
+pub take_next : {X : Type 0} (xs : List X) (i : ℕ) (x : X) → slice_get xs i ≡ Some x → take (i + 1) xs ≡ take i xs ++ x ∷ []
+take_next [] i x is = absurd (none-some x is)
+take_next (y ∷ ys) zero x is = ap (λ z. z ∷ []) (same_Some y x is)
+take_next (y ∷ ys) (suc i) x is =
+    let e : suc i + 1 ≡ suc (i + 1) = omega arith in
+    ap (λ n. take n (y ∷ ys)) e ∙ ap (λ zs. y ∷ zs) (take_next ys i x is)
+
+-- all of a list's items
+pub take_whole : {X : Type 0} (n : ℕ) (xs : List X) → length xs ≤ n → take n xs ≡ xs
+take_whole zero [] within = refl
+take_whole zero (x ∷ xs) within = absurd (omega arith)
+take_whole (suc n) [] within = refl
+take_whole (suc n) (x ∷ xs) within = ap (λ zs. x ∷ zs) (take_whole n xs (omega arith))
+
+-- an item behind the first
+pub slice_get_drop : {X : Type 0} (n i : ℕ) (xs : List X) → slice_get (drop n xs) i ≡ slice_get xs (n + i)
+slice_get_drop zero i xs = ap (slice_get xs) (omega arith)
+slice_get_drop (suc n) i [] = refl
+slice_get_drop (suc n) i (x ∷ xs) =
+    let next : suc (n + i) ≡ suc n + i = omega arith in
+    slice_get_drop n i xs ∙ ap (slice_get (x ∷ xs)) next

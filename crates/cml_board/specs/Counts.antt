@@ -1,5 +1,5 @@
 -- What a board's readers tell of an object; none where its kind has no such thing.
-use Rattle.std.specs.Prelude.{ℕ, Bool, false, ◌&&◌, List, length, Option, Some, None, if◌then◌else◌}
+use Rattle.std.specs.Prelude.{ℕ, Bool, false, ◌&&◌, List, [], length, Option, Some, None, if◌then◌else◌}
 use Rattle.std.specs.Option.{option_map_or}
 use Rattle.cml_board.specs.declared.call.Name.{Name}
 use Rattle.cml_calls.specs.{Kind, is_source, is_receiver, is_port, is_variable}
@@ -33,6 +33,10 @@ module _ {M : Type 0} where
   -- a closed port is owed nothing, and has no such count
   abbrev pub owed_count : List (Entry M) → ℕ → Option ℕ
   owed_count history object = only_if (is_a is_receiver history object && is_open history object) (length (owed history object))
+
+  -- what is owed to a mailbox or an open port, and nothing to anything else
+  abbrev pub owed_to : List (Entry M) → ℕ → List M
+  owed_to history object = if is_a is_receiver history object && is_open history object then owed history object else []
 
   abbrev pub channel_of : List (Entry M) → ℕ → Option Name
   channel_of history object = channel_in (origin_of history object)

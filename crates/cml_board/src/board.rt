@@ -1,8 +1,9 @@
 ghost use Rattle.std.specs.Prelude.{◌≡◌, List, ◌^◌, ◌<◌, ◌≤◌, ◌↔◌, ◌&&◌, false, [], ◌++◌, length, reverse, Some, None, option_map};
 ghost use Rattle.std.specs.Prelude.{option_copied, IfOk, OnOk, OnErr, IsTrue, MatchOption, MatchBool};
-ghost use Rattle.cml_board.specs.{Entry, no_entries, entries_in, Lawful, origin_of, kind_of, is_open, is_a, sent_count, got_count};
-ghost use Rattle.cml_board.specs.{owed_count, channel_of, start_of, first_of, kept_count, port_is_open, held_by, map_log, log_at, HasLog};
-ghost use Rattle.cml_board.specs.{ReadsAt, Stands, IsNoted, IsAsBefore, HasRoom, Cuts, IsSound, base_of, next_base, full_at};
+ghost use Rattle.cml_board.specs.{Entry, no_entries, entries_in, Lawful, made, origin_of, kind_of, is_open, is_a, sent_count, got_count};
+ghost use Rattle.cml_board.specs.{owed_count, owed_to, channel_of, start_of, first_of, kept_count, port_is_open, held_by, map_log};
+ghost use Rattle.cml_board.specs.{log_at, HasLog, ReadsAt, Stands, IsNoted, IsAsBefore, ShowsTheSame, HasRoom, Cuts, IsSound, base_of};
+ghost use Rattle.cml_board.specs.{next_base, full_at};
 ghost use Rattle.cml_calls.specs.{is_receiver};
 
 mod apply;
@@ -21,7 +22,7 @@ use crate::object::{self, Object, Reading};
 use crate::past::Past;
 use cml_calls::Kind;
 use cml_log::{ChunkLog, Key, MessageLog};
-use objects::log_at;
+use objects::{log_at, share_at};
 use std::alloc::{AllocError, Global};
 use std::marker::Model;
 use std::mem;
@@ -194,6 +195,13 @@ impl<M: Message, L: MessageLog<M>> Board<M, L> {
         self.journal.reserve(n)
     }
 
+    /// Returns how many objects there are. Their names are the numbers below it.
+    pub fn object_count(&self) -> u64
+        ensures { result ≡ length (made self.now.history) }
+    {
+        self.objects.len() as u64
+    }
+
     /// Returns the object's kind, or `None` if no object has this name.
     pub fn kind(&self, name: Name) -> Option<Kind>
         ensures { result ≡ kind_of self.now.history name.0 }
@@ -301,6 +309,19 @@ impl<M: Message, L: MessageLog<M>> Board<M, L> {
             Object::Mailbox(_, _) | Object::Channel(_) | Object::Port(_) => None,
             Object::Variable(_, held) => Some(held.as_ref()),
         }
+    }
+
+    /// Returns messages equal to those that wait in a mailbox or are owed to an open port, in the order in which they are
+    /// received. Returns an empty list for any other name. Takes one step for each message that it returns, however many the
+    /// board keeps.
+    pub fn share_owed(&mut self, name: Name) -> Result<Vec<M>, AllocError>
+        ensures ok { IfOk result (λ messages. messages.items ≡ owed_to self.old.history name.0) }
+        ensures same { ShowsTheSame self.old self.new }
+    {
+        let Some(cursor) = self.cursor(name) else {
+            return Ok(Vec::new(self.alloc));
+        };
+        share_at(&mut self.objects, self.alloc, cursor.0, cursor.1)
     }
 
     fn object(&self, name: Name) -> Option<&Object<M, L>>

@@ -15,6 +15,7 @@ mod outcome;
 mod parts;
 mod past;
 mod restored;
+mod sharing;
 mod want;
 
 pub use answer::Answer;
