@@ -15,6 +15,7 @@ lock go meanwhile.
         print("Ben received", ben.recv(letters))
 """
 
+from ._keeping import append_to, drop_entries
 from ._version import __version__
 from .errors import (
     Busy,
@@ -81,5 +82,7 @@ __all__ = [
     "Variable",
     "WrongKind",
     "__version__",
+    "append_to",
     "check",
+    "drop_entries",
 ]

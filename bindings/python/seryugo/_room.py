@@ -6,7 +6,7 @@ import threading
 import weakref
 from collections import deque
 from ctypes import byref, c_bool, c_uint64
-from typing import Any, Callable, Deque, Dict, Set, Tuple
+from typing import TYPE_CHECKING, Any, Callable, Deque, Dict, Optional, Set, Tuple, TypeVar
 
 from . import _calls as calls
 from . import _library as library
@@ -15,9 +15,17 @@ from ._library import DONE, PARKED
 from ._lock import free, is_held, new_lock
 from ._messages import Codec
 
+if TYPE_CHECKING:
+    from ._keeping import Keeper
+
+T = TypeVar("T")
+
 # As a call that may block takes it: whether it is made again.
 FIRST = c_bool(False)
 AGAIN = c_bool(True)
+
+# What a call returns if the journal has no room for its entry.
+_FULL = errors.JournalFull.code
 
 
 class Room:
@@ -34,6 +42,8 @@ class Room:
         weakref.finalize(self, library.close, room).atexit = False
         self.handle = byref(room)
         self.lock = new_lock()
+        # What cuts a full journal, if that isn't left to the switchboard's owner.
+        self.keeper: Optional[Keeper] = None
         # The messages' type of each object, by its number.
         self.codecs: Dict[int, Codec[Any]] = {}
         # What the thread of each seat waits by: a lock that is free if the thread was woken.
@@ -67,6 +77,15 @@ class Room:
             self._let_dropped_leave()
         return code
 
+    def within(self, action: Callable[[], T]) -> T:
+        """Run this with the lock."""
+        try:
+            with self.lock:
+                return action()
+        except BaseException:
+            self.recover()
+            raise
+
     def count(self, call: Callable[..., int], *arguments: Any) -> int:
         """Make a call that makes no seat due, and return the number that it writes."""
         number = c_uint64()
@@ -79,7 +98,12 @@ class Room:
         """Make a seat's call that never blocks and hands no message over."""
         try:
             with self.lock:
+                if self.keeper:
+                    self.keeper.hand_over()
                 code = call(self.handle, *arguments)
+                if code == _FULL and self.keeper:
+                    self.keeper.cut()
+                    code = call(self.handle, *arguments)
                 if self._parked:
                     self._wake_next()
         except BaseException:
@@ -94,7 +118,12 @@ class Room:
         name = c_uint64()
         try:
             with self.lock:
+                if self.keeper:
+                    self.keeper.hand_over()
                 code = call(self.handle, *arguments, byref(name))
+                if code == _FULL and self.keeper:
+                    self.keeper.cut()
+                    code = call(self.handle, *arguments, byref(name))
                 if code == DONE:
                     self.codecs[name.value] = codec
                 if self._parked:
@@ -112,7 +141,12 @@ class Room:
         """Make a call that never blocks, and if it is done hands a message over."""
         try:
             with self.lock:
+                if self.keeper:
+                    self.keeper.hand_over()
                 code = call(self.handle, *arguments, self._at_message)
+                if code == _FULL and self.keeper:
+                    self.keeper.cut()
+                    code = call(self.handle, *arguments, self._at_message)
                 data = library.taken_over(self._message) if code == DONE else b""
                 if self._parked:
                     self._wake_next()
@@ -131,7 +165,13 @@ class Room:
         After an exception its caller calls `recover`.
         """
         with self.lock:
+            if self.keeper and is_again is FIRST:
+                self.keeper.hand_over()
             code = call(self.handle, *arguments, is_again, self._at_message)
+            if code == _FULL and self.keeper:
+                self.keeper.cut()
+                # The refusal has ended the seat's wait.
+                code = call(self.handle, *arguments, FIRST, self._at_message)
             data = library.taken_over(self._message) if code == DONE else b""
             if code == PARKED:
                 self._parked.add(seat)

@@ -8,6 +8,7 @@ from typing import Any, Iterable, Optional, Type, Union
 
 from . import _library as library
 from . import errors
+from ._keeping import Keeper, Sink
 from ._library import CLOSED, DONE, NOTHING
 from ._messages import Codec, T, codec_of
 from ._restoring import restored
@@ -26,19 +27,28 @@ _MAILBOX, _CHANNEL, _PORT, _IVAR, _MVAR = range(5)
 class Switchboard:
     """Objects, the journal of every accepted call, and the seats from which threads call.
 
-    The journal takes `limit` entries between two cuts, from 1 to 2^32.
+    The journal takes `limit` entries between two cuts, from 1 to 2^32. A call that finds it full
+    fails with `JournalFull`. If there is a `when_full`, such a call has the journal cut, calls
+    `when_full` with the entries that it had, under the lock, and is then made. If that raises an
+    exception, the call fails with it. The switchboard keeps the entries, and the next call hands
+    them over first.
     """
 
-    def __init__(self, limit: int = 65_536) -> None:
+    def __init__(self, limit: int = 65_536, when_full: Optional[Sink] = None) -> None:
         room = library.Handle()
         code = library.room_open(_bounded(limit), byref(room))
         if code != DONE:
             raise errors.of_code(code)
         self._room = Room(room)
+        self._keep_by(when_full)
 
     @classmethod
     def restore(
-        cls, parts: Iterable[bytes], limit: int = 65_536, is_torn_fine: bool = False
+        cls,
+        parts: Iterable[bytes],
+        limit: int = 65_536,
+        is_torn_fine: bool = False,
+        when_full: Optional[Sink] = None,
     ) -> Switchboard:
         """Make a switchboard that goes on behind the last entry of a text.
 
@@ -51,6 +61,7 @@ class Switchboard:
         """
         board = cls.__new__(cls)
         board._room = Room(restored(parts, _bounded(limit), is_torn_fine))
+        board._keep_by(when_full)
         return board
 
     def mailbox(self, number: int, of: Type[T]) -> Mailbox[T]:
@@ -83,16 +94,13 @@ class Switchboard:
 
     def take_journal(self) -> Journal:
         """Cut the journal, and return the entries that it had."""
-        handle, start, count = library.Handle(), c_uint64(), c_uint64()
+        return self._room.within(self._take)
 
-        def take(room: Any) -> int:
-            library.cut_at(room, byref(start))
-            return library.take_journal(room, byref(handle), byref(count))
-
-        code = self._room.do(take)
-        if code != DONE:
-            raise errors.of_code(code)
-        return Journal(handle, start.value, count.value, self._room.codecs)
+    def keep(self) -> None:
+        """Cut the journal now, and hand its entries to `when_full`. Without one do nothing."""
+        keeper = self._room.keeper
+        if keeper:
+            self._room.within(keeper.cut)
 
     def cut(self) -> None:
         """Cut the journal: drop its entries, so that it takes as many again.
@@ -181,6 +189,16 @@ class Switchboard:
             raise errors.of_code(code)
         return code == DONE
 
+    def _keep_by(self, sink: Optional[Sink]) -> None:
+        room = self._room
+        if sink is not None:
+            room.keeper = Keeper(sink, lambda: _taken(room))
+
+    def _take(self) -> Journal:
+        if self._room.keeper:
+            self._room.keeper.hand_over()
+        return _taken(self._room)
+
     def _codec(self, number: int, kind: int, of: Type[T]) -> Codec[T]:
         """Return the codec of an object of this kind."""
         codec = codec_of(of)
@@ -195,6 +213,16 @@ class Switchboard:
 
     def _name(self, named: Object[Any]) -> c_uint64:
         return name_in(self._room, named)
+
+
+def _taken(room: Room) -> Journal:
+    """Cut the journal of a room whose lock the caller has, and return its entries."""
+    handle, start, count = library.Handle(), c_uint64(), c_uint64()
+    library.cut_at(room.handle, byref(start))
+    code = library.take_journal(room.handle, byref(handle), byref(count))
+    if code != DONE:
+        raise errors.of_code(code)
+    return Journal(handle, start.value, count.value, room.codecs)
 
 
 def _bounded(limit: int) -> int:

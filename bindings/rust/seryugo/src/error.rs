@@ -1,5 +1,6 @@
 //! Why a call failed.
 
+use crate::raw::code;
 use crate::version::Version;
 use std::fmt;
 
@@ -37,6 +38,9 @@ pub enum Error {
     WrongKind,
     /// The journal has as many entries since the last cut as its limit says.
     JournalFull,
+    /// The journal was full, and nobody took the entries that it had: [`Switchboard::keeping_error`](crate::Switchboard::keeping_error)
+    /// says why. The switchboard keeps them.
+    NotKept,
     /// The call would wait, and no present seat or open lane could ever answer it: a deadlock.
     Stalled,
     /// There was no memory for it.
@@ -76,13 +80,14 @@ impl Error {
             12 => Error::Unseen,
             13 => Error::Full,
             16 => Error::OutOfBounds,
+            code::NOT_KEPT => Error::NotKept,
             other => Error::Unknown(other),
         }
     }
 
-    /// Whether the same call may succeed later, once something else has changed: the journal was cut (`JournalFull`), the lanes and
-    /// feeds were closed (`Busy`), the lane was drained (`Full`), memory was freed (`NoMemory`), or more time has passed (`TimedOut`,
-    /// `Unseen`).
+    /// Whether the same call may succeed later, once something else has changed: the journal was cut (`JournalFull`), its entries were
+    /// taken (`NotKept`), the lanes and feeds were closed (`Busy`), the lane was drained (`Full`), memory was freed (`NoMemory`), or more
+    /// time has passed (`TimedOut`, `Unseen`).
     ///
     /// ```
     /// use seryugo::Error;
@@ -92,7 +97,8 @@ impl Error {
     /// ```
     pub fn is_retryable(&self) -> bool {
         match self {
-            Error::JournalFull | Error::Busy | Error::Full | Error::NoMemory | Error::TimedOut | Error::Unseen => true,
+            Error::JournalFull | Error::NotKept | Error::Busy | Error::Full => true,
+            Error::NoMemory | Error::TimedOut | Error::Unseen => true,
             Error::Gone | Error::NoSuch | Error::WrongKind | Error::Stalled | Error::OutOfBounds => false,
             Error::Unreadable(_) | Error::Version { .. } | Error::Unknown(_) => false,
         }
@@ -107,6 +113,7 @@ impl fmt::Display for Error {
             Error::NoSuch => "this switchboard has nothing of this name or number",
             Error::WrongKind => "the object can't take this call: its kind is another, or a feed receives from it",
             Error::JournalFull => "the journal is full until it is cut or taken",
+            Error::NotKept => "the journal is full, and nobody took its entries",
             Error::Stalled => "no seat and no lane is left that could answer this call",
             Error::NoMemory => "there is no memory for this call",
             Error::Unseen => "not all messages that were sent on the lane were seen",

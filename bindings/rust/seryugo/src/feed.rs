@@ -3,7 +3,7 @@
 use crate::calls::received;
 use crate::error::Error;
 use crate::names::Port;
-use crate::raw::{self, code, written, Handle};
+use crate::raw::{self, code, Handle};
 use crate::room::{Carries, Room};
 use crate::switchboard::Switchboard;
 use std::fmt;
@@ -94,8 +94,7 @@ impl<'a, R: Room, T> Feed<'a, R, T> {
     /// # Ok::<(), seryugo::Error>(())
     /// ```
     pub fn pump(&mut self) -> Result<u64, Error> {
-        let number = self.number;
-        self.board.change(|room| written(|count| unsafe { raw::seryugo_feed_pump(room, number, count) }))
+        self.board.pump(self.number)
     }
 
     /// The next message that was pumped. It takes no lock.

@@ -1,12 +1,42 @@
 //! What a switchboard's lock guards: the room, and what is counted beside it.
 
 use crate::error::Error;
+use crate::journal::Journal;
 use crate::raw::{self, code, done, written, Handle};
+use crate::room::Room;
+use crate::when_full::{taken, Keeper, WhenFull};
 use std::collections::BTreeMap;
+use std::io;
+
+/// A drain or a pump moves at most so many messages: no ring has room for more.
+const MOST_MOVED: u64 = 1024;
+
+/// What a call returns that isn't made, since nobody took the entries of the last full journal.
+pub(crate) trait Unkept {
+    fn unkept() -> Self;
+}
+
+impl Unkept for u32 {
+    fn unkept() -> u32 {
+        code::NOT_KEPT
+    }
+}
+
+impl<T> Unkept for Result<T, Error> {
+    fn unkept() -> Result<T, Error> {
+        Err(Error::NotKept)
+    }
+}
 
 /// What the lock guards.
-pub(crate) struct Inside {
+pub(crate) struct Inside<R: Room> {
     pub handle: Handle,
+    /// How many entries the journal takes between two cuts.
+    limit: u64,
+    /// The journal surely has room for so many more. Without a keeper nobody asks.
+    spare: u64,
+    /// What cuts a full journal.
+    keeper: Option<Keeper<R>>,
     /// The number of the first seat that was made here. Those of a journal from which the switchboard goes on have lesser ones.
     first_seat: u64,
     /// How many seats were made here.
@@ -21,11 +51,14 @@ pub(crate) struct Inside {
     lost: u64,
 }
 
-impl Inside {
-    /// Over a room in which no seat was made yet.
-    pub fn new(handle: Handle) -> Inside {
+impl<R: Room> Inside<R> {
+    /// Over a room in which no seat was made yet. Its journal takes so many entries between two cuts.
+    pub fn new(handle: Handle, limit: u64) -> Inside<R> {
         Inside {
             handle,
+            limit,
+            spare: u64::MAX,
+            keeper: None,
             first_seat: 0,
             seats: 0,
             parked: 0,
@@ -33,6 +66,68 @@ impl Inside {
             moved: BTreeMap::new(),
             lost: 0,
         }
+    }
+
+    /// From now on this is what becomes of a full journal.
+    pub fn set_when_full(&mut self, when_full: WhenFull<R>) {
+        self.keeper = Keeper::new(when_full);
+        self.spare = if self.keeper.is_some() { 0 } else { u64::MAX };
+    }
+
+    /// Whether the journal takes one more entry, or refuses it itself. It makes room in a full one, if that is wanted. If it doesn't,
+    /// the call fails with `NotKept`.
+    #[inline]
+    pub fn makes_room(&mut self) -> bool {
+        if self.spare == 0 {
+            return self.looks_for_room().is_ok();
+        }
+        self.spare -= 1;
+        true
+    }
+
+    #[cold]
+    fn looks_for_room(&mut self) -> Result<(), Error> {
+        let Some(keeper) = &mut self.keeper else {
+            return Ok(());
+        };
+        keeper.hand_over()?;
+        let mut spare = self.spare_now()?;
+        if spare == 0 {
+            self.keep()?;
+            spare = self.limit;
+        }
+        self.spare = spare - 1;
+        Ok(())
+    }
+
+    /// How many more entries the journal takes.
+    fn spare_now(&mut self) -> Result<u64, Error> {
+        let entries = written(|count| unsafe { raw::seryugo_entries(&mut self.handle, count) })?;
+        let cut = written(|count| unsafe { raw::seryugo_cut_at(&mut self.handle, count) })?;
+        Ok(self.limit.saturating_sub(entries - cut))
+    }
+
+    /// Cuts the journal, and does with its entries what is done with those of a full one.
+    pub fn keep(&mut self) -> Result<(), Error> {
+        let is_empty = self.spare_now()? == self.limit;
+        match &mut self.keeper {
+            Some(keeper) if is_empty => keeper.hand_over(),
+            Some(keeper) => keeper.cut(&mut self.handle),
+            None => Ok(()),
+        }
+    }
+
+    /// Cuts the journal, and returns its entries. If some were cut away before and nobody took them, they go first.
+    pub fn take_journal(&mut self) -> Result<Journal<R>, Error> {
+        if let Some(keeper) = &mut self.keeper {
+            keeper.hand_over()?;
+        }
+        taken(&mut self.handle)
+    }
+
+    /// Why entries were not taken last. It is told once.
+    pub fn keeping_error(&mut self) -> Option<io::Error> {
+        self.keeper.as_mut().and_then(Keeper::error)
     }
 
     /// How many seats were made here.
@@ -85,14 +180,28 @@ impl Inside {
 
     /// Makes a call that may make a seat due.
     #[inline]
-    pub fn call<T>(&mut self, call: impl FnOnce(&mut Inside) -> T) -> T {
+    pub fn call<T>(&mut self, call: impl FnOnce(&mut Inside<R>) -> T) -> T {
         self.calls += 1;
         call(self)
     }
 
-    /// Makes a call that may park its seat, or that of a parked seat again.
+    /// Makes a call that has an entry in the journal, if it is accepted.
+    #[inline]
+    pub fn enter<T: Unkept>(&mut self, call: impl FnOnce(&mut Handle) -> T) -> T {
+        if self.makes_room() {
+            call(&mut self.handle)
+        } else {
+            T::unkept()
+        }
+    }
+
+    /// Makes a call that may park its seat, or that of a parked seat again. A parked seat's call was taken before, so it is made even if
+    /// the entries of the last full journal were not.
     #[inline]
     pub fn ask(&mut self, is_again: bool, call: impl FnOnce(&mut Handle) -> u32) -> u32 {
+        if !self.makes_room() && !is_again {
+            return code::NOT_KEPT;
+        }
         self.calls += 1;
         let code = call(&mut self.handle);
         self.parked = (self.parked + u64::from(code == code::PARKED)).saturating_sub(u64::from(is_again));
@@ -107,10 +216,43 @@ impl Inside {
 
     /// Moves what is seen of an open lane into the journal, up to the first message that is refused.
     pub fn drain(&mut self, lane: u64) -> Result<u64, Error> {
-        let count = written(|count| unsafe { raw::seryugo_lane_drain(&mut self.handle, lane, count) })?;
+        let count = self.move_seen(|room, count| unsafe { raw::seryugo_lane_drain(room, lane, count) })?;
         let moved = self.moved.entry(lane).or_default();
         *moved = moved.saturating_add(count);
         Ok(count)
+    }
+
+    /// Receives what a feed is owed, up to the first message that is refused.
+    pub fn pump(&mut self, feed: u64) -> Result<u64, Error> {
+        self.move_seen(|room, count| unsafe { raw::seryugo_feed_pump(room, feed, count) })
+    }
+
+    /// Makes a call that moves what it sees. If it stops at a full journal, and room is made there, it goes on.
+    fn move_seen(&mut self, call: impl Fn(&mut Handle, &mut u64) -> u32) -> Result<u64, Error> {
+        let mut last = self.move_once(&call)?;
+        let mut moved = last;
+        while last != 0 && moved < MOST_MOVED && self.cuts_now() {
+            // If a message after the first is refused, the call returns how many moved.
+            last = self.move_once(&call).unwrap_or_default();
+            moved += last;
+        }
+        Ok(moved)
+    }
+
+    fn move_once(&mut self, call: impl Fn(&mut Handle, &mut u64) -> u32) -> Result<u64, Error> {
+        if !self.makes_room() {
+            return Err(Error::NotKept);
+        }
+        if self.keeper.is_some() {
+            // It has an entry for each message.
+            self.spare = 0;
+        }
+        written(|count| call(&mut self.handle, count))
+    }
+
+    /// Whether the journal is full, and the next call cuts it.
+    fn cuts_now(&mut self) -> bool {
+        self.keeper.is_some() && self.spare_now() == Ok(0)
     }
 
     /// The same, until none is left.
@@ -158,8 +300,8 @@ mod tests {
     }
 
     /// A room with a mailbox and some seats, whose journal has room for few entries.
-    fn room() -> Inside {
-        let mut inside = Inside::new(Handle::opened(|room| Numbers::open(9, room)).unwrap());
+    fn room() -> Inside<Numbers> {
+        let mut inside = Inside::new(Handle::opened(|room| Numbers::open(9, room)).unwrap(), 9);
         for _ in 0..SEATS {
             inside.new_seat().unwrap();
         }
@@ -168,12 +310,12 @@ mod tests {
         inside
     }
 
-    fn receive(inside: &mut Inside, seat: u64, is_again: bool) {
+    fn receive(inside: &mut Inside<Numbers>, seat: u64, is_again: bool) {
         inside.ask(is_again, |room| Numbers::ask(calls::RECV, room, seat, MAILBOX, is_again, &mut 0));
     }
 
     /// Makes some calls, and wakes each seat that is due.
-    fn call(inside: &mut Inside, random: &mut Random) {
+    fn call(inside: &mut Inside<Numbers>, random: &mut Random) {
         for _ in 0..random.below(20) {
             let seat = random.below(SEATS);
             match random.below(4) {

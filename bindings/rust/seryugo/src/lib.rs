@@ -109,6 +109,7 @@ mod switchboard;
 mod version;
 mod waiting;
 mod want;
+mod when_full;
 mod yields;
 
 pub use checker::{CheckError, Checker, Kept};
@@ -127,3 +128,4 @@ pub use script::{replay, BadLimit, End, Replayed, MOST_ENTRIES};
 pub use seat::Seat;
 pub use switchboard::Switchboard;
 pub use version::Version;
+pub use when_full::WhenFull;

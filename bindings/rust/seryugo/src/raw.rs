@@ -16,6 +16,8 @@ pub mod code {
     pub const NO_MEMORY: u32 = 11;
     pub const UNLAWFUL: u32 = 17;
     pub const FAULT: u32 = 18;
+    /// The library never returns it: a call that this crate didn't make, since nobody took the entries of a full journal.
+    pub const NOT_KEPT: u32 = u32::MAX;
 }
 
 /// A handle to a room, a lane, a feed, a reading or a taken journal. A thread that has it by `&mut` has it alone, which orders its
@@ -105,7 +107,9 @@ extern "C" {
     pub fn seryugo_feed_end(room: *mut Handle, feed: u64) -> u32;
     pub fn seryugo_reserve(room: *mut Handle, entries: usize) -> u32;
     pub fn seryugo_cut(room: *mut Handle) -> u32;
+    pub fn seryugo_cut_open(room: *mut Handle) -> u32;
     pub fn seryugo_take_journal(room: *mut Handle, journal: *mut Handle, count: *mut u64) -> u32;
+    pub fn seryugo_take_journal_open(room: *mut Handle, journal: *mut Handle, count: *mut u64) -> u32;
     pub fn seryugo_kind(room: *mut Handle, object: u64, kind: *mut u64) -> u32;
     pub fn seryugo_channel_of(room: *mut Handle, port: u64, channel: *mut u64) -> u32;
     pub fn seryugo_start_of(room: *mut Handle, port: u64, start: *mut u64) -> u32;

@@ -121,7 +121,7 @@ fn checked<R: Room>(journal: impl BufRead) -> Result<Checker<R>, CheckError> {
 
 fn restored<R: Room>(checker: Checker<R>, limit: u64) -> Result<Switchboard<R>, RestoreError> {
     match checker.into_room(limit) {
-        Ok(room) => Ok(Switchboard::over(room)),
+        Ok(room) => Ok(Switchboard::over(room, limit)),
         Err(Error::OutOfBounds) => Err(RestoreError::OutOfBounds),
         Err(error) => Err(RestoreError::Check(error.into())),
     }

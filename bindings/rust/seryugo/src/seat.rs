@@ -389,7 +389,7 @@ impl<'a, R: Room> Seat<'a, R> {
     #[inline]
     fn call(&mut self, call: impl FnOnce(&mut Handle, u64) -> u32) -> u32 {
         let seat = self.ready();
-        self.board.change_by(self.parker, |room| call(room, seat))
+        self.board.enter_by(self.parker, |room| call(room, seat))
     }
 
     /// The seat's number, once it may call: a future that was forgotten left it waiting.

@@ -15,8 +15,10 @@ use crate::raw::{self, code, done, written, Handle};
 use crate::room::{Bytes, Carries, Numbers, Room};
 use crate::seat::Seat;
 use crate::version;
+use crate::when_full::WhenFull;
 use crate::yields::pass_by_yielding;
 use std::fmt;
+use std::io;
 use std::marker::PhantomData;
 use std::sync::atomic::{AtomicU64, Ordering};
 use std::sync::{Mutex, MutexGuard, PoisonError, TryLockError};
@@ -43,7 +45,7 @@ use std::sync::{Mutex, MutexGuard, PoisonError, TryLockError};
 /// ```
 pub struct Switchboard<R: Room = Bytes> {
     /// Threads that wake others read what lies beside the lock.
-    inside: Apart<Mutex<Inside>>,
+    inside: Apart<Mutex<Inside<R>>>,
     parkers: Parkers,
     /// No other switchboard of the process has it. The names of the objects have it too.
     number: u64,
@@ -96,17 +98,79 @@ impl Switchboard<Numbers> {
 impl<R: Room> Switchboard<R> {
     fn open(limit: u64) -> Result<Switchboard<R>, Error> {
         version::check()?;
-        Handle::opened(|room| R::open(limit, room)).map(Switchboard::over)
+        Ok(Switchboard::over(Handle::opened(|room| R::open(limit, room))?, limit))
     }
 
-    /// A switchboard over a room in which no seat was made yet.
-    pub(crate) fn over(handle: Handle) -> Switchboard<R> {
+    /// A switchboard over a room in which no seat was made yet, and whose journal takes so many entries between two cuts.
+    pub(crate) fn over(handle: Handle, limit: u64) -> Switchboard<R> {
         Switchboard {
-            inside: Apart(Mutex::new(Inside::new(handle))),
+            inside: Apart(Mutex::new(Inside::new(handle, limit))),
             parkers: Parkers::new(),
             number: MADE.fetch_add(1, Ordering::Relaxed),
             kind: PhantomData,
         }
+    }
+
+    /// Says what becomes of a full journal. Until you say it, a call fails with `JournalFull` if the journal has no room for it.
+    ///
+    /// A call that finds the journal full has it cut, and is then made. If nobody takes the entries that it had, the call fails with
+    /// [`NotKept`](Error::NotKept), and the switchboard keeps the entries: the next call has them taken first. A call that was blocked
+    /// before is still answered while the journal has room. [`keep`](Switchboard::keep) hands over what the journal has at the end.
+    ///
+    /// ```
+    /// use seryugo::{Error, Switchboard, WhenFull};
+    /// use std::sync::mpsc;
+    ///
+    /// let (sender, journals) = mpsc::channel();
+    /// let board = Switchboard::new(2)?.when_full(WhenFull::Send(sender));
+    /// let mut seat = board.seat()?;
+    /// let mailbox = seat.mailbox::<u64>()?;
+    /// seat.send(mailbox, 5)?;
+    /// seat.send(mailbox, 6)?;
+    /// assert_eq!(journals.recv().unwrap().len(), 2);
+    /// drop(journals);
+    /// seat.send(mailbox, 7)?;
+    /// let refused = seat.send(mailbox, 8).unwrap_err();
+    /// assert_eq!(refused.error, Error::NotKept);
+    /// # Ok::<(), seryugo::Error>(())
+    /// ```
+    pub fn when_full(mut self, when_full: WhenFull<R>) -> Switchboard<R> {
+        self.inside.0.get_mut().unwrap_or_else(PoisonError::into_inner).set_when_full(when_full);
+        self
+    }
+
+    /// Cuts the journal now, and does with its entries what is done with those of a full one. If a full journal refuses calls, this does
+    /// nothing.
+    ///
+    /// ```
+    /// use seryugo::{Switchboard, WhenFull};
+    /// use std::sync::mpsc;
+    ///
+    /// let (sender, journals) = mpsc::channel();
+    /// let board = Switchboard::new(1_000)?.when_full(WhenFull::Send(sender));
+    /// board.seat()?.mailbox::<u64>()?;
+    /// board.keep()?;
+    /// assert_eq!(journals.recv().unwrap().len(), 1);
+    /// # Ok::<(), seryugo::Error>(())
+    /// ```
+    pub fn keep(&self) -> Result<(), Error> {
+        self.lock().keep()
+    }
+
+    /// Why nobody took the entries of a full journal. It is told once.
+    ///
+    /// ```
+    /// use seryugo::{Error, Switchboard, WhenFull};
+    /// use std::io::ErrorKind;
+    ///
+    /// let board = Switchboard::new(1_000)?.when_full(WhenFull::call(|_| Err(ErrorKind::StorageFull.into())));
+    /// assert_eq!(board.keep(), Err(Error::NotKept));
+    /// assert_eq!(board.keeping_error().map(|error| error.kind()), Some(ErrorKind::StorageFull));
+    /// assert!(board.keeping_error().is_none());
+    /// # Ok::<(), seryugo::Error>(())
+    /// ```
+    pub fn keeping_error(&self) -> Option<io::Error> {
+        self.lock().keeping_error()
     }
 
     /// The number of an object, if this switchboard has it.
@@ -180,6 +244,11 @@ impl<R: Room> Switchboard<R> {
         self.change_inside(|inside| inside.drain(lane))
     }
 
+    /// Receives what the feed of this number is owed.
+    pub(crate) fn pump(&self, feed: u64) -> Result<u64, Error> {
+        self.change_inside(|inside| inside.pump(feed))
+    }
+
     /// Closes a lane that has ended, once all of its messages have moved.
     pub(crate) fn close_lane(&self, number: u64, lane: &mut Handle) -> Result<(), Error> {
         self.change_inside(|inside| inside.close_lane(number, lane))
@@ -224,8 +293,10 @@ impl<R: Room> Switchboard<R> {
     {
         let channel = self.here(channel)?;
         let mut number = 0;
-        let mut handle = self.change(|room| {
-            Handle::opened(|feed| unsafe { raw::seryugo_feed_open(room, channel, capacity, feed, &mut number) })
+        let mut handle = self.change_inside(|inside| {
+            inside.enter(|room| {
+                Handle::opened(|feed| unsafe { raw::seryugo_feed_open(room, channel, capacity, feed, &mut number) })
+            })
         })?;
         let port = written(|port| unsafe { raw::seryugo_feed_port(&mut handle, port) })?;
         Ok(Feed::new(self, handle, number, self.name(port)))
@@ -271,12 +342,7 @@ impl<R: Room> Switchboard<R> {
     /// # Ok::<(), seryugo::Error>(())
     /// ```
     pub fn take_journal(&self) -> Result<Journal<R>, Error> {
-        let mut inside = self.lock();
-        let first = written(|count| unsafe { raw::seryugo_cut_at(&mut inside.handle, count) })?;
-        let mut count = 0;
-        let handle =
-            Handle::opened(|journal| unsafe { raw::seryugo_take_journal(&mut inside.handle, journal, &mut count) })?;
-        Ok(Journal::new(handle, first, count as usize))
+        self.lock().take_journal()
     }
 
     /// The journal's entry at this position, counted from 0 since the switchboard was made. It has copies of the messages. If there
@@ -343,13 +409,13 @@ impl<R: Room> Switchboard<R> {
 
     /// The room. A thread that panicked left it between two calls, where it is whole.
     #[inline]
-    fn lock(&self) -> MutexGuard<'_, Inside> {
+    fn lock(&self) -> MutexGuard<'_, Inside<R>> {
         self.try_lock().unwrap_or_else(|| self.lock_late())
     }
 
     /// The same, if no thread has the lock.
     #[inline]
-    fn try_lock(&self) -> Option<MutexGuard<'_, Inside>> {
+    fn try_lock(&self) -> Option<MutexGuard<'_, Inside<R>>> {
         match self.inside.0.try_lock() {
             Ok(inside) => Some(inside),
             Err(TryLockError::Poisoned(inside)) => Some(inside.into_inner()),
@@ -359,7 +425,7 @@ impl<R: Room> Switchboard<R> {
 
     /// The same, if another thread had the lock just now. To sleep there and to be woken takes far longer than a call.
     #[cold]
-    fn lock_late(&self) -> MutexGuard<'_, Inside> {
+    fn lock_late(&self) -> MutexGuard<'_, Inside<R>> {
         backoff::look(LOCK_PAUSES, LOCK_SPINS, pass_by_yielding, LOCK_YIELDS, || self.try_lock())
             .unwrap_or_else(|| self.inside.0.lock().unwrap_or_else(PoisonError::into_inner))
     }
@@ -371,14 +437,14 @@ impl<R: Room> Switchboard<R> {
     }
 
     #[inline]
-    fn change_inside<T>(&self, call: impl FnOnce(&mut Inside) -> T) -> T {
+    fn change_inside<T>(&self, call: impl FnOnce(&mut Inside<R>) -> T) -> T {
         self.make(None, call)
     }
 
-    /// The same for a seat, which waits next, maybe for what the woken one does.
+    /// The same for a seat, which waits next, maybe for what the woken one does. The call has an entry in the journal.
     #[inline]
-    pub(crate) fn change_by<T>(&self, parker: &Parker, call: impl FnOnce(&mut Handle) -> T) -> T {
-        self.change_inside_by(parker, |inside| call(&mut inside.handle))
+    pub(crate) fn enter_by(&self, parker: &Parker, call: impl FnOnce(&mut Handle) -> u32) -> u32 {
+        self.change_inside_by(parker, |inside| inside.enter(call))
     }
 
     /// The same for a call that may park the seat, or that of a parked seat again.
@@ -418,13 +484,13 @@ impl<R: Room> Switchboard<R> {
     }
 
     #[inline]
-    fn change_inside_by<T>(&self, parker: &Parker, call: impl FnOnce(&mut Inside) -> T) -> T {
+    fn change_inside_by<T>(&self, parker: &Parker, call: impl FnOnce(&mut Inside<R>) -> T) -> T {
         self.make(Some(parker), call)
     }
 
     /// Makes a call of that seat or of none under the lock, unlocks the room, and then wakes the next seat that is due.
     #[inline]
-    fn make<T>(&self, by: Option<&Parker>, call: impl FnOnce(&mut Inside) -> T) -> T {
+    fn make<T>(&self, by: Option<&Parker>, call: impl FnOnce(&mut Inside<R>) -> T) -> T {
         let mut inside = self.lock();
         let answer = inside.call(call);
         let due = inside.next_due();

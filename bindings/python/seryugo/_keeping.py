@@ -1,0 +1,64 @@
+"""What becomes of a full journal: who is handed the entries that it had."""
+
+from __future__ import annotations
+
+import os
+from typing import BinaryIO, Callable, Optional
+
+from .journal import Journal
+
+# What is called with the entries of a full journal. If it raises an exception, they are kept.
+Sink = Callable[[Journal], object]
+
+
+class Keeper:
+    """Cuts a full journal, and keeps the entries that it had until a sink takes them.
+
+    Its caller has the room's lock.
+    """
+
+    def __init__(self, sink: Sink, take: Callable[[], Journal]) -> None:
+        self._sink = sink
+        self._take = take
+        self._kept: Optional[Journal] = None
+
+    def cut(self) -> None:
+        """Cut the journal, and hand its entries over, behind those that are kept."""
+        self.hand_over()
+        self._kept = self._take()
+        self.hand_over()
+
+    def hand_over(self) -> None:
+        """Hand over the entries that are kept."""
+        if self._kept is not None:
+            self._sink(self._kept)
+            self._kept = None
+
+
+def drop_entries(journal: Journal) -> None:
+    """Drop the entries of a full journal: the sink of a switchboard that needs none."""
+
+
+def append_to(file: BinaryIO) -> Sink:
+    """Return a sink that appends entries to a file as text, and syncs the file.
+
+    If that fails, the file ends where it ended before.
+    """
+
+    def append(journal: Journal) -> None:
+        number = file.fileno()
+        end = os.lseek(number, 0, os.SEEK_END)
+        try:
+            _write_all(number, journal.text())
+            os.fsync(number)
+        except BaseException:
+            os.ftruncate(number, end)
+            raise
+
+    return append
+
+
+def _write_all(number: int, text: bytes) -> None:
+    rest = memoryview(text)
+    while rest:
+        rest = rest[os.write(number, rest) :]

@@ -1,0 +1,125 @@
+"""Full journals that a switchboard cuts by itself."""
+
+import tempfile
+import threading
+import unittest
+
+from seryugo import JournalFull, Switchboard, append_to, drop_entries
+
+
+class Sink:
+    """Keeps texts, and fails each time that it is to."""
+
+    def __init__(self):
+        self.text = b""
+        self.failures = 0
+
+    def __call__(self, journal):
+        if self.failures:
+            self.failures -= 1
+            raise OSError("the disk is full")
+        self.text += journal.text()
+
+    def entries(self):
+        return Switchboard.restore([self.text]).entries
+
+
+class Keeping(unittest.TestCase):
+    def setUp(self):
+        self.sink = Sink()
+
+    def test_a_full_journal_refuses_calls(self):
+        board = Switchboard(1)
+        with board.seat() as seat:
+            mailbox = seat.mailbox(int)
+            with self.assertRaises(JournalFull):
+                seat.send(mailbox, 5)
+        board.keep()
+        self.assertEqual(board.cut_at, 0)
+
+    def test_entries_are_dropped(self):
+        board = Switchboard(3, when_full=drop_entries)
+        with board.seat() as seat:
+            mailbox = seat.mailbox(int)
+            for number in range(100):
+                seat.send(mailbox, number)
+            for number in range(100):
+                self.assertEqual(seat.recv(mailbox), number)
+        self.assertEqual(board.entries, 201)
+        self.assertGreater(board.cut_at, 197)
+
+    def test_calls_of_each_kind_find_it_full(self):
+        board = Switchboard(1, when_full=self.sink)
+        with board.seat() as seat:
+            mailbox, variable = seat.mailbox(str), seat.mvar(int, 1)
+            port = seat.port(seat.channel(bytes))
+            self.assertEqual(seat.swap(variable, 2), 1)
+            self.assertEqual(seat.take_poll(variable), 2)
+            self.assertIsNone(seat.recv_poll(mailbox))
+            self.assertTrue(seat.close_port(port))
+        board.keep()
+        self.assertEqual(self.sink.entries(), board.entries)
+
+    def test_a_blocked_call_finds_it_full(self):
+        board = Switchboard(2, when_full=self.sink)
+        with board.seat() as ann, board.seat() as ben:
+            mailbox = ann.mailbox(int)
+            got = []
+            thread = threading.Thread(target=lambda: got.extend(ben.recv(mailbox) for _ in range(50)))
+            thread.start()
+            for number in range(50):
+                ann.send(mailbox, number)
+            thread.join()
+        self.assertEqual(got, list(range(50)))
+        board.keep()
+        self.assertEqual(self.sink.entries(), 101)
+
+    def test_a_sink_that_fails_refuses_calls_and_loses_nothing(self):
+        board = Switchboard(2, when_full=self.sink)
+        with board.seat() as seat:
+            mailbox = seat.mailbox(int)
+            seat.send(mailbox, 5)
+            self.sink.failures = 3
+            for _ in range(3):
+                with self.assertRaises(OSError):
+                    seat.send(mailbox, 6)
+            self.assertEqual(board.owed(mailbox), 1)
+            seat.send(mailbox, 6)
+            self.assertEqual([seat.recv(mailbox), seat.recv(mailbox)], [5, 6])
+        board.keep()
+        self.assertEqual(self.sink.entries(), 5)
+
+    def test_what_is_kept_goes_before_what_is_taken(self):
+        board = Switchboard(1, when_full=self.sink)
+        with board.seat() as seat:
+            mailbox = seat.mailbox(int)
+            self.sink.failures = 2
+            with self.assertRaises(OSError):
+                seat.send(mailbox, 5)
+            with self.assertRaises(OSError):
+                board.take_journal()
+            seat.send(mailbox, 5)
+        journal = board.take_journal()
+        self.assertEqual((journal.start, len(journal)), (1, 1))
+        self.assertEqual(self.sink.entries(), 1)
+
+    def test_a_file_is_gone_on_from(self):
+        with tempfile.TemporaryFile() as file:
+            board = Switchboard(3, when_full=append_to(file))
+            with board.seat() as seat:
+                mailbox = seat.mailbox(str)
+                for number in range(10):
+                    seat.send(mailbox, str(number))
+            board.keep()
+            file.seek(0)
+            board = Switchboard.restore(file, 3, when_full=append_to(file))
+            with board.seat() as seat:
+                mailbox = board.mailbox(0, str)
+                self.assertEqual([seat.recv(mailbox) for _ in range(10)], list("0123456789"))
+            board.keep()
+            file.seek(0)
+            self.assertEqual(Switchboard.restore(file).entries, 21)
+
+
+if __name__ == "__main__":
+    unittest.main()

@@ -1,0 +1,165 @@
+//! What becomes of a full journal.
+
+use crate::error::Error;
+use crate::journal::Journal;
+use crate::raw::{self, done, written, Handle};
+use crate::room::{Bytes, Room};
+use std::fmt;
+use std::fs::File;
+use std::io::{self, Seek, SeekFrom};
+use std::mem;
+use std::sync::mpsc::Sender;
+
+/// What a switchboard does if a call finds its journal full. See [`Switchboard::when_full`](crate::Switchboard::when_full).
+///
+/// It cuts the journal under the lock, and asks no lane and no feed to close. Then it makes the call.
+///
+/// ```
+/// use seryugo::{Switchboard, WhenFull};
+///
+/// let board = Switchboard::new(1)?.when_full(WhenFull::Drop);
+/// let mut seat = board.seat()?;
+/// let mailbox = seat.mailbox::<u64>()?;
+/// for number in 0..10 {
+///     seat.send(mailbox, number)?;
+/// }
+/// assert_eq!((board.cut_at(), board.owed(mailbox)?), (10, 10));
+/// # Ok::<(), seryugo::Error>(())
+/// ```
+pub enum WhenFull<R: Room = Bytes> {
+    /// The call fails with [`JournalFull`](Error::JournalFull), until somebody cuts the journal.
+    Refuse,
+    /// The switchboard drops the entries.
+    Drop,
+    /// The switchboard calls this sink with the entries, which it keeps until the sink returns `Ok`.
+    Call(Box<dyn FnMut(&Journal<R>) -> io::Result<()> + Send>),
+    /// The switchboard sends the entries to whichever thread receives them.
+    Send(Sender<Journal<R>>),
+}
+
+impl<R: Room> WhenFull<R> {
+    /// Calls this sink with the entries. The sink runs under the lock, so it must not call the switchboard.
+    ///
+    /// ```
+    /// use seryugo::{Switchboard, WhenFull};
+    /// use std::sync::{Arc, Mutex};
+    ///
+    /// let text = Arc::new(Mutex::new(Vec::new()));
+    /// let kept = text.clone();
+    /// let sink = WhenFull::call(move |journal| journal.write_to(&mut *kept.lock().unwrap()));
+    /// let board = Switchboard::of_numbers(1)?.when_full(sink);
+    /// let mut seat = board.seat()?;
+    /// let mailbox = seat.mailbox::<u64>()?;
+    /// seat.send(mailbox, 5)?;
+    /// assert_eq!(*text.lock().unwrap(), b"journal 1\nseat 0 mailbox: made 0\nend 1\n");
+    /// # Ok::<(), seryugo::Error>(())
+    /// ```
+    pub fn call(sink: impl FnMut(&Journal<R>) -> io::Result<()> + Send + 'static) -> WhenFull<R> {
+        WhenFull::Call(Box::new(sink))
+    }
+
+    /// Writes the entries to a file, and syncs it before the call is made. If that fails, it cuts the file to what it had.
+    ///
+    /// ```no_run
+    /// use seryugo::{Switchboard, WhenFull};
+    /// use std::fs::File;
+    ///
+    /// # fn main() -> Result<(), Box<dyn std::error::Error>> {
+    /// let board = Switchboard::new(1_000)?.when_full(WhenFull::file(File::create("x.journal")?));
+    /// # Ok(())
+    /// # }
+    /// ```
+    pub fn file(mut file: File) -> WhenFull<R> {
+        WhenFull::call(move |journal| append(&mut file, journal))
+    }
+}
+
+impl<R: Room> fmt::Debug for WhenFull<R> {
+    fn fmt(&self, f: &mut fmt::Formatter<'_>) -> fmt::Result {
+        f.write_str(match self {
+            WhenFull::Refuse => "Refuse",
+            WhenFull::Drop => "Drop",
+            WhenFull::Call(_) => "Call(..)",
+            WhenFull::Send(_) => "Send(..)",
+        })
+    }
+}
+
+/// Writes a journal where the file ends. A torn piece would make all behind it unreadable, so that none is left there.
+fn append<R: Room>(file: &mut File, journal: &Journal<R>) -> io::Result<()> {
+    let end = file.seek(SeekFrom::End(0))?;
+    let written = journal.write_to(file).and_then(|()| file.sync_data());
+    if written.is_err() {
+        file.set_len(end)?;
+    }
+    written
+}
+
+/// Keeps the entries of full journals for the switchboard's owner.
+pub(crate) struct Keeper<R: Room> {
+    when_full: WhenFull<R>,
+    /// Entries that were cut away, and that the sink hasn't taken yet.
+    kept: Option<Journal<R>>,
+    /// Why it didn't.
+    error: Option<io::Error>,
+}
+
+impl<R: Room> Keeper<R> {
+    /// `None` if a full journal refuses calls.
+    pub fn new(when_full: WhenFull<R>) -> Option<Keeper<R>> {
+        (!matches!(when_full, WhenFull::Refuse)).then(|| Keeper {
+            when_full,
+            kept: None,
+            error: None,
+        })
+    }
+
+    /// Cuts the journal of a room, and does with its entries what is to be done with them. If that fails, it keeps them.
+    pub fn cut(&mut self, room: &mut Handle) -> Result<(), Error> {
+        self.hand_over()?;
+        if let WhenFull::Drop = self.when_full {
+            return done(unsafe { raw::seryugo_cut_open(room) });
+        }
+        self.kept = Some(taken(room)?);
+        self.hand_over()
+    }
+
+    /// Does with the entries that it keeps what is to be done with them.
+    pub fn hand_over(&mut self) -> Result<(), Error> {
+        let Some(journal) = self.kept.take() else {
+            return Ok(());
+        };
+        let refused = match &mut self.when_full {
+            WhenFull::Refuse | WhenFull::Drop => None,
+            WhenFull::Call(sink) => {
+                // If the sink panics, the entries are kept.
+                let journal = self.kept.insert(journal);
+                let told = sink(journal);
+                self.kept.take_if(|_| told.is_ok());
+                told.err()
+            }
+            WhenFull::Send(sender) => sender.send(journal).err().map(|refused| {
+                self.kept = Some(refused.0);
+                io::Error::new(io::ErrorKind::BrokenPipe, "no thread receives the journals any more")
+            }),
+        };
+        if refused.is_none() {
+            return Ok(());
+        }
+        self.error = refused;
+        Err(Error::NotKept)
+    }
+
+    /// Why the entries were not taken last. It is told once.
+    pub fn error(&mut self) -> Option<io::Error> {
+        mem::take(&mut self.error)
+    }
+}
+
+/// The entries of a room's journal, which is cut.
+pub(crate) fn taken<R: Room>(room: &mut Handle) -> Result<Journal<R>, Error> {
+    let first = written(|count| unsafe { raw::seryugo_cut_at(room, count) })?;
+    let mut count = 0;
+    let handle = Handle::opened(|journal| unsafe { raw::seryugo_take_journal_open(room, journal, &mut count) })?;
+    Ok(Journal::new(handle, first, count as usize))
+}

@@ -1,0 +1,211 @@
+//! Switchboards that cut full journals.
+
+use seryugo::{Bytes, Error, Numbers, Room, Switchboard, WhenFull};
+use std::fs::File;
+use std::future::Future;
+use std::io::{self, ErrorKind, Read, Seek};
+use std::pin::pin;
+use std::sync::atomic::{AtomicU64, Ordering};
+use std::sync::{mpsc, Arc, Mutex};
+use std::task::{Context, Poll, Waker};
+use std::thread;
+
+type Text = Arc<Mutex<Vec<u8>>>;
+
+/// A sink that appends to a text, and what it appends to.
+fn text_sink<R: Room>() -> (WhenFull<R>, Text) {
+    let text = Text::default();
+    let kept = text.clone();
+    (WhenFull::call(move |journal| journal.write_to(&mut *kept.lock().unwrap())), text)
+}
+
+/// How many entries a whole, lawful journal has.
+fn entries_of<R: Room>(text: &[u8]) -> u64 {
+    Switchboard::<R>::restore(text, 1_000).unwrap().entries()
+}
+
+#[test]
+fn no_call_is_refused_for_a_full_journal_by_seats_lanes_and_feeds() {
+    const EACH: u64 = 500;
+    let (sink, text) = text_sink::<Numbers>();
+    let board = Switchboard::of_numbers(7).unwrap().when_full(sink);
+    let (mut ann, mut ben) = (board.seat().unwrap(), board.seat().unwrap());
+    let mailbox = ann.mailbox::<u64>().unwrap();
+    let channel = ann.channel::<u64>().unwrap();
+    let mut feed = board.feed(channel, 64).unwrap();
+    let mut lane = board.lane(mailbox, 64).unwrap();
+    let number = lane.number();
+    thread::scope(|scope| {
+        scope.spawn(move || {
+            for message in 0..EACH {
+                ann.send(mailbox, message).unwrap();
+                ann.multicast(channel, message).unwrap();
+            }
+        });
+        scope.spawn(move || {
+            for message in EACH..2 * EACH {
+                while lane.send(message).is_err() {
+                    lane.drain().unwrap();
+                }
+            }
+            lane.close().unwrap();
+        });
+        let board = &board;
+        scope.spawn(move || {
+            let mut next = 0;
+            while next < EACH {
+                feed.pump().unwrap();
+                while let Some(message) = feed.recv().unwrap() {
+                    assert_eq!(message, next);
+                    next += 1;
+                }
+            }
+        });
+        scope.spawn(move || {
+            let mut sum = 0;
+            for _ in 0..2 * EACH {
+                let _ = board.drain(number);
+                sum += ben.recv(mailbox).unwrap();
+            }
+            assert_eq!(sum, EACH * (2 * EACH - 1));
+        });
+    });
+    board.keep().unwrap();
+    assert_eq!(board.entries(), board.cut_at());
+    assert_eq!(entries_of::<Numbers>(&text.lock().unwrap()), board.entries());
+}
+
+#[test]
+fn a_drain_goes_on_behind_a_full_journal() {
+    let (sink, text) = text_sink::<Bytes>();
+    let board = Switchboard::new(3).unwrap().when_full(sink);
+    let mailbox = board.seat().unwrap().mailbox::<String>().unwrap();
+    let mut lane = board.lane(mailbox, 100).unwrap();
+    for number in 0..100 {
+        lane.send(format!("message {number}")).unwrap();
+    }
+    assert_eq!(lane.drain(), Ok(100));
+    lane.close().unwrap();
+    board.keep().unwrap();
+    assert_eq!(entries_of::<Bytes>(&text.lock().unwrap()), 101);
+}
+
+#[test]
+fn a_sink_that_fails_refuses_calls_and_loses_nothing() {
+    let text = Text::default();
+    let (kept, calls) = (text.clone(), AtomicU64::new(0));
+    let sink = WhenFull::call(move |journal| match calls.fetch_add(1, Ordering::Relaxed) % 3 {
+        0 => journal.write_to(&mut *kept.lock().unwrap()),
+        1 => Err(ErrorKind::StorageFull.into()),
+        _ => Err(io::Error::other("the disk is away")),
+    });
+    let board = Switchboard::of_numbers(2).unwrap().when_full(sink);
+    let mut seat = board.seat().unwrap();
+    let mailbox = seat.mailbox::<u64>().unwrap();
+    let (mut sent, mut refused) = (0, 0);
+    while sent < 50 {
+        match seat.send(mailbox, sent) {
+            Ok(()) => sent += 1,
+            Err(unsent) => {
+                assert_eq!((unsent.error, unsent.message), (Error::NotKept, sent));
+                assert!(board.keeping_error().is_some());
+                refused += 1;
+            }
+        }
+    }
+    assert!(refused > 20);
+    for number in 0..sent {
+        let received = loop {
+            match seat.recv_poll(mailbox) {
+                Err(Error::NotKept) => continue,
+                received => break received,
+            }
+        };
+        assert_eq!(received, Ok(Some(number)));
+    }
+    while board.keep().is_err() {}
+    assert_eq!(entries_of::<Numbers>(&text.lock().unwrap()), 101);
+}
+
+#[test]
+fn a_call_that_waits_is_answered_while_nobody_takes_the_entries() {
+    let board = Switchboard::of_numbers(2).unwrap().when_full(WhenFull::call(|_| Err(ErrorKind::StorageFull.into())));
+    let (mut ann, mut ben) = (board.seat().unwrap(), board.seat().unwrap());
+    let mailbox = ann.mailbox::<u64>().unwrap();
+    let mut context = Context::from_waker(Waker::noop());
+    let mut received = pin!(ben.recv_async(mailbox));
+    assert_eq!(received.as_mut().poll(&mut context), Poll::Pending);
+    ann.send(mailbox, 5).unwrap();
+    assert_eq!(ann.send(mailbox, 6).unwrap_err().error, Error::NotKept);
+    assert_eq!(received.as_mut().poll(&mut context), Poll::Ready(Ok(5)));
+    assert_eq!(ann.recv_poll(mailbox), Err(Error::NotKept));
+}
+
+#[test]
+fn a_sink_that_panics_loses_nothing() {
+    let text = Text::default();
+    let (kept, calls) = (text.clone(), AtomicU64::new(0));
+    let board = Switchboard::of_numbers(1).unwrap().when_full(WhenFull::call(move |journal| {
+        assert!(calls.fetch_add(1, Ordering::Relaxed) != 0, "the first time it panics");
+        journal.write_to(&mut *kept.lock().unwrap())
+    }));
+    let mut seat = board.seat().unwrap();
+    let mailbox = seat.mailbox::<u64>().unwrap();
+    let panicked = thread::scope(|scope| scope.spawn(|| board.keep()).join().is_err());
+    assert!(panicked);
+    seat.send(mailbox, 5).unwrap();
+    board.keep().unwrap();
+    assert_eq!(entries_of::<Numbers>(&text.lock().unwrap()), 2);
+}
+
+#[test]
+fn a_thread_takes_the_entries() {
+    let (sender, journals) = mpsc::channel();
+    let board = Switchboard::of_numbers(10).unwrap().when_full(WhenFull::Send(sender));
+    let mut seat = board.seat().unwrap();
+    let taker = thread::spawn(move || {
+        let mut text = Vec::new();
+        for journal in journals {
+            journal.write_to(&mut text).unwrap();
+        }
+        text
+    });
+    let mailbox = seat.mailbox::<u64>().unwrap();
+    for number in 0..100 {
+        seat.send(mailbox, number).unwrap();
+    }
+    drop(seat);
+    board.keep().unwrap();
+    drop(board);
+    assert_eq!(entries_of::<Numbers>(&taker.join().unwrap()), 101);
+}
+
+#[test]
+fn a_journal_is_written_to_a_file_and_goes_on_from_it() {
+    let path = std::env::temp_dir().join(format!("seryugo_when_full_{}", std::process::id()));
+    let file = File::options().create(true).truncate(true).read(true).write(true).open(&path).unwrap();
+    let mut read = file.try_clone().unwrap();
+    let board = Switchboard::of_numbers(3).unwrap().when_full(WhenFull::file(file));
+    let mut seat = board.seat().unwrap();
+    let mailbox = seat.mailbox::<u64>().unwrap();
+    for number in 0..10 {
+        seat.send(mailbox, number).unwrap();
+    }
+    board.keep().unwrap();
+    let mut text = Vec::new();
+    read.rewind().unwrap();
+    read.read_to_end(&mut text).unwrap();
+    std::fs::remove_file(&path).unwrap();
+    let board = Switchboard::<Numbers>::restore(&text[..], 3).unwrap();
+    assert_eq!(board.owed(board.mailbox::<u64>(0).unwrap()), Ok(10));
+}
+
+#[test]
+fn a_switchboard_refuses_again_if_it_is_to() {
+    let board = Switchboard::of_numbers(1).unwrap().when_full(WhenFull::Drop).when_full(WhenFull::Refuse);
+    let mut seat = board.seat().unwrap();
+    let mailbox = seat.mailbox::<u64>().unwrap();
+    assert_eq!(seat.send(mailbox, 5).unwrap_err().error, Error::JournalFull);
+    assert_eq!(board.keep(), Ok(()));
+    assert_eq!(board.cut_at(), 0);
+}
