@@ -11,10 +11,10 @@ use Rattle.cml_board.specs.declared.call.Call.TheVariants.{NewPort}
 use Rattle.cml_board.specs.declared.entry.Who.TheVariants.{Seat, Feed}
 use Rattle.cml_board.specs.declared.entry.Reply.TheVariants.{Made}
 use Rattle.cml_board.specs.declared.outcome.Outcome.TheVariants.{Answered, WouldWait, Refused}
-use Rattle.cml_lanes.specs.{laned, fed, FloorShown, is_taken, is_open_lane, is_open_feed, OnPlace, is_barred, CutsAFloor, FloorCall, Apply}
-use Rattle.cml_lanes.specs.{Reserve, OpenLane, Drain, CloseLane, CloseCounted, DropLane, AbandonLane, OpenFeed, Pump, EndFeed, Cut}
-use Rattle.cml_lanes.specs.{TakeJournal, AppliesSeat, IsCalled, AreCalled, Deed, as_it_was, lane_drained, lane_gone, lane_opened}
-use Rattle.cml_lanes.specs.{feed_pumped, feed_gone, feed_opened}
+use Rattle.cml_lanes.specs.{laned, fed, FloorShown, is_taken, is_open_lane, is_open_feed, OnPlace, is_barred, CutsAFloor, CutsOpenFloor}
+use Rattle.cml_lanes.specs.{FloorCall, Apply, Reserve, OpenLane, Drain, CloseLane, CloseCounted, DropLane, AbandonLane, OpenFeed, Pump}
+use Rattle.cml_lanes.specs.{EndFeed, Cut, TakeJournal, CutOpen, TakeJournalOpen, AppliesSeat, IsCalled, AreCalled, Deed, as_it_was}
+use Rattle.cml_lanes.specs.{lane_drained, lane_gone, lane_opened, feed_pumped, feed_gone, feed_opened}
 use Rattle.cml_lanes.proofs.SlotsLemmas.{same_length}
 use Rattle.cml_lanes.proofs.LaningLemmas.{laned_other, laned_apart}
 use Rattle.cml_lanes.proofs.FeedEntriesLemmas.{fed_other, fed_apart, laned_fed, fed_laned}
@@ -166,6 +166,9 @@ module _ {M : Type 0} where
   cut_leaves old new (Ok done) told = none_leaves old new (untouched told.lanes) (untouched told.feeds) told.board.history
   cut_leaves old new (Err refusal) told = deed_leaves old new (still old new told.2)
 
+  cut_open_leaves : (old new : FloorShown M) → CutsOpenFloor old new → Leaves old new
+  cut_open_leaves old new cut = none_leaves old new (untouched cut.lanes) (untouched cut.feeds) cut.board.history
+
   -- each call does so
   call_leaves : (chunk : ℕ) (sure : Bool) (call : FloorCall M) (old new : FloorShown M) → IsCalled chunk sure call old new → Leaves old new
   call_leaves chunk sure (Apply seat call outcome) old new applies = record {
@@ -188,6 +191,8 @@ module _ {M : Type 0} where
   call_leaves chunk sure (EndFeed feed result) old new told = deed_leaves old new (ends feed old new result told)
   call_leaves chunk sure (Cut result) old new told = cut_leaves old new result told.0
   call_leaves chunk sure (TakeJournal result) old new told = cut_leaves old new result told
+  call_leaves chunk sure CutOpen old new told = cut_open_leaves old new told.0
+  call_leaves chunk sure TakeJournalOpen old new told = cut_open_leaves old new told
 
   -- over a run: of these places, and what the journal has of them
   run_lasts : {Side : Type 0} (slots : FloorShown M → List (Option Side)) (entries : List (Entry M) → ℕ → List M)

@@ -10,10 +10,10 @@ use Rattle.cml_board.specs.declared.call.Call.TheVariants.{Recv}
 use Rattle.cml_board.specs.declared.outcome.Outcome.TheVariants.{Answered, WouldWait, Refused}
 use Rattle.cml_board.specs.declared.outcome.Refusal.TheVariants.{NoMemory}
 use Rattle.cml_lanes.specs.{way_call, with_entries, Enters, FloorShown, is_barred, HoldsUp, Starves, added_since, TakesEntryAlone}
-use Rattle.cml_lanes.specs.{LaneTakesEntryAlone, FeedTakesEntryAlone, CutsAFloor, FloorCall, Apply, Reserve, OpenLane, Drain, CloseLane}
-use Rattle.cml_lanes.specs.{CloseCounted, DropLane, AbandonLane, OpenFeed, Pump, EndFeed, Cut, TakeJournal, AppliesSeat, IsCalled}
-use Rattle.cml_lanes.specs.{AreCalled, takes_journal, keeps_journal, Deed, as_it_was, lane_drained, lane_gone, lane_opened, feed_pumped}
-use Rattle.cml_lanes.specs.{feed_gone, feed_opened}
+use Rattle.cml_lanes.specs.{LaneTakesEntryAlone, FeedTakesEntryAlone, CutsAFloor, CutsOpenFloor, FloorCall, Apply, Reserve, OpenLane}
+use Rattle.cml_lanes.specs.{Drain, CloseLane, CloseCounted, DropLane, AbandonLane, OpenFeed, Pump, EndFeed, Cut, TakeJournal, CutOpen}
+use Rattle.cml_lanes.specs.{TakeJournalOpen, AppliesSeat, IsCalled, AreCalled, takes_journal, keeps_journal, Deed, as_it_was}
+use Rattle.cml_lanes.specs.{lane_drained, lane_gone, lane_opened, feed_pumped, feed_gone, feed_opened}
 use Rattle.cml_lanes.proofs.OneSlotLemmas.{stays_there}
 use Rattle.cml_lanes.proofs.EnteredLemmas.{counted}
 use Rattle.cml_lanes.proofs.DeedsLemmas.{still, reserves, opens_lane, drains, drops, abandons, closes, closes_counted, opens_feed, pumps}
@@ -91,6 +91,13 @@ module _ {M : Type 0} where
   }
   lasts_cut old new (Err refusal) told kept = lasts_done old new (still old new told.2)
 
+  lasts_cut_open : (old new : FloorShown M) → CutsOpenFloor old new → old.board.reserved ≤ new.board.reserved
+      → Lasts old.board new.board
+  lasts_cut_open old new cut kept = record {
+    grown = omega (arith, ap entries_in cut.board.history);
+    kept = omega (arith, ap entries_in cut.board.history, kept);
+  }
+
   -- by one call
   lasts_once : (chunk : ℕ) (sure : Bool) (call : FloorCall M) (old new : FloorShown M) → not (takes_journal call) ≡ true
       → IsCalled chunk sure call old new → Lasts old.board new.board
@@ -111,6 +118,8 @@ module _ {M : Type 0} where
   lasts_once chunk sure (EndFeed feed result) old new keeps told = lasts_done old new (ends feed old new result told)
   lasts_once chunk sure (Cut result) old new keeps told = lasts_cut old new result told.0 told.1
   lasts_once chunk sure (TakeJournal result) old new keeps told = absurd (false≢true keeps)
+  lasts_once chunk sure CutOpen old new keeps told = lasts_cut_open old new told.0 told.1
+  lasts_once chunk sure TakeJournalOpen old new keeps told = absurd (false≢true keeps)
 
   -- over a run
   pub lasts_all : (chunk : ℕ) (sure : Bool) (calls : List (FloorCall M)) (old new : FloorShown M) → AreCalled chunk sure calls old new

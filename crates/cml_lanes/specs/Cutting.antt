@@ -18,6 +18,13 @@ module _ {M : Type 0} where
     pub lanes : new.lanes ≡ old.lanes
     pub feeds : new.feeds ≡ old.feeds
 
+  -- the whole journal was cut away, and the lanes and feeds are unchanged, whether or not any is open. How much memory is reserved
+  -- then is left open
+  pub record CutsOpenFloor (old new : FloorShown M) : Type 0 where
+    pub board : Cuts old.board new.board
+    pub lanes : new.lanes ≡ old.lanes
+    pub feeds : new.feeds ≡ old.feeds
+
   -- a cut fails exactly if a lane or a feed is open, and then nothing is changed
   abbrev pub NotCut : FloorShown M → FloorShown M → Refusal → Type 0
   NotCut old new refusal = (refusal ≡ Busy) × IsBusy old × (new ≡ old)

@@ -11,7 +11,7 @@ use Rattle.cml_lanes.specs.Barring.{is_barred}
 use Rattle.cml_lanes.specs.Lanes.{OpensALane, Drains, Closes, ClosesCounted, Drops, Abandons}
 use Rattle.cml_lanes.specs.Feeds.{OpensAFeed, Pumps, Ends}
 use Rattle.cml_lanes.specs.Reserving.{Reserves}
-use Rattle.cml_lanes.specs.Cutting.{CutsAFloor}
+use Rattle.cml_lanes.specs.Cutting.{CutsAFloor, CutsOpenFloor}
 
 -- a call of a floor, what it was given, and what it told
 pub data FloorCall (M : Type 0) : Type 0 where
@@ -28,6 +28,8 @@ pub data FloorCall (M : Type 0) : Type 0 where
   EndFeed : ℕ → Result (Option (Ended M)) Refusal → FloorCall M
   Cut : Result ⊤ Refusal → FloorCall M
   TakeJournal : Result ⊤ Refusal → FloorCall M
+  CutOpen : FloorCall M
+  TakeJournalOpen : FloorCall M
 
 module _ {M : Type 0} where
   -- a seat's call: an open feed bars it, or this is what becomes of it on the board; no lane or feed is changed
@@ -52,10 +54,13 @@ module _ {M : Type 0} where
   IsCalled chunk sure (EndFeed feed result) old new = Ends feed old new result
   IsCalled chunk sure (Cut result) old new = CutsAFloor old new result × (old.board.reserved ≤ new.board.reserved)
   IsCalled chunk sure (TakeJournal result) old new = CutsAFloor old new result
+  IsCalled chunk sure CutOpen old new = CutsOpenFloor old new × (old.board.reserved ≤ new.board.reserved)
+  IsCalled chunk sure TakeJournalOpen old new = CutsOpenFloor old new
 
   -- the call hands the journal over, and with it the memory that stood reserved
   abbrev pub takes_journal : FloorCall M → Bool
   takes_journal (TakeJournal result) = true
+  takes_journal TakeJournalOpen = true
   takes_journal call = false
 
   -- none of the calls does

@@ -5,7 +5,7 @@ ghost use Rattle.cml_board.specs.declared.outcome.Outcome.TheVariants.{Refused};
 ghost use Rattle.cml_board.specs.declared.outcome.Refusal.TheVariants.{WrongKind};
 ghost use Rattle.cml_board.specs.{no_entries, entries_in, lanes_of, feeds_of, Applies, outcome_of};
 ghost use Rattle.cml_lanes.specs.{laned, is_open_lane, is_open_feed, stays, OnLane, KeepsLanes, KeepsFeeds, KeepsRings, IsOfRing, GivesAll};
-ghost use Rattle.cml_lanes.specs.{DrainsUntil, is_barred, Reserves, CutsAFloor, CutsFloor, NotCut, IsBusy};
+ghost use Rattle.cml_lanes.specs.{DrainsUntil, is_barred, Reserves, CutsAFloor, CutsFloor, CutsOpenFloor, NotCut, IsBusy};
 
 mod feeds;
 mod lanes;
@@ -146,8 +146,8 @@ impl<M: Message, L: MessageLog<M>> Floor<M, L> {
 
     /// Reserves memory for `n` more entries. Until `n` entries are added, `NoMemory` comes only of an entry that makes an
     /// object, fills a chunk, or shares a message whose `share` can fail. Opening a lane or a feed needs more memory.
-    /// A `cut` keeps the reserved memory; a `take_journal` hands it over with the entries. Fails only with `NoMemory`, and then
-    /// the floor is unchanged.
+    /// A `cut` or `cut_open` keeps the reserved memory. A `take_journal` or `take_journal_open` hands it over with the entries.
+    /// Fails only with `NoMemory`, and then the floor is unchanged.
     pub fn reserve(&mut self, n: usize) -> Result<(), Refusal>
         ensures reserves { Reserves self.old self.new n result }
         ensures rings { KeepsRings self.old self.new }
@@ -182,6 +182,25 @@ impl<M: Message, L: MessageLog<M>> Floor<M, L> {
             return Err(Refusal::Busy);
         }
         Ok(self.board.take_journal())
+    }
+
+    /// Cuts the board's journal while lanes and feeds are open, and never fails. Their rings go on as they were. `KeepsLanes` and
+    /// `KeepsFeeds` speak of all entries, those that were cut away included.
+    pub fn cut_open(&mut self)
+        ensures cut { CutsOpenFloor self.old self.new }
+        ensures reserved { self.old.board.reserved ≤ self.new.board.reserved }
+        ensures rings { KeepsRings self.old self.new }
+    {
+        self.board.cut();
+    }
+
+    /// Cuts the journal as `cut_open` does, and returns the entries that it had. The reserved memory goes with them.
+    pub fn take_journal_open(&mut self) -> Vec<Entry<M>>
+        ensures taken { reverse result.items ++ self.old.board.past ≡ self.old.board.history }
+        ensures cut { CutsOpenFloor self.old self.new }
+        ensures rings { KeepsRings self.old self.new }
+    {
+        self.board.take_journal()
     }
 
     fn is_busy(&self) -> bool
