@@ -3,11 +3,11 @@ use Rattle.std.proofs.Common.{◌≡◌, ℕ, ◌+◌, ◌≤◌, ◌⊎◌, inl
 use Rattle.std.proofs.Common.{Ok, Err, subst, sym, ap, ◌∙◌, arith, length-append}
 use Rattle.std.specs.Prelude.{⊤, min, is_some, count_by, MatchResult}
 use Rattle.std.proofs.lemmas.List.Sums.{sum_by-append}
-use Rattle.cml_board.specs.{Entry, Name, Refusal, entries_in, HasRoom, IsAsBefore, full_at, Waits}
+use Rattle.cml_board.specs.{Entry, Name, Refusal, Cuts, entries_in, HasRoom, IsAsBefore, full_at, Waits}
 use Rattle.cml_board.specs.Shown.{Shown}
 use Rattle.cml_board.specs.declared.outcome.Refusal.TheVariants.{NoSuch}
-use Rattle.cml_lanes.specs.{LaneShown, Ended, FloorShown, NoSuchOr, FindsNoFeed, OpensALane, CutsFloor, CutsAFloor, NotCut, Reserves}
-use Rattle.cml_lanes.specs.{IsFloorAsBefore}
+use Rattle.cml_lanes.specs.{LaneShown, Ended, FloorShown, NoSuchOr, FindsNoFeed, OpensALane, CutsFloor, CutsAFloor, CutsOpenFloor, NotCut}
+use Rattle.cml_lanes.specs.{Reserves, IsFloorAsBefore}
 use Rattle.cml_lanes.specs.Feeds.{Ends}
 use Rattle.cml_room.specs.{Place, Waiter, states_in, IsMate, NoneOpen, AreIdle, WouldWait, AreAt, IsWatched}
 
@@ -50,19 +50,18 @@ module _ {M : Type 0} where
       omega (arith, room, full, ap entries_in same.history)
 
   -- a cut makes room
-  room_cut : (old new : FloorShown M) → entries_in old.board.past ≤ entries_in old.board.history → CutsFloor old new
-      → HasRoom old.board → HasRoom new.board
+  room_cut : (old new : Shown M) → entries_in old.past ≤ entries_in old.history → Cuts old new → HasRoom old → HasRoom new
   room_cut old new past cut room =
-      let full : full_at new.board ≡ min (entries_in old.board.history + old.board.limit) 18446744073709551615 =
-      ap (λ p. min (entries_in p + new.board.limit) 18446744073709551615) cut.board.past
-      ∙ ap (λ l. min (entries_in old.board.history + l) 18446744073709551615) cut.board.limit in
-      omega (arith, room, past, full, ap entries_in cut.board.history)
+      let full : full_at new ≡ min (entries_in old.history + old.limit) 18446744073709551615 =
+      ap (λ p. min (entries_in p + new.limit) 18446744073709551615) cut.past
+      ∙ ap (λ l. min (entries_in old.history + l) 18446744073709551615) cut.limit in
+      omega (arith, room, past, full, ap entries_in cut.history)
 
   cut_watched : (old new : FloorShown M) (places : List Place) (all_due : Bool)
-      → entries_in old.board.past ≤ entries_in old.board.history → CutsFloor old new
+      → entries_in old.board.past ≤ entries_in old.board.history → Cuts old.board new.board → new.lanes ≡ old.lanes
       → IsWatched old places all_due → IsWatched new places all_due
-  cut_watched old new places all_due past cut was =
-      same_watched old new places all_due was cut.board.history (room_cut old new past cut) (λ none. subst NoneOpen cut.lanes none)
+  cut_watched old new places all_due past cut lanes was =
+      same_watched old new places all_due was cut.history (room_cut old.board new.board past cut) (λ none. subst NoneOpen lanes none)
 
   not_cut_watched : (old new : FloorShown M) (places : List Place) (all_due : Bool) (refusal : Refusal) → NotCut old new refusal
       → IsWatched old places all_due → IsWatched new places all_due
@@ -75,7 +74,7 @@ module _ {M : Type 0} where
       → journal ++ old.board.past ≡ old.board.history → CutsAFloor old new told
       → IsWatched old places all_due → IsWatched new places all_due
   cuts_watched old new places all_due journal (Ok done) all cut was =
-      cut_watched old new places all_due (past_within journal old.board.past old.board.history all) cut was
+      cut_watched old new places all_due (past_within journal old.board.past old.board.history all) cut.board cut.lanes was
   cuts_watched old new places all_due journal (Err refusal) all not was = not_cut_watched old new places all_due refusal not was
 
   pub taken_watched : {X : Type 0} (old new : FloorShown M) (places : List Place) (all_due : Bool)
@@ -83,8 +82,14 @@ module _ {M : Type 0} where
       → MatchResult told (λ taken. journal taken ++ old.board.past ≡ old.board.history) (λ _. ⊤)
       → MatchResult told (λ _. CutsFloor old new) (NotCut old new) → IsWatched old places all_due → IsWatched new places all_due
   taken_watched old new places all_due journal (Ok taken) all cut was =
-      cut_watched old new places all_due (past_within (journal taken) old.board.past old.board.history all) cut was
+      cut_watched old new places all_due (past_within (journal taken) old.board.past old.board.history all) cut.board cut.lanes was
   taken_watched old new places all_due journal (Err refusal) all not was = not_cut_watched old new places all_due refusal not was
+
+  pub cut_open_watched : (old new : FloorShown M) (places : List Place) (all_due : Bool) (journal : List (Entry M))
+      → journal ++ old.board.past ≡ old.board.history → CutsOpenFloor old new
+      → IsWatched old places all_due → IsWatched new places all_due
+  cut_open_watched old new places all_due journal all cut was =
+      cut_watched old new places all_due (past_within journal old.board.past old.board.history all) cut.board cut.lanes was
 
   as_before_watched : (old new : FloorShown M) (places : List Place) (all_due : Bool) → IsFloorAsBefore old new
       → IsWatched old places all_due → IsWatched new places all_due

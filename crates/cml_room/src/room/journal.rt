@@ -1,6 +1,6 @@
 //! The calls on the journal. They make no seat due.
 ghost use Rattle.std.specs.Prelude.{◌≡◌, ◌≤◌, ◌++◌, IfOk, MatchResult, reverse};
-ghost use Rattle.cml_lanes.specs.{KeepsRings, CutsAFloor, CutsFloor, NotCut, Reserves};
+ghost use Rattle.cml_lanes.specs.{KeepsRings, CutsAFloor, CutsFloor, CutsOpenFloor, NotCut, Reserves};
 ghost use Rattle.cml_room.specs.{floor_of, KeepsSeats};
 
 use super::Room;
@@ -38,5 +38,27 @@ impl<M: Message, L: MessageLog<M>> Room<M, L> {
         ensures kept { KeepsSeats self.old self.new }
     {
         self.floor.take_journal()
+    }
+
+    /// Cuts the journal while lanes and feeds are open, as `Floor::cut_open` does.
+    pub fn cut_open(&mut self)
+        ensures cut { CutsOpenFloor (floor_of self.old) (floor_of self.new) }
+        ensures reserved { self.old.board.reserved ≤ self.new.board.reserved }
+        ensures rings { KeepsRings (floor_of self.old) (floor_of self.new) }
+        ensures kept { KeepsSeats self.old self.new }
+    {
+        // As for `cut`: the journal is a part of all entries.
+        let _journal = self.floor.board().journal();
+        self.floor.cut_open();
+    }
+
+    /// Cuts the journal as `cut_open` does, and returns the entries that it had, as `Floor::take_journal_open` does.
+    pub fn take_journal_open(&mut self) -> Vec<Entry<M>>
+        ensures taken { reverse result.items ++ self.old.board.past ≡ self.old.board.history }
+        ensures cut { CutsOpenFloor (floor_of self.old) (floor_of self.new) }
+        ensures rings { KeepsRings (floor_of self.old) (floor_of self.new) }
+        ensures kept { KeepsSeats self.old self.new }
+    {
+        self.floor.take_journal_open()
     }
 }
