@@ -1,7 +1,7 @@
 ghost use Rattle.std.specs.Prelude.{◌≡◌, ◌≢◌, ◌^◌, ◌≤◌, [], ◌∷◌, ◌++◌, length, reverse, IfOk, IfErr, OnOk, MatchResult};
 ghost use Rattle.cml_board.specs.declared.outcome.Refusal.TheVariants.{Gone, NoMemory};
 ghost use Rattle.cml_board.specs.{no_entries, entries_in, IsSound};
-ghost use Rattle.cml_lanes.specs.{KeepsLanes, KeepsFeeds, KeepsRings, Reserves, CutsAFloor, CutsFloor, NotCut};
+ghost use Rattle.cml_lanes.specs.{KeepsLanes, KeepsFeeds, KeepsRings, Reserves, CutsAFloor, CutsFloor, CutsOpenFloor, NotCut};
 ghost use Rattle.cml_room.specs.{KeepsSeats, MakesNoneDue, AllSleepRightly, NoneDue, Other, IsMade, free_in, parked_in};
 ghost use Rattle.cml_threads.specs.{Sitting, floor_of, room_of, MayAsk, with_state};
 
@@ -128,6 +128,29 @@ impl<M: Message, L: MessageLog<M>, Led: Ledger> Hall<M, L, Led> {
         ensures book { self.new.book ≡ self.old.book }
     {
         self.room.take_journal()
+    }
+
+    /// Cuts the journal while lanes and feeds are open, as `Floor::cut_open` does. A seat that waits goes on waiting, and all
+    /// answers stay counted.
+    pub fn cut_open(&mut self)
+        ensures cut { CutsOpenFloor (floor_of self.old) (floor_of self.new) }
+        ensures reserved { self.old.board.reserved ≤ self.new.board.reserved }
+        ensures rings { KeepsRings (floor_of self.old) (floor_of self.new) }
+        ensures kept { KeepsSeats (room_of self.old) (room_of self.new) }
+        ensures book { self.new.book ≡ self.old.book }
+    {
+        self.room.cut_open();
+    }
+
+    /// Cuts the journal as `cut_open` does, and returns the entries that it had, as `Floor::take_journal_open` does.
+    pub fn take_journal_open(&mut self) -> Vec<Entry<M>>
+        ensures taken { reverse result.items ++ self.old.board.past ≡ self.old.board.history }
+        ensures cut { CutsOpenFloor (floor_of self.old) (floor_of self.new) }
+        ensures rings { KeepsRings (floor_of self.old) (floor_of self.new) }
+        ensures kept { KeepsSeats (room_of self.old) (room_of self.new) }
+        ensures book { self.new.book ≡ self.old.book }
+    {
+        self.room.take_journal_open()
     }
 
     /// Makes a new seat, which is free and has the next number. Fails only with `NoMemory`.

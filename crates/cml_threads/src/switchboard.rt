@@ -149,6 +149,24 @@ impl<M: Message, L: MessageLog<M>, Led: Ledger> Switchboard<M, L, Led> {
         told
     }
 
+    /// Cuts the journal while lanes and feeds are open, as `Hall::cut_open` does, and never fails. A lane that is closed later
+    /// still has all that its thread sent, in order: the entries that were cut away, and then those of the journal.
+    /// Their entries are dropped under the lock, as by `cut`.
+    pub fn cut_open<R: Wait>(&self, rt: &R) {
+        let mut turn = self.locked.lock(rt);
+        turn.hall().cut_open();
+        self.locked.let_go(turn);
+    }
+
+    /// Cuts the journal as `cut_open` does, and returns the entries that it had, oldest first. If nothing else cuts the journal,
+    /// the pieces that it returns are all accepted calls, each once.
+    pub fn take_journal_open<R: Wait>(&self, rt: &R) -> Vec<Entry<M>> {
+        let mut turn = self.locked.lock(rt);
+        let taken = turn.hall().take_journal_open();
+        self.locked.let_go(turn);
+        taken
+    }
+
     /// Makes a call, and blocks until it returns or fails. It may block for ever, if no thread sends what it waits for. A call
     /// that fails is returned, and did nothing.
     ///
