@@ -8,13 +8,12 @@
 //! each thread ends behind so many messages. `tests/keep_journal.sh` kills it ten times.
 
 mod file;
-mod pieces;
 
 use file::File;
-use pieces::Pieces;
-use seryugo::{Error, Mailbox, Numbers, Seat, Switchboard};
+use seryugo::{Error, Mailbox, Numbers, Seat, Switchboard, WhenFull};
 use std::error::Error as AnyError;
 use std::path::PathBuf;
+use std::sync::mpsc::sync_channel;
 use std::{env, thread};
 
 const THREADS: u64 = 4;
@@ -25,6 +24,9 @@ const AT_ONCE: u64 = 16;
 /// How many entries a piece has.
 const PIECE: u64 = 10_000;
 
+/// How many pieces may wait to be written. Then the threads wait too.
+const WAITING: usize = 4;
+
 fn main() -> Result<(), Box<dyn AnyError>> {
     let mut words = env::args().skip(1);
     let folder = PathBuf::from(words.next().ok_or("usage: keep_journal FOLDER [MESSAGES]")?);
@@ -32,27 +34,31 @@ fn main() -> Result<(), Box<dyn AnyError>> {
 
     let (mut file, board) = File::open(&folder, PIECE)?;
     println!("goes on behind {} entries", board.entries());
-    let mailboxes = mailboxes(&board)?;
-    let (pieces, taken) = Pieces::new(&board);
+    let (pieces, taken) = sync_channel(WAITING);
+    let writer = thread::spawn(move || taken.iter().try_for_each(|journal| file.keep(&journal)));
+    // A call that finds the journal full hands it to the writer.
+    let board = board.when_full(WhenFull::give(move |journal| pieces.send(journal).map_err(|unsent| unsent.0)));
+    pass_all(&board, messages)?;
+    board.keep()?;
+    // Without pieces to come the writer ends.
+    drop(board);
+    writer.join().expect("the writer panicked")?;
+    Ok(())
+}
+
+/// Has each thread pass so many messages.
+fn pass_all(board: &Switchboard<Numbers>, messages: u64) -> Result<(), Error> {
+    let mailboxes = mailboxes(board)?;
     let seats = (0..THREADS).map(|_| board.seat()).collect::<Result<Vec<_>, _>>()?;
     thread::scope(|scope| {
-        let writer = scope.spawn(move || taken.iter().try_for_each(|journal| file.keep(&journal)));
         let passing: Vec<_> = (0..)
             .zip(seats)
             .map(|(k, seat)| {
-                let (pieces, to) = (pieces.clone(), mailboxes[(k + 1) % mailboxes.len()]);
-                let from = mailboxes[k];
-                scope.spawn(move || pass(&pieces, seat, to, from, messages))
+                let (from, to) = (mailboxes[k], mailboxes[(k + 1) % mailboxes.len()]);
+                scope.spawn(move || pass(board, seat, to, from, messages))
             })
             .collect();
-        for thread in passing {
-            thread.join().expect("a thread panicked")?;
-        }
-        pieces.take()?;
-        // Without pieces to come the writer ends.
-        drop(pieces);
-        writer.join().expect("the writer panicked")?;
-        Ok(())
+        passing.into_iter().try_for_each(|thread| thread.join().expect("a thread panicked"))
     })
 }
 
@@ -69,24 +75,23 @@ fn mailboxes(board: &Switchboard<Numbers>) -> Result<Vec<Mailbox<u64>>, Error> {
 
 /// One thread: it sends some messages, receives as many, and so on.
 fn pass(
-    pieces: &Pieces<'_>,
+    board: &Switchboard<Numbers>,
     mut seat: Seat<'_, Numbers>,
     to: Mailbox<u64>,
     from: Mailbox<u64>,
     messages: u64,
 ) -> Result<(), Error> {
-    let board = pieces.board();
     let mut sent = board.sent(to)?;
     let mut received = board.got(from)?;
     let mut left = messages;
     while left > 0 {
         let some = left.min(AT_ONCE);
         for _ in 0..some {
-            pieces.with_room(|| Ok(seat.send(to, sent)?))?;
+            seat.send(to, sent)?;
             sent += 1;
         }
         for _ in 0..some {
-            let message = pieces.with_room(|| seat.recv(from))?;
+            let message = seat.recv(from)?;
             assert_eq!(message, received, "a message is lost or doubled");
             received += 1;
         }

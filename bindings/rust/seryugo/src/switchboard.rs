@@ -119,18 +119,17 @@ impl<R: Room> Switchboard<R> {
     ///
     /// ```
     /// use seryugo::{Error, Switchboard, WhenFull};
-    /// use std::sync::mpsc;
     ///
-    /// let (sender, journals) = mpsc::channel();
-    /// let board = Switchboard::new(2)?.when_full(WhenFull::Send(sender));
+    /// let board = Switchboard::new(1)?.when_full(WhenFull::Drop);
     /// let mut seat = board.seat()?;
     /// let mailbox = seat.mailbox::<u64>()?;
     /// seat.send(mailbox, 5)?;
-    /// seat.send(mailbox, 6)?;
-    /// assert_eq!(journals.recv().unwrap().len(), 2);
-    /// drop(journals);
-    /// seat.send(mailbox, 7)?;
-    /// let refused = seat.send(mailbox, 8).unwrap_err();
+    /// assert_eq!(board.cut_at(), 1);
+    ///
+    /// let board = Switchboard::new(1)?.when_full(WhenFull::give(Err));
+    /// let mut seat = board.seat()?;
+    /// let mailbox = seat.mailbox::<u64>()?;
+    /// let refused = seat.send(mailbox, 5).unwrap_err();
     /// assert_eq!(refused.error, Error::NotKept);
     /// # Ok::<(), seryugo::Error>(())
     /// ```
@@ -144,13 +143,12 @@ impl<R: Room> Switchboard<R> {
     ///
     /// ```
     /// use seryugo::{Switchboard, WhenFull};
-    /// use std::sync::mpsc;
     ///
-    /// let (sender, journals) = mpsc::channel();
-    /// let board = Switchboard::new(1_000)?.when_full(WhenFull::Send(sender));
+    /// let board = Switchboard::new(1_000)?.when_full(WhenFull::Drop);
     /// board.seat()?.mailbox::<u64>()?;
+    /// assert_eq!(board.cut_at(), 0);
     /// board.keep()?;
-    /// assert_eq!(journals.recv().unwrap().len(), 1);
+    /// assert_eq!(board.cut_at(), 1);
     /// # Ok::<(), seryugo::Error>(())
     /// ```
     pub fn keep(&self) -> Result<(), Error> {
@@ -164,6 +162,7 @@ impl<R: Room> Switchboard<R> {
     /// use std::io::ErrorKind;
     ///
     /// let board = Switchboard::new(1_000)?.when_full(WhenFull::call(|_| Err(ErrorKind::StorageFull.into())));
+    /// board.seat()?.mailbox::<u64>()?;
     /// assert_eq!(board.keep(), Err(Error::NotKept));
     /// assert_eq!(board.keeping_error().map(|error| error.kind()), Some(ErrorKind::StorageFull));
     /// assert!(board.keeping_error().is_none());

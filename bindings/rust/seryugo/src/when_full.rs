@@ -8,7 +8,6 @@ use std::fmt;
 use std::fs::File;
 use std::io::{self, Seek, SeekFrom};
 use std::mem;
-use std::sync::mpsc::Sender;
 
 /// What a switchboard does if a call finds its journal full. See [`Switchboard::when_full`](crate::Switchboard::when_full).
 ///
@@ -32,10 +31,13 @@ pub enum WhenFull<R: Room = Bytes> {
     /// The switchboard drops the entries.
     Drop,
     /// The switchboard calls this sink with the entries, which it keeps until the sink returns `Ok`.
-    Call(Box<dyn FnMut(&Journal<R>) -> io::Result<()> + Send>),
-    /// The switchboard sends the entries to whichever thread receives them.
-    Send(Sender<Journal<R>>),
+    Call(Box<Sink<R>>),
+    /// The switchboard gives the entries away. If it gets them back, it keeps them.
+    Give(Box<Taker<R>>),
 }
+
+type Sink<R> = dyn FnMut(&Journal<R>) -> io::Result<()> + Send;
+type Taker<R> = dyn FnMut(Journal<R>) -> Result<(), Journal<R>> + Send;
 
 impl<R: Room> WhenFull<R> {
     /// Calls this sink with the entries. The sink runs under the lock, so it must not call the switchboard.
@@ -56,6 +58,26 @@ impl<R: Room> WhenFull<R> {
     /// ```
     pub fn call(sink: impl FnMut(&Journal<R>) -> io::Result<()> + Send + 'static) -> WhenFull<R> {
         WhenFull::Call(Box::new(sink))
+    }
+
+    /// Gives the entries away, such as to a thread that writes them meanwhile. `Err` gives them back.
+    ///
+    /// ```
+    /// use seryugo::{Switchboard, WhenFull};
+    /// use std::sync::mpsc;
+    ///
+    /// // If two journals wait to be received, the call that finds the third one full waits too.
+    /// let (sender, journals) = mpsc::sync_channel(2);
+    /// let taker = WhenFull::give(move |journal| sender.send(journal).map_err(|unsent| unsent.0));
+    /// let board = Switchboard::new(1)?.when_full(taker);
+    /// let mut seat = board.seat()?;
+    /// let mailbox = seat.mailbox::<u64>()?;
+    /// seat.send(mailbox, 5)?;
+    /// assert_eq!(journals.recv().unwrap().len(), 1);
+    /// # Ok::<(), seryugo::Error>(())
+    /// ```
+    pub fn give(taker: impl FnMut(Journal<R>) -> Result<(), Journal<R>> + Send + 'static) -> WhenFull<R> {
+        WhenFull::Give(Box::new(taker))
     }
 
     /// Writes the entries to a file, and syncs it before the call is made. If that fails, it cuts the file to what it had.
@@ -80,7 +102,7 @@ impl<R: Room> fmt::Debug for WhenFull<R> {
             WhenFull::Refuse => "Refuse",
             WhenFull::Drop => "Drop",
             WhenFull::Call(_) => "Call(..)",
-            WhenFull::Send(_) => "Send(..)",
+            WhenFull::Give(_) => "Give(..)",
         })
     }
 }
@@ -138,9 +160,9 @@ impl<R: Room> Keeper<R> {
                 self.kept.take_if(|_| told.is_ok());
                 told.err()
             }
-            WhenFull::Send(sender) => sender.send(journal).err().map(|refused| {
-                self.kept = Some(refused.0);
-                io::Error::new(io::ErrorKind::BrokenPipe, "no thread receives the journals any more")
+            WhenFull::Give(taker) => taker(journal).err().map(|journal| {
+                self.kept = Some(journal);
+                io::Error::other("the entries were given back")
             }),
         };
         if refused.is_none() {

@@ -161,7 +161,8 @@ fn a_sink_that_panics_loses_nothing() {
 #[test]
 fn a_thread_takes_the_entries() {
     let (sender, journals) = mpsc::channel();
-    let board = Switchboard::of_numbers(10).unwrap().when_full(WhenFull::Send(sender));
+    let taker = WhenFull::give(move |journal| sender.send(journal).map_err(|unsent| unsent.0));
+    let board = Switchboard::of_numbers(10).unwrap().when_full(taker);
     let mut seat = board.seat().unwrap();
     let taker = thread::spawn(move || {
         let mut text = Vec::new();
