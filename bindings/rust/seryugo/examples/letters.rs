@@ -1,7 +1,9 @@
 //! One thread sends a letter, and another receives it.
 
+use seryugo::{Switchboard, WhenFull};
+
 fn main() -> Result<(), seryugo::Error> {
-    let board = seryugo::Switchboard::new(1_000)?;
+    let board = Switchboard::new(1_000)?.when_full(WhenFull::Drop);
     let (mut ann, mut ben) = (board.seat()?, board.seat()?);
     let letters = ben.mailbox::<u64>()?;
     std::thread::scope(|scope| {
