@@ -24,6 +24,10 @@ impl Message for Weather {
     fn same(&self, other: &Weather) -> bool {
         *self == *other
     }
+
+    fn owns_memory() -> bool {
+        false
+    }
 }
 
 /// A text that lies elsewhere, for longer than the board lives. A share never fails.
