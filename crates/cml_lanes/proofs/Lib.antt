@@ -5,6 +5,7 @@ pub mod FeedEntriesLemmas
 pub mod PumpsLemmas
 pub mod SlotsLemmas
 pub mod OneSlotLemmas
+pub mod BehindLemmas
 pub mod EachRingLemmas
 pub mod OutcomesLemmas
 pub mod KeptLanesLemmas

@@ -28,7 +28,7 @@ pub use Floor.{FindsNoFeed, FindsNoLane, FloorShown, GivesAll, IsOfItsRing, IsOf
 pub use Floor.{OnLane, OnPlace, SameFeedRing, SameRing, goes, is_open_feed, is_open_lane, is_taken, stays}
 pub use Lanes.{Abandons, Closes, ClosesCounted, CountRefused, Drains, Drops, DropsLane, EmptiesLane, HoldsUp, HoldsUpSome, OpensALane}
 pub use Barring.{has_port, is_barred, is_feeds_port}
-pub use Slots.{DrainsUntil, EndsSlot, HasFeed, HasLane, HasPorts, LeavesAll, OnSlot, PumpsUntil, SlotsShown}
+pub use Slots.{DrainsUntil, EndsSlot, HasFeed, HasLane, HasPorts, LeavesAll, OnSlot, PumpsUntil, SlotsShown, behind}
 pub use Feeds.{EndsFeed, FillsFeed, MakesPort, OpensAFeed, Pumps, Starves}
 pub use Deeds.{Deed, as_it_was, feed_gone, feed_opened, feed_pumped, lane_drained, lane_gone, lane_opened}
 pub use Reserving.{FeedTakesEntryAlone, IsFloorAsBefore, LaneTakesEntryAlone, Reserves, TakesEntryAlone, added_since}

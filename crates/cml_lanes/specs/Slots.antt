@@ -1,5 +1,5 @@
 -- The inside of `LaneSlots`, of `FeedSlots`, and of what drains and pumps one slot of them: no contract of a floor cites it.
-use Rattle.std.specs.Prelude.{ℕ, ◌≡◌, Bool, List, ◌++◌, length, Option, Some, None, is_some, count_by, nat_eq}
+use Rattle.std.specs.Prelude.{ℕ, ◌≡◌, Bool, List, ◌++◌, length, replicate, Option, Some, None, is_some, count_by, nat_eq}
 use Rattle.std.specs.List.{list_any}
 use Rattle.cml_board.specs.{Entry, Refusal}
 use Rattle.cml_board.specs.Shown.{Shown}
@@ -8,6 +8,10 @@ use Rattle.cml_lanes.specs.Sides.{LaneSide, FeedSide}
 use Rattle.cml_lanes.specs.Moving.{KeepsLane, Empties, IsHeld}
 use Rattle.cml_lanes.specs.Pumping.{KeepsFeed, Fills, IsStarved}
 use Rattle.cml_lanes.specs.Barring.{is_feeds_port}
+
+-- so many places in which nothing is open, and then those of these slots
+abbrev pub behind : {Side : Type 0} → ℕ → List (Option Side) → List (Option Side)
+behind closed slots = replicate closed None ++ slots
 
 -- the lane or the feed of a slot stays open, and this is done to it
 pub record OnSlot {Side : Type 0} (old new : Option Side) (Does : Side → Side → Type 0) : Type 0 where

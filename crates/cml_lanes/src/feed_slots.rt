@@ -5,7 +5,6 @@ ghost use Rattle.cml_lanes.specs.{FeedSide, is_taken, stays, OnPlace, KeepsFeed,
 use crate::feed::FeedEnd;
 use crate::inner_feed::InnerFeed;
 use crate::pumping::{finish_slot, pump_slot};
-use crate::vacant::closed_places;
 use cml_board::{Board, Call, Message, Refusal};
 use cml_log::MessageLog;
 use std::alloc::{AllocError, Global};
@@ -16,21 +15,26 @@ use std::marker::Model;
 /// seat receives.
 #[derive(Drop)]
 pub struct FeedSlots<M> {
+    // So many were ended before the floor was made. They take no memory: the slots are of the numbers behind theirs.
+    closed: usize,
     slots: Vec<Option<InnerFeed<M>>>,
     ports: HashSet<u64>,
 }
 
 impl<M> Model for FeedSlots<M> {
-    ghost use Rattle.cml_lanes.specs.Slots.{SlotsShown, HasPorts};
+    ghost use Rattle.cml_lanes.specs.Slots.{SlotsShown, HasPorts, behind};
 
     ghost Value = { SlotsShown M };
 
-    ghost use Rattle.std.specs.Prelude.{◌-◌, min, vec_len, vec_capacity};
+    ghost use Rattle.std.specs.Prelude.{◌-◌, ◌<◌, ◌^◌, min, vec_len, vec_capacity};
     ghost use Rattle.std.specs.HashSet.{spare};
 
-    ghost view = { λ f. record { feeds = f.slots.items; room = min (vec_capacity f.slots - vec_len f.slots) (spare f.ports) } };
+    ghost view = { λ f. record {
+      feeds = behind f.closed f.slots.items;
+      room = min (vec_capacity f.slots - vec_len f.slots) (spare f.ports);
+    } };
 
-    ghost invariant = { λ f. HasPorts f.ports.keys f.slots.items };
+    ghost invariant = { λ f. HasPorts f.ports.keys (behind f.closed f.slots.items) × (f.closed < 2 ^ 63) };
 }
 
 impl<M: Message> FeedSlots<M> {
@@ -38,18 +42,23 @@ impl<M: Message> FeedSlots<M> {
         ensures { result.feeds ≡ [] }
     {
         FeedSlots {
+            closed: 0,
             slots: Vec::new(alloc),
             ports: HashSet::new(alloc),
         }
     }
 
-    /// So many feeds, none of which is open.
+    /// So many feeds, none of which is open. Allocates no memory, and fails only if there are 2^63.
     pub fn of_closed(alloc: Global, count: usize) -> Result<FeedSlots<M>, AllocError>
         ensures closed { IfOk result (λ slots. slots.feeds ≡ replicate count None) }
         ensures few { IfOk result (λ _. count < 2 ^ 64 - 1) }
     {
+        if count >= 1 << 63 {
+            return Err(AllocError);
+        }
         Ok(FeedSlots {
-            slots: closed_places(alloc, count)?,
+            closed: count,
+            slots: Vec::new(alloc),
             ports: HashSet::new(alloc),
         })
     }
@@ -58,7 +67,7 @@ impl<M: Message> FeedSlots<M> {
     pub fn count(&self) -> usize
         ensures { result ≡ length self.now.feeds }
     {
-        self.slots.len()
+        self.closed + self.slots.len()
     }
 
     /// How many are open.
@@ -71,7 +80,10 @@ impl<M: Message> FeedSlots<M> {
     pub fn has(&self, number: u64) -> bool
         ensures { result ≡ is_taken (slice_get self.now.feeds number) }
     {
-        matches!(self.slots.get(number as usize), Some(Some(_)))
+        if (number as usize) < self.closed {
+            return false;
+        }
+        matches!(self.slots.get(number as usize - self.closed), Some(Some(_)))
     }
 
     /// Whether the call is one that an open feed alone may make.
@@ -134,7 +146,11 @@ impl<M: Message> FeedSlots<M> {
         ensures { OnPlace stays number self.old.feeds self.new.feeds
             (PumpsUntil L.CHUNK M.SURE number result.0 result.1 board.old board.new) }
     {
-        pump_slot(board, &mut self.slots[number as usize], number)
+        pump_slot(
+            board,
+            &mut self.slots[number as usize - self.closed],
+            number,
+        )
     }
 
     /// Ends an open feed whose port no other has. `None` where its subscriber has let go of it.
@@ -146,9 +162,9 @@ impl<M: Message> FeedSlots<M> {
         ensures ended { (side : FeedSide M) → slice_get self.old.feeds number ≡ Some (Some side)
             → IfSome result (λ end. end ≡ record { ring = side.ring; number = number; sent = side.pushed }) }
     {
-        let port = port_of(&self.slots[number as usize]);
+        let port = port_of(&self.slots[number as usize - self.closed]);
         self.ports.remove(&port);
-        finish_slot(&mut self.slots[number as usize], number)
+        finish_slot(&mut self.slots[number as usize - self.closed], number)
     }
 }
 

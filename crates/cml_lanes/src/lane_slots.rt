@@ -5,7 +5,6 @@ ghost use Rattle.cml_lanes.specs.{LaneSide, is_taken, stays, OnPlace, KeepsLane,
 use crate::inner_lane::InnerLane;
 use crate::lane::LaneEnd;
 use crate::moving::{drain_slot, drain_slot_after};
-use crate::vacant::closed_places;
 use cml_board::{Board, Message, Refusal};
 use cml_log::MessageLog;
 use std::alloc::{AllocError, Global};
@@ -14,6 +13,8 @@ use std::marker::Model;
 /// The floor's ends of lanes by their numbers, and how many of them are open.
 #[derive(Drop)]
 pub struct LaneSlots<M> {
+    // So many were closed before the floor was made. They take no memory: the slots are of the numbers behind theirs.
+    closed: usize,
     slots: Vec<Option<InnerLane<M>>>,
     opened: u64,
 }
@@ -24,11 +25,12 @@ impl<M> Model for LaneSlots<M> {
 
     ghost Value = { List (Option (LaneSide M)) };
 
-    ghost use Rattle.std.specs.Prelude.{◌≡◌, count_by, is_some};
+    ghost use Rattle.std.specs.Prelude.{◌≡◌, ◌<◌, ◌^◌, count_by, is_some};
+    ghost use Rattle.cml_lanes.specs.Slots.{behind};
 
-    ghost view = { λ l. l.slots.items };
+    ghost view = { λ l. behind l.closed l.slots.items };
 
-    ghost invariant = { λ l. l.opened ≡ count_by is_some l.slots.items };
+    ghost invariant = { λ l. (l.opened ≡ count_by is_some (behind l.closed l.slots.items)) × (l.closed < 2 ^ 63) };
 }
 
 impl<M: Message> LaneSlots<M> {
@@ -36,18 +38,23 @@ impl<M: Message> LaneSlots<M> {
         ensures { result ≡ [] }
     {
         LaneSlots {
+            closed: 0,
             slots: Vec::new(alloc),
             opened: 0,
         }
     }
 
-    /// So many lanes, none of which is open.
+    /// So many lanes, none of which is open. Allocates no memory, and fails only if there are 2^63.
     pub fn of_closed(alloc: Global, count: usize) -> Result<LaneSlots<M>, AllocError>
         ensures closed { IfOk result (λ lanes. lanes ≡ replicate count None) }
         ensures few { IfOk result (λ _. count < 2 ^ 64 - 1) }
     {
+        if count >= 1 << 63 {
+            return Err(AllocError);
+        }
         Ok(LaneSlots {
-            slots: closed_places(alloc, count)?,
+            closed: count,
+            slots: Vec::new(alloc),
             opened: 0,
         })
     }
@@ -56,7 +63,7 @@ impl<M: Message> LaneSlots<M> {
     pub fn count(&self) -> usize
         ensures { result ≡ length self.now }
     {
-        self.slots.len()
+        self.closed + self.slots.len()
     }
 
     /// How many are open.
@@ -69,7 +76,10 @@ impl<M: Message> LaneSlots<M> {
     pub fn has(&self, number: u64) -> bool
         ensures { result ≡ is_taken (slice_get self.now number) }
     {
-        matches!(self.slots.get(number as usize), Some(Some(_)))
+        if (number as usize) < self.closed {
+            return false;
+        }
+        matches!(self.slots.get(number as usize - self.closed), Some(Some(_)))
     }
 
     /// Adds a lane with the next number.
@@ -94,7 +104,12 @@ impl<M: Message> LaneSlots<M> {
         requires kept { (side : LaneSide M) → slice_get self.old number ≡ Some (Some side) → KeepsLane board.old.history number side }
         ensures { OnPlace stays number self.old self.new (DrainsUntil L.CHUNK M.SURE number result.0 result.1 board.old board.new) }
     {
-        drain_slot(alloc, board, &mut self.slots[number as usize], number)
+        drain_slot(
+            alloc,
+            board,
+            &mut self.slots[number as usize - self.closed],
+            number,
+        )
     }
 
     /// The same with all that is left of an open lane, whose end this is.
@@ -112,7 +127,13 @@ impl<M: Message> LaneSlots<M> {
         ensures until { OnPlace stays number self.old self.new (DrainsUntil L.CHUNK M.SURE number result.0 result.1 board.old board.new) }
         ensures all { (side : LaneSide M) → slice_get self.new number ≡ Some (Some side) → LeavesAll end.old side }
     {
-        drain_slot_after(alloc, board, &mut self.slots[number as usize], number, end)
+        drain_slot_after(
+            alloc,
+            board,
+            &mut self.slots[number as usize - self.closed],
+            number,
+            end,
+        )
     }
 
     /// How many messages were taken out of an open lane's ring.
@@ -120,7 +141,7 @@ impl<M: Message> LaneSlots<M> {
         requires { is_taken (slice_get self.now number) ≡ true }
         ensures { (side : LaneSide M) → slice_get self.now number ≡ Some (Some side) → result ≡ length side.received }
     {
-        match &self.slots[number as usize] {
+        match &self.slots[number as usize - self.closed] {
             Some(inner) => inner.count(),
             None => unreachable!(),
         }
@@ -131,7 +152,7 @@ impl<M: Message> LaneSlots<M> {
         requires { is_taken (slice_get self.old number) ≡ true }
         ensures { self.new ≡ slice_set self.old number None }
     {
-        self.slots[number as usize] = None;
+        self.slots[number as usize - self.closed] = None;
         self.opened -= 1;
     }
 }

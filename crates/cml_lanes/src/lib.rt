@@ -27,7 +27,6 @@ mod lane_slots;
 mod laws;
 mod moving;
 mod pumping;
-mod vacant;
 mod way;
 
 pub use feed::{Feed, FeedEnd, Taken};

@@ -1,16 +1,20 @@
-use Rattle.std.proofs.Common.{ap, ◌∙◌, arith, List, Option, slice_get}
-use Rattle.cml_lanes.specs.{LaneSide, is_taken}
-use Rattle.cml_lanes.proofs.SlotsLemmas.{taken_slot, one_taken_less}
+use Rattle.std.proofs.Common.{◌∙◌, ap, sym, arith, List, Option, None, slice_set}
+use Rattle.cml_lanes.specs.{LaneSide}
+use Rattle.cml_lanes.proofs.BehindLemmas.{opened_from, one_less, set_behind}
 use Rattle.cml_lanes.proofs.lane_slots.LaneSlots.let_go.Goals as goal
 
 pub overflow_sub-self : goal.overflow_sub-self
 overflow_sub-self g c =
-    let lane = taken_slot c.self.inside.slots.items c.args.number
-    (ap (λ (ls : List (Option (LaneSide g.row.M.Denot))). is_taken (slice_get ls c.args.number)) c.self.view_is ∙ c.requires) in
-    omega (arith, c.self.invariant, one_taken_less c.self.inside.slots.items c.args.number lane.0 lane.1)
+    omega (arith, c.self.invariant.0, one_less c.self.inside.closed c.args.number c.self.inside.slots.items c.args.self.now c.self.view_is c.requires)
 
 pub invariant_of-self : goal.invariant_of-self
-invariant_of-self g c =
-    let lane = taken_slot c.self.inside.slots.items c.args.number
-    (ap (λ (ls : List (Option (LaneSide g.row.M.Denot))). is_taken (slice_get ls c.args.number)) c.self.view_is ∙ c.requires) in
-    omega (arith, c.self.invariant, one_taken_less c.self.inside.slots.items c.args.number lane.0 lane.1)
+invariant_of-self g c = (
+  omega (arith, c.self.invariant.0, one_less c.self.inside.closed c.args.number c.self.inside.slots.items c.args.self.now c.self.view_is c.requires),
+  c.self.invariant.1,
+)
+
+pub returns : goal.returns
+returns g c =
+    let from = opened_from c.self.inside.closed c.args.number c.self.inside.slots.items c.args.self.now c.self.view_is c.requires in
+    sym (set_behind c.self.inside.closed c.args.number c.self.inside.slots.items None from)
+    ∙ ap (λ (ls : List (Option (LaneSide g.row.M.Denot))). slice_set ls c.args.number None) c.self.view_is
