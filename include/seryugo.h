@@ -615,14 +615,15 @@ uint32_t seryugo_reading_end(struct seryugo *reading);
  *
  * The seats, lanes and feeds of the journal are gone. A call of such a seat fails with SERYUGO_GONE, and the port of such a feed
  * is a port like any other. The first seat that you make has the number behind the highest seat of the journal. The first lane
- * and the first feed have such numbers too. The room needs memory for each number of a seat that the journal may have had.
+ * and the first feed have such numbers too. Those of the journal take no memory, whatever their numbers are.
  *
  * The call spends the reading: its handle leads to nothing then, and takes no call but seryugo_close. Close it. If the text was
  * torn, the room has the entries whose lines were whole. The call doesn't say so: call seryugo_reading_end before it.
  *
  * SERYUGO_OUT_OF_BOUNDS: the limit isn't from 1 to 2^32. SERYUGO_FAULT or SERYUGO_UNLAWFUL: the reading has stopped by this. After
- * these three the reading and *room are as they were. SERYUGO_NO_MEMORY: *room is as it was, and the reading is spent. Open
- * another, and read the text again. */
+ * these three the reading and *room are as they were. SERYUGO_NO_MEMORY: there is no memory, or the journal names a seat, a lane
+ * or a feed whose number is 2^63 - 1 or more. *room is as it was, and the reading is spent. Open another, and read the text
+ * again. */
 uint32_t seryugo_room_restore(struct seryugo *reading, uint64_t limit, struct seryugo *room);
 
 /*

@@ -1,4 +1,5 @@
 pub mod ChainsLemmas
 pub mod ChangesLemmas
+pub mod RaisedLemmas
 pub mod RowsLemmas
 pub mod ShownLemmas

@@ -25,9 +25,9 @@ walk (suc steps) links (Some k) = k ∷ walk steps links (next_in (slice_get lin
 abbrev pub queue_from : List Link → Ends → List ℕ
 queue_from links ends = walk (length links) links ends.first
 
--- what the links and the ends show
+-- what the links and the ends show, of numbers from 0 on
 abbrev pub shown_by : List Link → List Ends → QueuesShown
-shown_by links ends = record { queues = map (queue_from links) ends; bound = length links }
+shown_by links ends = record { queues = map (queue_from links) ends; first = 0; bound = length links }
 
 -- the first of the list, or what comes after it
 abbrev pub head_or : List ℕ → Option ℕ → Option ℕ

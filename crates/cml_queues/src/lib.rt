@@ -2,6 +2,7 @@
 //! the queues. Memory is allocated only where queues are made or a number is added.
 #![tactic(auto)]
 
+mod dense;
 mod links;
 mod queues;
 

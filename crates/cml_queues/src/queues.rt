@@ -1,71 +1,67 @@
-ghost use Rattle.std.specs.Prelude.{◌≡◌, ◌≢◌, ℕ, ◌+◌, ◌<◌, ◌≤◌, ◌++◌, List, [], ◌∷◌, length, true, false, slice_get};
+ghost use Rattle.std.specs.Prelude.{◌≡◌, ◌≢◌, ℕ, ◌+◌, ◌^◌, ◌<◌, ◌≤◌, ◌++◌, List, [], ◌∷◌, length, true, false, slice_get};
 ghost use Rattle.std.specs.Prelude.{IfSome, IfOk, OnOk, OnErr};
 ghost use Rattle.cml_queues.specs.{queue_of, is_in};
 
-use crate::links::{Ends, Link, append, unlink};
+use crate::dense::Dense;
 use std::alloc::{AllocError, Global};
 use std::marker::Model;
 
 /// First-in-first-out queues of numbers, each under its number. A number is a member of at most one queue. A call takes the
-/// same few steps however long the queues are. Only `new` and `add` allocate memory.
+/// same few steps however long the queues are. Only `new` and `add` allocate memory, and none for numbers below `first`.
 #[derive(Drop)]
 pub struct Queues {
-    ends: Vec<Ends>,
-    links: Vec<Link>,
+    // The numbers of `dense` are so much less.
+    first: u64,
+    dense: Dense,
 }
 
 impl Model for Queues {
-    ghost use Rattle.cml_queues.specs.Queues.{QueuesShown};
-    ghost use Rattle.cml_queues.specs.Links.{shown_by, AreLinked};
+    ghost use Rattle.std.specs.Prelude.{◌<◌, ◌^◌};
+    ghost use Rattle.cml_queues.specs.Queues.{QueuesShown, all_raised};
 
     ghost Value = { QueuesShown };
 
-    ghost view = { λ q. shown_by q.links.items q.ends.items };
+    ghost view = { λ q. all_raised q.first q.dense };
 
-    ghost invariant = { λ q. AreLinked q.links.items q.ends.items };
+    ghost invariant = { λ q. (q.first < 2 ^ 63) × (q.dense.bound < 2 ^ 63) };
 }
 
 impl Queues {
-    /// Makes `count` empty queues. A number can be pushed only after it was added.
-    pub fn new(alloc: Global, count: usize) -> Result<Queues, AllocError>
+    /// Makes `count` empty queues for numbers from `first` on. A number can be pushed only after it was added.
+    pub fn new(alloc: Global, count: usize, first: u64) -> Result<Queues, AllocError>
+        requires { first < 2 ^ 63 }
         ensures count { IfOk result (λ queues. length queues.queues ≡ count) }
         ensures empty { IfOk result (λ queues. (row : ℕ) → queue_of queues row ≡ []) }
-        ensures bound { IfOk result (λ queues. queues.bound ≡ 0) }
+        ensures first { IfOk result (λ queues. queues.first ≡ first) }
+        ensures bound { IfOk result (λ queues. queues.bound ≡ first) }
     {
-        let empty = Ends {
-            first: None,
-            last: None,
-        };
-        Ok(Queues {
-            ends: vec![in alloc; empty; count]?,
-            links: Vec::new(alloc),
-        })
+        let dense = Dense::new(alloc, count)?;
+        Ok(Queues { first, dense })
     }
 
     /// Adds one more number that can be pushed: the least that could not be pushed before.
     pub fn add(&mut self) -> Result<(), AllocError>
         ensures queues { self.new.queues ≡ self.old.queues }
+        ensures first { self.new.first ≡ self.old.first }
         ensures bound { OnOk result (self.new.bound ≡ self.old.bound + 1) }
         ensures refused { OnErr result (self.new ≡ self.old) }
     {
-        self.links.push(Link {
-            previous: None,
-            next: None,
-        })?;
-        Ok(())
+        self.dense.add()
     }
 
     /// Puts the number at the end of a queue.
     pub fn push(&mut self, row: usize, number: u64)
         requires row { row < length self.old.queues }
+        requires from { self.old.first ≤ number }
         requires within { number < self.old.bound }
         requires nowhere { (row : ℕ) → is_in self.old row number ≡ false }
         ensures here { queue_of self.new row ≡ queue_of self.old row ++ number ∷ [] }
         ensures others { (other : ℕ) → other ≢ row → queue_of self.new other ≡ queue_of self.old other }
         ensures count { length self.new.queues ≡ length self.old.queues }
+        ensures first { self.new.first ≡ self.old.first }
         ensures bound { self.new.bound ≡ self.old.bound }
     {
-        append(&mut self.links, &mut self.ends[row], number);
+        self.dense.push(row, number - self.first);
     }
 
     /// Takes the number out of its queue.
@@ -77,9 +73,10 @@ impl Queues {
         ensures kept { (other : ℕ) → other ≢ number → is_in self.new row other ≡ is_in self.old row other }
         ensures others { (other : ℕ) → other ≢ row → queue_of self.new other ≡ queue_of self.old other }
         ensures count { length self.new.queues ≡ length self.old.queues }
+        ensures first { self.new.first ≡ self.old.first }
         ensures bound { self.new.bound ≡ self.old.bound }
     {
-        unlink(&mut self.links, &mut self.ends[row], number);
+        self.dense.remove(row, number - self.first);
     }
 
     /// Returns the oldest member of a queue. Returns `None` if the queue is empty, or if there is no such queue.
@@ -87,7 +84,10 @@ impl Queues {
         ensures first { result ≡ slice_get (queue_of self.now row) 0 }
         ensures within { IfSome result (λ number. number < self.now.bound) }
     {
-        self.ends.get(row)?.first
+        match self.dense.first(row) {
+            Some(number) => Some(self.first + number),
+            None => None,
+        }
     }
 
     /// Returns the member behind this one in its queue. For a number in no queue it may return any number that was added.
@@ -95,14 +95,20 @@ impl Queues {
         ensures next { (row : ℕ) (xs ys : List ℕ) → queue_of self.now row ≡ xs ++ number ∷ ys → result ≡ slice_get ys 0 }
         ensures within { IfSome result (λ next. next < self.now.bound) }
     {
-        self.links.get(number as usize)?.next
+        if number < self.first {
+            return None;
+        }
+        match self.dense.after(number - self.first) {
+            Some(next) => Some(self.first + next),
+            None => None,
+        }
     }
 
     /// Returns how many numbers were added. No queue has more members.
-    pub fn bound(&self) -> usize
-        ensures bound { result ≡ self.now.bound }
+    pub fn most(&self) -> usize
+        ensures count { self.now.first + result ≡ self.now.bound }
         ensures enough { (row : ℕ) → length (queue_of self.now row) ≤ result }
     {
-        self.links.len()
+        self.dense.bound()
     }
 }

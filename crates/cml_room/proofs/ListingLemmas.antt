@@ -1,19 +1,21 @@
 -- Who is in which queue, over what is done with a seat.
-use Rattle.std.proofs.Common.{◌≡◌, ◌≢◌, ℕ, zero, suc, ◌+◌, ◌-◌, ◌<◌, ◌≤◌, inl, inr, Bool, true, false, List, [], ◌∷◌, ◌++◌, length, get_or}
-use Rattle.std.proofs.Common.{slice_get, slice_set, sum_by, Option, Some, None, refl, sym, ap, ◌∙◌, arith, length-append}
+use Rattle.std.proofs.Common.{◌≡◌, ◌≢◌, ℕ, zero, suc, ◌+◌, ◌-◌, ◌<◌, ◌≤◌, ◌^◌, inl, inr, Bool, true, false, List, [], ◌∷◌, ◌++◌, length}
+use Rattle.std.proofs.Common.{get_or}
+use Rattle.std.proofs.Common.{slice_get, slice_set, sum_by, Option, Some, None, refl, sym, ap, subst, ◌∙◌, arith, length-append}
 use Rattle.std.specs.Prelude.{◌||◌, ◌==◌}
 use Rattle.std.specs.Option.{option_map}
 use Rattle.std.proofs.lemmas.Option.{none-some, same_Some, slice_get_within, slice_get-get_or, slice_get_past, slice_get-map}
 use Rattle.std.proofs.lemmas.Option.{get_or_from_slice_get}
-use Rattle.std.proofs.lemmas.Bool.{ne_eqb, eq-eqb, true≢false, false≢true}
-use Rattle.std.proofs.lemmas.List.{length-set, length-map, map-set, map-append}
+use Rattle.std.proofs.lemmas.Bool.{ne_eqb, eq-eqb, true≢false, false≢true, cases_lt}
+use Rattle.std.proofs.lemmas.List.{length-set, length-map, map-set, map-append, set-get_or}
 use Rattle.std.proofs.lemmas.List.Sums.{sum_by-set, sum_by_push}
 use Rattle.std.proofs.lemmas.List.Folds.{list_any-append}
 use Rattle.cml_board.proofs.ListLemmas.{slice_get-set_same, slice_get-set_other, slice_get_pushed}
 use Rattle.cml_board.proofs.LogsLemmas.{slice_get_pushed_other}
 use Rattle.cml_lanes.proofs.SlotsLemmas.{this_or_other}
-use Rattle.cml_room.specs.{Notice, Place, Waiter, state_by, states_in, row_of, row_in, notice_by, noted_as, noted_in, quieted, AreListed}
-use Rattle.cml_room.specs.{free_by, parked_by, freed, IsKept}
+use Rattle.cml_room.specs.{Notice, Place, Waiter, state_by, states_in, row_of, row_in, notice_by, noted_as, noted_in, quieted}
+use Rattle.cml_room.specs.{roused_notice, AreListed}
+use Rattle.cml_room.specs.{free_by, parked_by, freed, IsKept, HaveLeft, is_here}
 use Rattle.cml_room.specs.declared.notice.Notice.TheVariants as notice
 use Rattle.cml_room.specs.declared.place.Place.TheVariants as place
 use Rattle.cml_room.specs.declared.state.State.TheVariants as state
@@ -127,7 +129,7 @@ pub listed_added : (queues queues' : QueuesShown) (by : Option Place → ℕ →
     → AreListed queues' by (places ++ new ∷ [])
 listed_added queues queues' by places new listed none nobody same = λ number r.
     let before : is_in queues' r number ≡ by (slice_get places number) r =
-    ap (λ (l : List (List ℕ)). is_in (record { queues = l; bound = 0 }) r number) same ∙ listed number r in
+    ap (λ (l : List (List ℕ)). is_in (record { queues = l; first = 0; bound = 0 }) r number) same ∙ listed number r in
     elim (this_or_other number (length places)) [
       | inl here ↦
           before ∙ (ap (λ (o : Option Place). by o r) (slice_get_past places number (omega (arith, here)))
@@ -176,10 +178,59 @@ not_due queue k o waiter listed none is due =
     true≢false (sym (ap (λ n. noted_as n 0) due)
     ∙ (sym (ap (λ (p : Option Place). noted_in p 0) is) ∙ (sym listed ∙ none_has queue k none)))
 
--- what is read of a seat is what is known of it
-pub seen_at : (places : List Place) (k : ℕ) (seen p : Place) → k < length places → seen ≡ get_or places k seen
-    → seen ≡ p → slice_get places k ≡ Some p
-seen_at places k seen p within read is = slice_get-get_or places k seen within ∙ ap Some (sym read ∙ is)
+-- a seat stays as it is, where what it becomes is what it is
+pub as_it_is : (places : List Place) (k : ℕ) (p : Place) → p ≡ get_or places k place.Free → places ≡ slice_set places k p
+as_it_is places k p is = sym (ap (slice_set places k) is ∙ set-get_or places k place.Free)
+
+-- what a seat that waits is
+pub waits_at : (places : List Place) (k : ℕ) (waiter : Waiter) → slice_get places k ≡ Some (place.Waiting waiter)
+    → get_or places k place.Free ≡ place.Waiting waiter
+waits_at places k waiter found = get_or_from_slice_get places k (place.Waiting waiter) place.Free found
+
+-- a seat that doesn't wait stays as it is, whatever is done to those that wait
+pub no_wait : (f : Place → Place) (places : List Place) (k : ℕ) → k < length places
+    → ((waiter : Waiter) → slice_get places k ≢ Some (place.Waiting waiter)) → f place.Free ≡ place.Free → f place.Left ≡ place.Left
+    → places ≡ slice_set places k (f (get_or places k place.Free))
+no_wait f places k within none free left =
+    as_it_is places k (f (get_or places k place.Free)) (by_place (get_or places k place.Free) (slice_get-get_or places k place.Free within))
+  where
+    by_place : (p : Place) → slice_get places k ≡ Some p → f p ≡ p
+    by_place place.Free found = free
+    by_place place.Left found = left
+    by_place (place.Waiting waiter) found = absurd (none waiter found)
+
+-- a seat that waits so already stays as it is
+pub waits_so : (f : Place → Place) (places : List Place) (k : ℕ) (waiter : Waiter) → slice_get places k ≡ Some (place.Waiting waiter)
+    → f (place.Waiting waiter) ≡ place.Waiting waiter → places ≡ slice_set places k (f (get_or places k place.Free))
+waits_so f places k waiter found same =
+    let is = waits_at places k waiter found in
+    as_it_is places k (f (get_or places k place.Free)) (ap f is ∙ (same ∙ sym is))
+
+not_left : (p : Place) → is_here (Some p) ≡ true → p ≢ place.Left
+not_left place.Free here left = absurd (let clash : place.Free ≡ place.Left = left in cc)
+not_left (place.Waiting waiter) here left = absurd (let clash : place.Waiting waiter ≡ place.Left = left in cc)
+not_left place.Left here left = false≢true here
+
+-- a seat that has not left is behind those that have
+pub here_from : (count k : ℕ) (places : List Place) (p : Place) → HaveLeft count places → slice_get places k ≡ Some p
+    → is_here (Some p) ≡ true → count ≤ k
+here_from count k places p left found here = elim (cases_lt k count) [
+  | inl before ↦ absurd (not_left p here (same_Some _ _ (sym found ∙ left k before)))
+  | inr from ↦ from
+]
+
+-- those have left still, where another is other than it was
+left_set : (count k : ℕ) (places : List Place) (old new : Place) → HaveLeft count places → slice_get places k ≡ Some old
+    → is_here (Some old) ≡ true → HaveLeft count (slice_set places k new)
+left_set count k places old new left found here number before =
+    slice_get-set_other places k number new
+    (λ same. absurd (omega (arith, same, before, here_from count k places old left found here)))
+    ∙ left number before
+
+left_added : (count : ℕ) (places : List Place) (new : Place) → HaveLeft count places → HaveLeft count (places ++ new ∷ [])
+left_added count places new left number before =
+    let within : number < length places = slice_get_within places number place.Left (left number before) in
+    slice_get_pushed_other places new number (λ same. absurd (omega (arith, same, within))) ∙ left number before
 
 -- what is kept of the seats, where one is other than it was
 pub kept_set : {places : List Place} {free free' parked parked' : ℕ} {rows rows' due due' : QueuesShown} {old : Place} (k : ℕ) (new : Place)
@@ -188,8 +239,10 @@ pub kept_set : {places : List Place} {free free' parked parked' : ℕ} {rows row
     → parked' + parked_by (state_by old) ≡ parked + parked_by (state_by new)
     → AreListed rows' row_in (slice_set places k new) → AreListed due' noted_in (slice_set places k new)
     → length rows'.queues ≡ length rows.queues → length due'.queues ≡ length due.queues → rows'.bound ≡ rows.bound → due'.bound ≡ due.bound
+    → rows'.first ≡ rows.first → due'.first ≡ due.first → is_here (Some old) ≡ true
     → IsKept (slice_set places k new) free' parked' rows' due'
-kept_set {places} {old = old} k new found kept count waits in_rows in_due rows_same two_same row_bound due_bound =
+kept_set {places} {rows = r} {due = d} {old = old} k new found kept count waits in_rows in_due rows_same two_same most most_due from
+    from_due here =
     let within : k < length places = slice_get_within places k old found in
     let states : states_in (slice_set places k new) ≡ slice_set (states_in places) k (state_by new) = map-set state_by places k new in
     let was : get_or (states_in places) k (state_by old) ≡ state_by old =
@@ -216,15 +269,21 @@ kept_set {places} {old = old} k new found kept count waits in_rows in_due rows_s
       in_due = in_due;
       many_rows = rows_same ∙ kept.many_rows;
       two = two_same ∙ kept.two;
-      row_for_each = omega (arith, length-set places k new, row_bound, kept.row_for_each);
-      due_for_each = omega (arith, length-set places k new, due_bound, kept.due_for_each);
+      row_for_each = omega (arith, length-set places k new, most, kept.row_for_each);
+      due_for_each = omega (arith, length-set places k new, most_due, kept.due_for_each);
+      few = omega (arith, length-set places k new, kept.few);
+      row_for_none = subst (λ n. HaveLeft n (slice_set places k new)) (sym from)
+          (left_set r.first k places old new kept.row_for_none found here);
+      due_for_none = subst (λ n. HaveLeft n (slice_set places k new)) (sym from_due)
+          (left_set d.first k places old new kept.due_for_none found here);
     }
 
 -- a seat more, which is free
 pub kept_added : (places : List Place) (free parked : ℕ) (rows rows' due due' : QueuesShown) → IsKept places free parked rows due
     → rows'.queues ≡ rows.queues → due'.queues ≡ due.queues
-    → rows'.bound ≡ rows.bound + 1 → due'.bound ≡ due.bound + 1 → IsKept (places ++ place.Free ∷ []) (free + 1) parked rows' due'
-kept_added places free parked rows rows' due due' kept rows_same due_same row_bound due_bound = record {
+    → rows'.bound ≡ rows.bound + 1 → due'.bound ≡ due.bound + 1 → rows'.first ≡ rows.first → due'.first ≡ due.first
+    → length (places ++ place.Free ∷ []) < 2 ^ 63 → IsKept (places ++ place.Free ∷ []) (free + 1) parked rows' due'
+kept_added places free parked rows rows' due due' kept rows_same due_same row_bound due_bound row_first due_first few = record {
   counted = omega (
     arith,
     ap (sum_by free_by) (map-append state_by places (place.Free ∷ [])),
@@ -243,6 +302,11 @@ kept_added places free parked rows rows' due due' kept rows_same due_same row_bo
   two = ap length due_same ∙ kept.two;
   row_for_each = omega (arith, length-append places (place.Free ∷ []), row_bound, kept.row_for_each);
   due_for_each = omega (arith, length-append places (place.Free ∷ []), due_bound, kept.due_for_each);
+  few = few;
+  row_for_none = subst (λ n. HaveLeft n (places ++ place.Free ∷ [])) (sym row_first)
+      (left_added rows.first places place.Free kept.row_for_none);
+  due_for_none = subst (λ n. HaveLeft n (places ++ place.Free ∷ [])) (sym due_first)
+      (left_added due.first places place.Free kept.due_for_none);
 }
 
 -- no more seats are free than were made
@@ -275,20 +339,22 @@ pub kept_taken : {places : List Place} {free parked parked' : ℕ} {rows rows' d
     → slice_get places k ≡ Some place.Free → IsKept places free parked rows due
     → free_by (state_by new) ≡ 0 → parked' ≡ parked + parked_by (state_by new)
     → AreListed rows' row_in (slice_set places k new) → ((r : ℕ) → noted_in (Some new) r ≡ false)
-    → length rows'.queues ≡ length rows.queues → rows'.bound ≡ rows.bound → IsKept (slice_set places k new) (free - 1) parked' rows' due
-kept_taken {places} {due = due} k new found kept taken waits in_rows quiet rows_same row_bound =
+    → length rows'.queues ≡ length rows.queues → rows'.bound ≡ rows.bound → rows'.first ≡ rows.first
+    → IsKept (slice_set places k new) (free - 1) parked' rows' due
+kept_taken {places} {due = due} k new found kept taken waits in_rows quiet rows_same row_bound row_first =
     kept_set k new found kept (omega (arith, one_free k kept found, taken)) (omega (arith, waits)) in_rows
-    (listed_same due noted_in places k place.Free new found kept.in_due quiet) rows_same refl row_bound refl
+    (listed_same due noted_in places k place.Free new found kept.in_due quiet) rows_same refl row_bound refl row_first refl refl
 
 -- a seat that waits has another notice
 pub kept_noticed : {places : List Place} {free parked : ℕ} {rows due due' : QueuesShown} (k : ℕ) (waiter : Waiter) (seen : Notice)
     → slice_get places k ≡ Some (place.Waiting waiter) → IsKept places free parked rows due
     → AreListed due' noted_in (slice_set places k (place.Waiting (record waiter { notice = seen })))
-    → length due'.queues ≡ length due.queues → due'.bound ≡ due.bound
+    → length due'.queues ≡ length due.queues → due'.bound ≡ due.bound → due'.first ≡ due.first
     → IsKept (slice_set places k (place.Waiting (record waiter { notice = seen }))) free parked rows due'
-kept_noticed {places} {rows = rows} k waiter seen found kept in_due two_same due_bound =
+kept_noticed {places} {rows = rows} k waiter seen found kept in_due two_same due_bound due_first =
     kept_set k (place.Waiting (record waiter { notice = seen })) found kept refl refl
-    (listed_same rows row_in places k (place.Waiting waiter) _ found kept.in_rows (λ r. refl)) in_due refl two_same refl due_bound
+    (listed_same rows row_in places k (place.Waiting waiter) _ found kept.in_rows (λ r. refl)) in_due refl two_same refl due_bound refl
+    due_first refl
 
 -- a queue is what is before a member, the member, and what is behind it
 split_at : (queue : List ℕ) (i k : ℕ) → slice_get queue i ≡ Some k
@@ -307,6 +373,11 @@ behind queue i k next found after =
     let split = split_at queue i k found in
     after split.0 split.1 split.2 ∙ split.3
 
+pub roused_so : (n : Notice) → n ≢ notice.Nothing → roused_notice n ≡ n
+roused_so notice.Nothing some = absurd (some refl)
+roused_so notice.Due some = refl
+roused_so notice.Woken some = refl
+
 pub quieted_nothing : (p : Place) (waiter : Waiter) → quieted p ≡ place.Waiting waiter → waiter.notice ≡ notice.Nothing
 quieted_nothing (place.Waiting other) waiter is = ap notice_by (sym is)
 quieted_nothing place.Free waiter is = absurd (let clash : place.Free ≡ place.Waiting waiter = is in cc)
@@ -316,6 +387,12 @@ pub freed_waiter : (p : Place) (waiter : Waiter) → quieted p ≡ place.Waiting
 freed_waiter (place.Waiting other) waiter is = refl
 freed_waiter place.Free waiter is = refl
 freed_waiter place.Left waiter is = absurd (let clash : place.Left ≡ place.Waiting waiter = is in cc)
+
+-- a seat that does not wait is as free as it was
+pub freed_none : (p : Place) → ((waiter : Waiter) → quieted p ≢ place.Waiting waiter) → quieted p ≡ freed p
+freed_none place.Free none = refl
+freed_none place.Left none = refl
+freed_none (place.Waiting waiter) none = absurd (none (record waiter { notice = notice.Nothing }) refl)
 
 -- who waits is in the row of its object
 pub in_row : (rows : QueuesShown) (places : List Place) (k : ℕ) (waiter : Waiter) (row : ℕ) → AreListed rows row_in places

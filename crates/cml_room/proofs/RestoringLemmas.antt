@@ -1,10 +1,15 @@
 -- A room whose seats have all left.
-use Rattle.std.proofs.Common.{◌≡◌, ℕ, zero, suc, ◌+◌, Bool, false, ◌&&◌, List, [], ◌∷◌, ◌++◌, length, replicate, slice_get}
-use Rattle.std.proofs.Common.{slice_set, Some, refl, sym, ap, subst, ◌∙◌, add-one, arith, length-append}
+use Rattle.std.proofs.Common.{◌≡◌, ℕ, zero, suc, ◌<◌, ◌≤◌, ◌^◌, Bool, true, false, ◌&&◌, List, [], ◌∷◌, length, replicate, slice_get}
+use Rattle.std.proofs.Common.{Option, Some, None, inl, inr, refl, sym, ap, subst, ◌∙◌, arith}
 use Rattle.std.proofs.lemmas.Option.{same_Some, none-some}
 use Rattle.std.proofs.lemmas.List.{length-replicate}
 use Rattle.cml_lanes.specs.{FloorShown}
-use Rattle.cml_room.specs.{Place, Waiter, State, states_in, is_parked, IsWatched}
+use Rattle.cml_room.specs.{Place, Waiter, State, states_in, is_parked, is_here, behind_gone, row_in, noted_in, IsKept, IsWatched}
+use Rattle.cml_room.specs.{free_by, free_in, parked_by, parked_in}
+use Rattle.cml_queues.specs.{QueuesShown, has, queue_of}
+use Rattle.cml_lanes.proofs.BehindLemmas.{copies_before}
+use Rattle.std.proofs.lemmas.Bool.{false≢true, cases_lt}
+use Rattle.std.proofs.lemmas.List.Sums.{sum_by-cons}
 use Rattle.cml_room.specs.declared.place.Place.TheVariants as place
 use Rattle.cml_room.specs.declared.state.State.TheVariants as state
 
@@ -41,20 +46,52 @@ module _ {M : Type 0} where
     stalls = λ some number waiter quiet. absurd (none_waits count number waiter quiet.here);
   })
 
--- one seat more, which then leaves too
-left_last : (count : ℕ) → slice_set (replicate count place.Left ++ place.Free ∷ []) count place.Left ≡ replicate (suc count) place.Left
-left_last zero = refl
-left_last (suc count) = ap (λ (rest : List Place). place.Left ∷ rest) (left_last count)
+-- a seat that has not left is behind those that have
+pub here_behind : (gone number : ℕ) (places shown : List Place) → behind_gone gone places ≡ shown
+    → is_here (slice_get shown number) ≡ true → gone ≤ number
+here_behind gone number places shown view here = elim (cases_lt number gone) [
+  | inl before ↦ absurd (false≢true (sym (ap is_here (copies_before place.Left gone number places before))
+      ∙ (ap (λ (l : List Place). is_here (slice_get l number)) view ∙ here)))
+  | inr from ↦ from
+]
 
-pub one_more_left : (places news after : List Place) (count : ℕ) → places ≡ replicate count place.Left → news ≡ places ++ place.Free ∷ []
-    → after ≡ slice_set news count place.Left → after ≡ replicate (count + 1) place.Left
-one_more_left places news after count left more gone =
-    gone
-    ∙ ap (λ (l : List Place). slice_set l count place.Left) (more ∙ ap (λ (l : List Place). l ++ place.Free ∷ []) left)
-    ∙ left_last count
-    ∙ ap (λ (n : ℕ). replicate n place.Left) (sym (add-one count))
+free_none : (count : ℕ) → free_in (states_in (replicate count place.Left)) ≡ 0
+free_none zero = refl
+free_none (suc count) = omega (arith, sum_by-cons free_by state.Left (states_in (replicate count place.Left)), free_none count)
 
-pub length_more : (places news : List Place) (count : ℕ) → places ≡ replicate count place.Left
-    → news ≡ places ++ place.Free ∷ [] → length news ≡ count + 1
-length_more places news count left more =
-    omega (arith, ap length more, length-append places (place.Free ∷ []), ap length left, length-replicate count place.Left)
+parked_none : (count : ℕ) → parked_in (states_in (replicate count place.Left)) ≡ 0
+parked_none zero = refl
+parked_none (suc count) = omega (arith, sum_by-cons parked_by state.Left (states_in (replicate count place.Left)), parked_none count)
+
+none_in : (by : Option Place → ℕ → Bool) (count number row : ℕ) → ((r : ℕ) → by None r ≡ false)
+    → ((r : ℕ) → by (Some place.Left) r ≡ false) → by (slice_get (replicate count place.Left) number) row ≡ false
+none_in by zero number row none left = none row
+none_in by (suc count) zero row none left = left row
+none_in by (suc count) (suc number) row none left = none_in by count number row none left
+
+left_there : (count number : ℕ) → number < count → slice_get (replicate count place.Left) number ≡ Some place.Left
+left_there zero number before = absurd (omega (arith, before))
+left_there (suc count) zero before = refl
+left_there (suc count) (suc number) before = left_there count number (omega (arith, before))
+
+-- what is kept of seats that have all left
+pub kept_left : (places : List Place) (count : ℕ) (rows due : QueuesShown) → places ≡ replicate count place.Left
+    → length rows.queues ≡ 64 → length due.queues ≡ 2 → ((row : ℕ) → queue_of rows row ≡ []) → ((row : ℕ) → queue_of due row ≡ [])
+    → rows.first ≡ count → due.first ≡ count → rows.bound ≡ count → due.bound ≡ count → count < 2 ^ 63
+    → IsKept places 0 0 rows due
+kept_left places count rows due are many two no_rows no_due row_first due_first row_bound due_bound few =
+    subst (λ (l : List Place). IsKept l 0 0 rows due) (sym are) (record {
+      counted = sym (free_none count);
+      waiting = sym (parked_none count);
+      in_rows = λ number row. ap (λ (q : List ℕ). has q number) (no_rows row)
+          ∙ sym (none_in row_in count number row (λ r. refl) (λ r. refl));
+      in_due = λ number row. ap (λ (q : List ℕ). has q number) (no_due row)
+          ∙ sym (none_in noted_in count number row (λ r. refl) (λ r. refl));
+      many_rows = many;
+      two = two;
+      row_for_each = omega (arith, length-replicate count place.Left, row_bound);
+      due_for_each = omega (arith, length-replicate count place.Left, due_bound);
+      few = omega (arith, length-replicate count place.Left, few);
+      row_for_none = λ number before. left_there count number (omega (arith, before, row_first));
+      due_for_none = λ number before. left_there count number (omega (arith, before, due_first));
+    })

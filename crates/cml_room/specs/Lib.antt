@@ -12,7 +12,8 @@ pub mod InTurn
 pub mod Ending
 pub mod Finishing
 -- the names that others import from here
-pub use Places.{AreAlike, AreListed, AreRoused, IsMate, IsQuiet, is_noted, noted_as, noted_in, notice_by, notice_in, notices_in, place_due}
+pub use Places.{AreAlike, AreListed, AreRoused, HaveLeft, IsMate, IsQuiet, behind_gone, is_here, is_noted, noted_as, noted_in, notice_by}
+pub use Places.{notice_in, notices_in, place_due}
 pub use Places.{quieted, roused, roused_notice, row_in, row_of, state_by, states_in}
 pub use Seats.{IsKept, SeatsShown, WakesNext, free_by, free_in, freed, parked_by, parked_in}
 pub use Stalling.{AreIdle, IsIdle, IsStalled, NoneOpen}

@@ -1,5 +1,6 @@
 -- What a room knows of its seats.
-use Rattle.std.specs.Prelude.{ℕ, ◌≡◌, ◌==◌, ◌||◌, ◌%◌, ◌⊎◌, Bool, true, false, List, map, length, slice_get, Option, Some, None}
+use Rattle.std.specs.Prelude.{ℕ, ◌≡◌, ◌<◌, ◌==◌, ◌||◌, ◌%◌, ◌⊎◌, ◌++◌, Bool, true, false, List, map, length, replicate, slice_get, Option}
+use Rattle.std.specs.Prelude.{Some, None}
 use Rattle.cml_board.specs.{Want}
 use Rattle.cml_room.specs.declared.notice.Notice.{Notice}
 use Rattle.cml_room.specs.declared.notice.Notice.TheVariants.{Nothing, Due, Woken}
@@ -14,6 +15,20 @@ abbrev pub state_by : Place → State
 state_by place.Free = state.Free
 state_by (place.Waiting waiter) = state.Parked waiter.want
 state_by place.Left = state.Left
+
+-- the seat was made, and has not left
+abbrev pub is_here : Option Place → Bool
+is_here None = false
+is_here (Some place.Left) = false
+is_here some = true
+
+-- so many seats that have left, and then these
+abbrev pub behind_gone : ℕ → List Place → List Place
+behind_gone gone places = replicate gone place.Left ++ places
+
+-- the seats with these first numbers have left
+abbrev pub HaveLeft : ℕ → List Place → Type 0
+HaveLeft count places = (number : ℕ) → number < count → slice_get places number ≡ Some place.Left
 
 abbrev pub notice_by : Place → Notice
 notice_by (place.Waiting waiter) = waiter.notice

@@ -6,6 +6,7 @@ mod laws;
 mod news;
 mod notice;
 mod place;
+mod places;
 mod room;
 mod seats;
 mod state;

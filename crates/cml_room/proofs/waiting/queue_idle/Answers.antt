@@ -26,4 +26,4 @@ loop-preserved g c =
     (walk_at c.loop.invariant c.in-Some.is) (c.after-next.ensures.next c.args.queue))
 
 pub returns : goal.returns
-returns g c = walk_ends c.loop.invariant (omega (arith, c.bound-end.ensures.enough c.args.queue, c.loop-test.false))
+returns g c = walk_ends c.loop.invariant (omega (arith, c.most-end.ensures.enough c.args.queue, c.loop-test.false))

@@ -1,12 +1,8 @@
-use Rattle.std.proofs.Common.{◌≡◌, List, [], subst, sym}
-use Rattle.cml_queues.specs.{Link, queue_of, shown_by}
-use Rattle.cml_queues.proofs.ShownLemmas.{new_linked, all_empty}
+use Rattle.std.proofs.Common.{ap, ◌∙◌}
+use Rattle.cml_queues.specs.{raised}
+use Rattle.cml_queues.proofs.RaisedLemmas.{queue_raised}
 use Rattle.cml_queues.proofs.queues.Queues.new.Goals as goal
-
-pub invariant_of-result : goal.invariant_of-result
-invariant_of-result c = new_linked _ _ _ c.new.ensures.items (c.in_ok-vec.ensures.items_if_clones_equal (λ y same. same))
 
 pub returns-clause-empty : goal.returns-clause-empty
 returns-clause-empty c row =
-    let P : List Link → Type 0 = λ l. queue_of (shown_by l c.in_ok-vec.field-0.items) row ≡ [] in
-    subst P (sym c.new.ensures.items) (all_empty c.in_ok-vec.field-0.items row)
+    queue_raised c.args.first c.in_ok-dense.dense row ∙ ap (raised c.args.first) (c.in_ok-dense.ensures.empty row)

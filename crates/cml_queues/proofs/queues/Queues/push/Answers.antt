@@ -1,28 +1,20 @@
-use Rattle.cml_queues.proofs.RowsLemmas.{linked}
-use Rattle.cml_queues.proofs.ShownLemmas.{append_last, pushes, here_is, others_are}
+use Rattle.std.proofs.Common.{◌≤◌, ◌∙◌, ap, arith}
+use Rattle.cml_queues.specs.{QueuesShown}
+use Rattle.cml_queues.proofs.RaisedLemmas.{in_now, pushed_now, other_now}
 use Rattle.cml_queues.proofs.queues.Queues.push.Goals as goal
 
-pub append-requires-clause-last : goal.append-requires-clause-last
-append-requires-clause-last c =
-    append_last _ _ _ c.self.view_is c.self.invariant _ c.args.number _ _ c.deref_mut.ensures.value c.index_mut.ensures.value c.requires.row
-
-pub invariant_of-self : goal.invariant_of-self
-invariant_of-self c =
-    let pushed =
-    pushes _ _ _ c.self.view_is c.self.invariant _ _ _ _ c.deref_mut.ensures.value c.index_mut.ensures.value _ _ _ c.self.inside.links.ok.0
-    c.append.ensures.links c.append.ensures.ends c.requires.row c.requires.within c.requires.nowhere in
-    linked _ _ _ pushed
+pub push-requires-clause-nowhere : goal.push-requires-clause-nowhere
+push-requires-clause-nowhere c row =
+    let from : c.self.inside.first ≤ c.args.number = omega (arith, ap (λ (s : QueuesShown). s.first) c.self.view_is, c.requires.from) in
+    in_now c.self.inside.first c.self.inside.dense c.args.self.now c.self.view_is row c.args.number from ∙ c.requires.nowhere row
 
 pub returns-clause-here : goal.returns-clause-here
 returns-clause-here c =
-    let pushed =
-    pushes _ _ _ c.self.view_is c.self.invariant _ _ _ _ c.deref_mut.ensures.value c.index_mut.ensures.value _ _ _ c.self.inside.links.ok.0
-    c.append.ensures.links c.append.ensures.ends c.requires.row c.requires.within c.requires.nowhere in
-    here_is _ _ _ _ _ pushed c.requires.row
+    let from : c.self.inside.first ≤ c.args.number = omega (arith, ap (λ (s : QueuesShown). s.first) c.self.view_is, c.requires.from) in
+    pushed_now c.self.inside.first c.self.inside.dense c.args.self.now c.self.view_is c.push.new.self c.args.row c.args.number from
+    c.push.ensures.here
 
 pub returns-clause-others : goal.returns-clause-others
-returns-clause-others c =
-    let pushed =
-    pushes _ _ _ c.self.view_is c.self.invariant _ _ _ _ c.deref_mut.ensures.value c.index_mut.ensures.value _ _ _ c.self.inside.links.ok.0
-    c.append.ensures.links c.append.ensures.ends c.requires.row c.requires.within c.requires.nowhere in
-    others_are _ _ _ _ _ pushed
+returns-clause-others c other apart =
+    other_now c.self.inside.first c.self.inside.dense c.args.self.now c.self.view_is c.push.new.self other (c.push.ensures.others other
+    apart)

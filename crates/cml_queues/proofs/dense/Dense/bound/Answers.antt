@@ -1,6 +1,6 @@
 use Rattle.std.proofs.Common.{arith}
 use Rattle.cml_queues.proofs.ShownLemmas.{short_row}
-use Rattle.cml_queues.proofs.queues.Queues.bound.Goals as goal
+use Rattle.cml_queues.proofs.dense.Dense.bound.Goals as goal
 
 pub returns-clause-enough : goal.returns-clause-enough
 returns-clause-enough c = λ row. omega (
