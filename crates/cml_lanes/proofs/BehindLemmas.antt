@@ -1,6 +1,7 @@
 -- Places of which the first have nothing open, and take no memory.
 use Rattle.std.proofs.Common.{◌≡◌, ℕ, zero, suc, ◌+◌, ◌-◌, ◌<◌, ◌≤◌, true, false, List, [], ◌∷◌, ◌++◌, length, get_or, slice_get}
-use Rattle.std.proofs.Common.{slice_set, replicate, Option, Some, None, IfSome, is_some, count_by, refl, sym, ap, subst, ◌∙◌, inl, inr, arith}
+use Rattle.std.proofs.Common.{slice_set, replicate, Option, Some, None, IfSome, is_some, count_by, refl, sym, ap, subst, ◌∙◌, inl, inr}
+use Rattle.std.proofs.Common.{arith}
 use Rattle.std.proofs.lemmas.Bool.{false≢true, cases_lt}
 use Rattle.cml_lanes.specs.{is_taken, stays, OnPlace, OnSlot, behind}
 use Rattle.cml_lanes.proofs.SlotsLemmas.{taken_slot, taken_within, one_taken_less}
@@ -92,7 +93,8 @@ module _ {Side : Type 0} where
     one_less =
         let lane = taken_slot (behind closed items) number (ap (λ s. is_taken (slice_get s number)) view ∙ opened) in
         let from = opened_from closed number items shown view opened in
-        omega (arith, ap (count_by is_some) (set_behind closed number items None from), one_taken_less (behind closed items) number lane.0 lane.1)
+        omega (arith, ap (count_by is_some) (set_behind closed number items None from), one_taken_less (behind closed items) number
+        lane.0 lane.1)
 
     module _ (slot : Option Side) (at : slot ≡ get_or items (number - closed) slot) where
       pub or_here : slot ≡ get_or (behind closed items) number slot

@@ -146,11 +146,8 @@ impl<M: Message> FeedSlots<M> {
         ensures { OnPlace stays number self.old.feeds self.new.feeds
             (PumpsUntil L.CHUNK M.SURE number result.0 result.1 board.old board.new) }
     {
-        pump_slot(
-            board,
-            &mut self.slots[number as usize - self.closed],
-            number,
-        )
+        let at = number as usize - self.closed;
+        pump_slot(board, &mut self.slots[at], number)
     }
 
     /// Ends an open feed whose port no other has. `None` where its subscriber has let go of it.
