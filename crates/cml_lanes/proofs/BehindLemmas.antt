@@ -93,8 +93,12 @@ module _ {Side : Type 0} where
     one_less =
         let lane = taken_slot (behind closed items) number (ap (λ s. is_taken (slice_get s number)) view ∙ opened) in
         let from = opened_from closed number items shown view opened in
-        omega (arith, ap (count_by is_some) (set_behind closed number items None from), one_taken_less (behind closed items) number
-        lane.0 lane.1)
+        omega (
+          arith,
+          ap (count_by is_some) (set_behind closed number items None from),
+          one_taken_less (behind closed items) number
+              lane.0 lane.1,
+        )
 
     module _ (slot : Option Side) (at : slot ≡ get_or items (number - closed) slot) where
       pub or_here : slot ≡ get_or (behind closed items) number slot

@@ -5,8 +5,11 @@ use Rattle.cml_lanes.proofs.BehindLemmas.{opened_within, found_behind, placed_be
 use Rattle.cml_lanes.proofs.lane_slots.LaneSlots.drain.Goals as goal
 
 pub index_mut-requires : goal.index_mut-requires
-index_mut-requires g c = omega (arith, opened_within c.self.inside.closed c.args.number c.self.inside.slots.items c.args.self.now
-    c.self.view_is c.requires.opened)
+index_mut-requires g c = omega (
+  arith,
+  opened_within c.self.inside.closed c.args.number c.self.inside.slots.items c.args.self.now
+      c.self.view_is c.requires.opened,
+)
 
 pub drain_slot-requires : goal.drain_slot-requires
 drain_slot-requires g c =

@@ -5,13 +5,21 @@ use Rattle.cml_lanes.proofs.lane_slots.LaneSlots.let_go.Goals as goal
 
 pub overflow_sub-self : goal.overflow_sub-self
 overflow_sub-self g c =
-    omega (arith, c.self.invariant.0, one_less c.self.inside.closed c.args.number c.self.inside.slots.items c.args.self.now
-    c.self.view_is c.requires)
+    omega (
+      arith,
+      c.self.invariant.0,
+      one_less c.self.inside.closed c.args.number c.self.inside.slots.items c.args.self.now
+          c.self.view_is c.requires,
+    )
 
 pub invariant_of-self : goal.invariant_of-self
 invariant_of-self g c = (
-  omega (arith, c.self.invariant.0, one_less c.self.inside.closed c.args.number c.self.inside.slots.items c.args.self.now c.self.view_is
-    c.requires),
+  omega (
+    arith,
+    c.self.invariant.0,
+    one_less c.self.inside.closed c.args.number c.self.inside.slots.items c.args.self.now c.self.view_is
+        c.requires,
+  ),
   c.self.invariant.1,
 )
 
