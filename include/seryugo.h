@@ -327,8 +327,8 @@ uint32_t seryugo_is_due(struct seryugo *room, uint64_t seat);
 /*
  * ---- lanes ----
  *
- * While a lane is open, no call fails with SERYUGO_STALLED, and seryugo_cut fails with SERYUGO_BUSY. Close your lanes before you
- * block.
+ * While a lane is open, no call fails with SERYUGO_STALLED, and seryugo_cut fails with SERYUGO_BUSY. seryugo_cut_open doesn't.
+ * Close your lanes before you block.
  */
 
 /* Opens a lane to a mailbox or a channel, whose ring has room for `capacity` messages (1 to 1024). It writes a handle to the lane
@@ -407,6 +407,10 @@ uint32_t seryugo_reserve(struct seryugo *room, size_t entries);
 /* Cuts the journal: drops its entries, so that it takes as many again. Objects stay, and names and positions go on counting. What
  * was reserved stays reserved. The only refusal is SERYUGO_BUSY: a lane or a feed is open. */
 uint32_t seryugo_cut(struct seryugo *room);
+
+/* Cuts the journal while lanes and feeds are open, and is never refused. Their rings go on. If you close a lane later,
+ * seryugo_lane_close counts what was cut away too. What was reserved stays reserved. */
+uint32_t seryugo_cut_open(struct seryugo *room);
 
 enum seryugo_maker_kind { SERYUGO_SEAT = 0, SERYUGO_LANE = 1, SERYUGO_FEED = 2 };
 
@@ -502,6 +506,10 @@ static inline void seryugo_bytes_entry_free(struct seryugo_bytes_entry entry)
  * reserved along with them: reserve again. SERYUGO_NO_MEMORY or SERYUGO_BUSY: nothing is cut, and *journal is as it was. Use the
  * handle without the room's lock, and close it like any other. */
 uint32_t seryugo_take_journal(struct seryugo *room, struct seryugo *journal, uint64_t *count);
+
+/* The same while lanes and feeds are open, as seryugo_cut_open. The only refusal is SERYUGO_NO_MEMORY: nothing is cut, and
+ * *journal is as it was. */
+uint32_t seryugo_take_journal_open(struct seryugo *room, struct seryugo *journal, uint64_t *count);
 
 /* Writes the entry at this place, from 0, of a taken journal. SERYUGO_NO_SUCH: the place is behind the last entry. */
 uint32_t seryugo_taken_entry(struct seryugo *journal, uint64_t place, struct seryugo_entry *entry);

@@ -283,6 +283,44 @@ static void try_the_journal(uint64_t seat)
     IS(100, count);
 }
 
+/* A lane goes on behind two cuts, and its close counts what was cut away. */
+static void try_open_cuts(void)
+{
+    struct seryugo_entry entry;
+    uint64_t number, entries, cut, count;
+
+    RETURNS(DONE, seryugo_lane_open(&room, 0, 2, &lane, &number));
+    has_lane = true;
+    RETURNS(DONE, seryugo_lane_send(&lane, 24));
+    RETURNS(DONE, seryugo_lane_drain(&room, number, &count));
+    RETURNS(BUSY, seryugo_cut(&room));
+    RETURNS(WRONG_HANDLE, seryugo_cut_open(&lane));
+    RETURNS(DONE, seryugo_cut_open(&room));
+    RETURNS(DONE, seryugo_entries(&room, &entries));
+    RETURNS(DONE, seryugo_cut_at(&room, &cut));
+    IS(entries, cut);
+    RETURNS(DONE, seryugo_lane_send(&lane, 25));
+    RETURNS(DONE, seryugo_lane_drain(&room, number, &count));
+    count = 77;
+    RETURNS(WRONG_HANDLE, seryugo_take_journal_open(&lane, &journal, &count));
+    IS(77, count);
+    RETURNS(DONE, seryugo_take_journal_open(&room, &journal, &count));
+    has_journal = true;
+    IS(1, count);
+    RETURNS(DONE, seryugo_taken_entry(&journal, 0, &entry));
+    IS(SERYUGO_LANE, entry.maker.kind);
+    IS(number, entry.maker.number);
+    IS(25, entry.call.message);
+    close_one(&has_journal, journal);
+    RETURNS(DONE, seryugo_lane_send(&lane, 26));
+    RETURNS(DONE, seryugo_lane_finish(&lane));
+    RETURNS(DONE, seryugo_lane_close(&room, &lane));
+    close_one(&has_lane, lane);
+    RETURNS(DONE, seryugo_entry(&room, entries + 1, &entry));
+    IS(26, entry.call.message);
+    RETURNS(DONE, seryugo_cut(&room));
+}
+
 static void try_a_taken_journal(uint64_t seat)
 {
     struct seryugo_entry entry;
@@ -367,6 +405,7 @@ int main(void)
     try_lanes();
     try_feeds(one);
     try_the_journal(one);
+    try_open_cuts();
     try_a_taken_journal(one);
     RETURNS(DONE, seryugo_leave(&room, two));
     RETURNS(GONE, seryugo_leave(&room, two));

@@ -4,7 +4,7 @@ from __future__ import annotations
 
 import operator
 from ctypes import byref, c_uint64
-from typing import Any, Iterable, Optional, Type, Union
+from typing import Any, Callable, Iterable, Optional, Type, Union
 
 from . import _library as library
 from . import errors
@@ -94,7 +94,11 @@ class Switchboard:
 
     def take_journal(self) -> Journal:
         """Cut the journal, and return the entries that it had."""
-        return self._room.within(self._take)
+        return self._taken(library.take_journal)
+
+    def take_journal_open(self) -> Journal:
+        """Cut the journal as `cut_open` does, and return the entries that it had."""
+        return self._taken(library.take_journal_open)
 
     def keep(self) -> None:
         """Cut the journal now, and hand its entries to `when_full`. Without one do nothing."""
@@ -108,6 +112,15 @@ class Switchboard:
         The objects keep what they have.
         """
         code = self._room.do(library.cut)
+        if code != DONE:
+            raise errors.of_code(code)
+
+    def cut_open(self) -> None:
+        """Cut the journal also while lanes and feeds are open, which go on.
+
+        This package opens none, so that here it does what `cut` does.
+        """
+        code = self._room.do(library.cut_open)
         if code != DONE:
             raise errors.of_code(code)
 
@@ -192,12 +205,17 @@ class Switchboard:
     def _keep_by(self, sink: Optional[Sink]) -> None:
         room = self._room
         if sink is not None:
-            room.keeper = Keeper(sink, lambda: _taken(room))
+            room.keeper = Keeper(sink, lambda: _taken(room, library.take_journal_open))
 
-    def _take(self) -> Journal:
-        if self._room.keeper:
-            self._room.keeper.hand_over()
-        return _taken(self._room)
+    def _taken(self, take: Callable[..., int]) -> Journal:
+        room = self._room
+
+        def taken() -> Journal:
+            if room.keeper:
+                room.keeper.hand_over()
+            return _taken(room, take)
+
+        return room.within(taken)
 
     def _codec(self, number: int, kind: int, of: Type[T]) -> Codec[T]:
         """Return the codec of an object of this kind."""
@@ -215,11 +233,11 @@ class Switchboard:
         return name_in(self._room, named)
 
 
-def _taken(room: Room) -> Journal:
+def _taken(room: Room, take: Callable[..., int]) -> Journal:
     """Cut the journal of a room whose lock the caller has, and return its entries."""
     handle, start, count = library.Handle(), c_uint64(), c_uint64()
     library.cut_at(room.handle, byref(start))
-    code = library.take_journal(room.handle, byref(handle), byref(count))
+    code = take(room.handle, byref(handle), byref(count))
     if code != DONE:
         raise errors.of_code(code)
     return Journal(handle, start.value, count.value, room.codecs)

@@ -83,6 +83,16 @@ class Journals(unittest.TestCase):
         checker = Checker()
         self.assertEqual([checker.feed(first), checker.feed(second)], [2, 3])
 
+    def test_open_cuts(self):
+        mailbox = self.seat.mailbox(int)
+        self.seat.send(mailbox, 5)
+        first = self.board.take_journal_open()
+        self.seat.send(mailbox, 6)
+        self.assertEqual((len(first), check(first), self.board.cut_at), (2, 2, 2))
+        self.board.cut_open()
+        self.assertEqual((self.board.cut_at, len(self.board.take_journal_open())), (3, 0))
+        self.assertEqual([self.seat.recv(mailbox), self.seat.recv(mailbox)], [5, 6])
+
     def test_unlawful(self):
         mailbox = self.seat.mailbox(int)
         first = self.board.take_journal()

@@ -1,8 +1,8 @@
--- What C gets of a journal that is taken.
-use Rattle.std.specs.Prelude.{ℕ, ◌≡◌, ◌⊎◌, Some, Vec, length}
+-- What C gets of a journal that is taken, and of one that is cut while lanes and feeds are open.
+use Rattle.std.specs.Prelude.{ℕ, ◌≡◌, ◌≤◌, ◌⊎◌, Some, Vec, length}
 use Rattle.std.specs.declared.alloc.Global.{Global}
 use Rattle.cml_board.specs.{Entry}
-use Rattle.cml_lanes.specs.{CutsFloor, IsBusy, KeepsRings}
+use Rattle.cml_lanes.specs.{CutsFloor, CutsOpenFloor, IsBusy, KeepsRings}
 use Rattle.cml_room.specs.{RoomShown, floor_of, KeepsSeats}
 use Rattle.cml_c.specs.declared.code.Code.TheVariants.{Done, Busy, NoMemory}
 use Rattle.cml_c.specs.declared.handle.Slot.{Slot}
@@ -30,3 +30,27 @@ TakesJournal wrap from to code before after old new =
     Takes wrap to code after old new
     ⊎ (IsBusy (floor_of old) × NotOpened Busy from to code before after old new)
     ⊎ NotOpened NoMemory from to code before after old new
+
+-- the journal is cut, with none of what was reserved lost; lanes and feeds go on, and no seat is changed
+pub record CutsOpen {M : Type 0} (code : ℕ) (old new : RoomShown M) : Type 0 where
+  pub told : code ≡ number Done
+  pub cut : CutsOpenFloor (floor_of old) (floor_of new)
+  pub reserved : old.board.reserved ≤ new.board.reserved
+  pub rings : KeepsRings (floor_of old) (floor_of new)
+  pub kept : KeepsSeats old new
+
+-- the journal is cut so, and a handle to the entries that it had is written, with how many they are
+pub record TakesOpen {M : Type 0} (wrap : Resource M → Kept) (to : Slot) (code after : ℕ) (old new : RoomShown M) : Type 0 where
+  pub told : code ≡ number Done
+  pub cut : CutsOpenFloor (floor_of old) (floor_of new)
+  pub rings : KeepsRings (floor_of old) (floor_of new)
+  pub kept : KeepsSeats old new
+  pub taken : Vec (Entry M) Global
+  pub entries : IsJournal old taken.items
+  pub written : to.kept ≡ Some (wrap (Journal taken))
+  pub count : after ≡ length taken.items
+
+-- it is taken; or there is no memory for the handle, and nothing is changed
+abbrev pub TakesJournalOpen : {M : Type 0} → (Resource M → Kept) → Slot → Slot → ℕ → ℕ → ℕ → RoomShown M → RoomShown M → Type 0
+TakesJournalOpen wrap from to code before after old new =
+    TakesOpen wrap to code after old new ⊎ NotOpened NoMemory from to code before after old new

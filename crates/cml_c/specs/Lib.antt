@@ -42,7 +42,7 @@ pub use Readers.{Holds, HoldsBytes, Reads, ReadsOn, TellsFull, TellsOpen, bare, 
 pub use Readers.{written_found, written_held}
 pub use Entries.{Finds, FindsBytes, FindsBytesIn, FindsIn, IsAt, IsShown, call_kind, call_object, call_of, count_of, flat, given_by}
 pub use Entries.{maker_of, or_zero, reply_kind, reply_message, reply_name, reply_of}
-pub use Journals.{TakesJournal}
+pub use Journals.{CutsOpen, TakesJournal, TakesJournalOpen}
 pub use Checkers.{FeedsEntry, FeedsFrom, FeedsIn, FeedsJournal, FeedsParts, FeedsTaken, TellsVerdict, call_at, entry_in, entry_of}
 pub use Checkers.{entry_with, or_empty, parts_of, replies, told_verdict, who_in}
 pub use Texts.{HandsJournal, HandsText}

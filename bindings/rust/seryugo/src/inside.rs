@@ -4,7 +4,7 @@ use crate::error::Error;
 use crate::journal::Journal;
 use crate::raw::{self, code, done, written, Handle};
 use crate::room::Room;
-use crate::when_full::{taken, Keeper, WhenFull};
+use crate::when_full::{taken, Keeper, Take, WhenFull};
 use std::collections::BTreeMap;
 use std::io;
 
@@ -117,12 +117,12 @@ impl<R: Room> Inside<R> {
         }
     }
 
-    /// Cuts the journal, and returns its entries. If some were cut away before and nobody took them, they go first.
-    pub fn take_journal(&mut self) -> Result<Journal<R>, Error> {
+    /// Cuts the journal by this call, and returns its entries. If some were cut away before and nobody took them, they go first.
+    pub fn take_journal(&mut self, take: Take) -> Result<Journal<R>, Error> {
         if let Some(keeper) = &mut self.keeper {
             keeper.hand_over()?;
         }
-        taken(&mut self.handle)
+        taken(&mut self.handle, take)
     }
 
     /// Why entries were not taken last. It is told once.

@@ -119,7 +119,7 @@ impl<'a, R: Room, T> Lane<'a, R, T> {
     /// Moves all that was sent into the journal, and closes the lane. If a message is refused, the lane comes back to be closed
     /// again or abandoned. The messages before it have moved.
     ///
-    /// Errors: `NoMemory`, or `JournalFull`. A full journal can't be cut while a lane is open, so only abandoning ends that lane.
+    /// Errors: `NoMemory`, or `JournalFull`. Cut a full journal by [`cut_open`](Switchboard::cut_open), and close the lane again.
     ///
     /// ```
     /// use seryugo::{Error, Switchboard};
@@ -171,7 +171,8 @@ impl<R: Room, T> Drop for Lane<'_, R, T> {
 
 /// A lane that has ended, and could not be closed. Close it again, or abandon it. If it is dropped, it is abandoned.
 ///
-/// A full journal can't be cut while a lane is open: abandon the lane then. If there was no memory, close it again later.
+/// If the journal is full, cut it by [`cut_open`](Switchboard::cut_open), and close the lane again. If there was no memory, close it
+/// again later.
 ///
 /// It becomes its [`Error`] by `?`. That drops it.
 ///

@@ -17,7 +17,7 @@ pub mod code {
     pub const UNLAWFUL: u32 = 17;
     pub const FAULT: u32 = 18;
     /// The library never returns it: a call that this crate didn't make, since nobody took the entries of a full journal.
-    pub const NOT_KEPT: u32 = u32::MAX;
+    pub const NOT_KEPT: u32 = u32::MAX - 1;
 }
 
 /// A handle to a room, a lane, a feed, a reading or a taken journal. A thread that has it by `&mut` has it alone, which orders its

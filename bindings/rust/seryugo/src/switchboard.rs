@@ -341,7 +341,49 @@ impl<R: Room> Switchboard<R> {
     /// # Ok::<(), seryugo::Error>(())
     /// ```
     pub fn take_journal(&self) -> Result<Journal<R>, Error> {
-        self.lock().take_journal()
+        self.lock().take_journal(raw::seryugo_take_journal)
+    }
+
+    /// Cuts the journal while lanes and feeds are open, whose rings go on. Nothing of what was reserved is lost. It is never
+    /// refused. What a lane sent is in what was cut away, and then in the journal, in order, each message once.
+    ///
+    /// ```
+    /// # let board = seryugo::Switchboard::new(2)?;
+    /// # let mut seat = board.seat()?;
+    /// let mailbox = seat.mailbox::<u64>()?;
+    /// let mut lane = board.lane(mailbox, 4)?;
+    /// lane.send(5)?;
+    /// lane.drain()?;
+    /// assert_eq!(board.cut(), Err(seryugo::Error::Busy));
+    /// board.cut_open()?;
+    /// lane.send(6)?;
+    /// lane.close()?;
+    /// board.cut()?;
+    /// assert_eq!((seat.recv(mailbox)?, seat.recv(mailbox)?), (5, 6));
+    /// # Ok::<(), seryugo::Error>(())
+    /// ```
+    pub fn cut_open(&self) -> Result<(), Error> {
+        done(unsafe { raw::seryugo_cut_open(&mut self.lock().handle) })
+    }
+
+    /// Cuts the journal as [`cut_open`](Switchboard::cut_open) does, and hands over the entries that it had. What was reserved goes
+    /// with them. Fails only with `NoMemory`, and then nothing is cut.
+    ///
+    /// ```
+    /// # let board = seryugo::Switchboard::new(1_000)?;
+    /// # let mut seat = board.seat()?;
+    /// let mailbox = seat.mailbox::<u64>()?;
+    /// let mut lane = board.lane(mailbox, 4)?;
+    /// lane.send(5)?;
+    /// lane.drain()?;
+    /// assert_eq!(board.take_journal_open()?.len(), 2);
+    /// lane.send(6)?;
+    /// lane.close()?;
+    /// assert_eq!(board.take_journal()?.first(), 2);
+    /// # Ok::<(), seryugo::Error>(())
+    /// ```
+    pub fn take_journal_open(&self) -> Result<Journal<R>, Error> {
+        self.lock().take_journal(raw::seryugo_take_journal_open)
     }
 
     /// The journal's entry at this position, counted from 0 since the switchboard was made. It has copies of the messages. If there

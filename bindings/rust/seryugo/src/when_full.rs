@@ -142,7 +142,7 @@ impl<R: Room> Keeper<R> {
         if let WhenFull::Drop = self.when_full {
             return done(unsafe { raw::seryugo_cut_open(room) });
         }
-        self.kept = Some(taken(room)?);
+        self.kept = Some(taken(room, raw::seryugo_take_journal_open)?);
         self.hand_over()
     }
 
@@ -178,10 +178,13 @@ impl<R: Room> Keeper<R> {
     }
 }
 
-/// The entries of a room's journal, which is cut.
-pub(crate) fn taken<R: Room>(room: &mut Handle) -> Result<Journal<R>, Error> {
+/// A call that cuts a room's journal, and writes a handle to its entries and how many they are.
+pub(crate) type Take = unsafe extern "C" fn(*mut Handle, *mut Handle, *mut u64) -> u32;
+
+/// The entries of a room's journal, which this call cuts.
+pub(crate) fn taken<R: Room>(room: &mut Handle, take: Take) -> Result<Journal<R>, Error> {
     let first = written(|count| unsafe { raw::seryugo_cut_at(room, count) })?;
     let mut count = 0;
-    let handle = Handle::opened(|journal| unsafe { raw::seryugo_take_journal_open(room, journal, &mut count) })?;
+    let handle = Handle::opened(|journal| unsafe { take(room, journal, &mut count) })?;
     Ok(Journal::new(handle, first, count as usize))
 }

@@ -244,6 +244,30 @@ fn a_lane_may_be_full_and_the_journal_too() {
     assert_eq!(board.owed(mailbox), Ok(2));
 }
 
+/// An open cut makes room, also for a lane that couldn't be closed. Nothing that it sent is lost.
+#[test]
+fn a_lane_is_closed_behind_an_open_cut() {
+    let board = board_of_each(OBJECTS + 2);
+    let mailbox = board.mailbox(MAILBOX).unwrap();
+    let channel = board.channel(CHANNEL).unwrap();
+    let mut seat = board.seat().unwrap();
+    let mut lane = board.lane(mailbox, 8).unwrap();
+    (1..=3).for_each(|message| lane.send(message).unwrap());
+    let unclosed = lane.close().unwrap_err();
+    assert_eq!((unclosed.error(), board.cut()), (Error::JournalFull, Err(Error::Busy)));
+    let taken = board.take_journal_open().unwrap();
+    assert_eq!((taken.first(), taken.len() as u64), (0, OBJECTS + 2));
+    assert!(unclosed.close().is_ok());
+    assert_eq!((board.owed(mailbox), board.lost()), (Ok(3), 0));
+    let mut feed = board.feed(channel, 8).unwrap();
+    seat.multicast(channel, 4).unwrap();
+    assert_eq!((feed.pump(), board.cut_open()), (Ok(1), Ok(())));
+    seat.multicast(channel, 5).unwrap();
+    assert_eq!((feed.pump(), board.cut_at()), (Ok(1), OBJECTS + 6));
+    assert_eq!((feed.recv(), feed.recv(), feed.recv()), (Ok(Some(4)), Ok(Some(5)), Ok(None)));
+    assert_eq!((1..=3).map(|_| seat.recv(mailbox).unwrap()).collect::<Vec<_>>(), [1, 2, 3]);
+}
+
 /// However a lane with messages ends while the journal is full, those that it loses are counted.
 #[test]
 fn lost_messages_are_counted() {

@@ -52,7 +52,7 @@ fn library_in_c() -> String {
 fn opens(name: &str) -> bool {
     match name {
         "take_journal" | "room_restore" | "feed_port" | "cut_at" => true,
-        "is_open" => false,
+        "is_open" | "cut_open" => false,
         _ => name.ends_with("_open") || name.starts_with("new_"),
     }
 }
@@ -159,6 +159,7 @@ fn calls<R: Carries<u64>>(board: &Switchboard<R>, code: u32) {
     assert_eq!(seat.try_iter(names.mailbox).next(), None);
     see("reserve", board.reserve(1), code);
     see("cut", board.cut(), code);
+    see("cut_open", board.cut_open(), code);
     lanes_and_feeds(board, code);
     drop(seat);
 }
