@@ -1,0 +1,11 @@
+use Rattle.std.proofs.Common.{subst}
+use Rattle.cml_board.specs.{facts_of}
+use Rattle.cml_compact.specs.Stepping.{Tells}
+use Rattle.cml_compact.proofs.AnewLemmas.{changes_put}
+use Rattle.cml_compact.proofs.sending.give_all.Goals as goal
+
+pub loop-message-preserved : goal.loop-message-preserved
+loop-message-preserved g c =
+    changes_put c.args.new.now c.loop-message.new c.tell.new.new c.args.who c.args.give c.args.name c.in-Some.message
+    (record (facts_of c.args.new.now.history c.args.name.0) { sent = c.loop-message.yielded }) c.requires.adds c.loop-message.invariant
+    (subst (λ call. Tells c.loop-message.new c.tell.new.new c.args.who call) c.give.ensures c.in_ok-tell.ensures.ok)

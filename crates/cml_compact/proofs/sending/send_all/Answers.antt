@@ -1,0 +1,33 @@
+use Rattle.std.proofs.Common.{◌+◌, length, ap, subst, arith}
+use Rattle.std.proofs.lemmas.Result.{err_from_is_err_and}
+use Rattle.cml_board.specs.{entries_in}
+use Rattle.cml_compact.specs.{begun_anew, stock, stocked}
+use Rattle.cml_compact.specs.Stepping.{Changes}
+use Rattle.cml_compact.proofs.AnewLemmas.{halfway_next, stops_more}
+use Rattle.cml_compact.proofs.StagesLemmas.{half_more, stocked_more, begun_weighs, same_twice}
+use Rattle.cml_compact.proofs.sending.send_all.Goals as goal
+
+pub returns-in_err-send_one-clause-err : goal.returns-in_err-send_one-clause-err
+returns-in_err-send_one-clause-err g c =
+    let h = c.args.board.now.history in
+    let name = c.loop-name.name in
+    let p = err_from_is_err_and c.from_residual.result c.from_residual.ensures.1 in
+    let more = half_more _ _ name c.loop-name.new (begun_anew h) (stocked h) c.loop-name.invariant.half
+    (omega (arith, c.loop-name-test.true, c.object_count-name-end.ensures)) (stocked_more h) in
+    let now = ap (λ history. length (stock history name)) c.loop-name.invariant.same.history in
+    rw (p.1, p.2) (stops_more c.loop-name.new.limit c.args.new.now.limit
+    (entries_in c.loop-name.new.history + length (stock c.loop-name.board.history name)) _
+    c.in_err-send_one.field-0.0 c.loop-name.invariant.half.limit (omega (arith, more, begun_weighs h name, now))
+    c.in_err-send_one.ensures.err)
+
+pub loop-name-preserved : goal.loop-name-preserved
+loop-name-preserved g c =
+    let h = c.args.board.now.history in
+    record {
+      half =
+          halfway_next _ c.loop-name.new c.send_one.new.new _ c.loop-name.name (begun_anew h) (stocked h) c.loop-name.invariant.half
+          (omega (arith, c.loop-name-test.true, c.object_count-name-end.ensures))
+          (subst (λ history. Changes c.loop-name.new c.send_one.new.new c.loop-name.name (stocked history c.loop-name.name))
+          c.loop-name.invariant.same.history c.in_ok-send_one.ensures.ok);
+      same = same_twice c.args.board.now c.loop-name.board c.send_one.new.board c.loop-name.invariant.same c.send_one.ensures.same;
+    }

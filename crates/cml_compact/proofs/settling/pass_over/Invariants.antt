@@ -1,0 +1,7 @@
+use Rattle.std.proofs.Common.{◌-◌}
+use Rattle.cml_compact.specs.Stepping.{Changes}
+use Rattle.cml_compact.proofs.PassingLemmas.{passing}
+use Rattle.cml_compact.proofs.settling.pass_over.Given as goal
+
+abbrev pub invariant-loop-at : goal.invariant-loop-at
+invariant-loop-at g l = Changes l.fn.new l.new l.name.0 (passing l.board.history l.name.0 (l._at - l.left))

@@ -1,0 +1,43 @@
+ghost use Rattle.std.specs.Prelude.{◌≡◌, ◌≤◌, ◌^◌, IfOk, IfErr};
+ghost use Rattle.cml_board.specs.{ShowsTheSame};
+ghost use Rattle.cml_compact.specs.{Compacts, Stops, compact_size};
+
+use crate::making::make_all;
+use crate::sending::send_all;
+use crate::settling::settle_all;
+use crate::slowest::slowest;
+use cml_board::{Board, Message, Refusal, Who};
+use cml_log::MessageLog;
+use std::alloc::Global;
+
+/// Makes a board that leaves to later calls what this one leaves, by as few calls as its objects and what is owed of them
+/// take. All these calls are `who`'s, and its journal has no entry before them. What was counted since this board was made
+/// begins anew: positions of entries, and how many messages an object sent and received. Its time grows with the length of
+/// the new journal.
+///
+/// Fails with `JournalFull` if the calls are more than `limit`, or with `NoMemory`. This board is not changed.
+pub fn compact<M: Message, L: MessageLog<M>>(
+    alloc: Global,
+    board: &mut Board<M, L>,
+    who: Who,
+    limit: u64,
+) -> Result<Board<M, L>, Refusal>
+    requires least { 1 ≤ limit }
+    requires most { limit ≤ 2 ^ 32 }
+    ensures ok { IfOk result (λ new. Compacts board.old new) }
+    ensures limit { IfOk result (λ new. new.limit ≡ limit) }
+    ensures err { IfErr result (Stops limit (compact_size board.old.history)) }
+    ensures same { ShowsTheSame board.old board.new }
+{
+    board.facts();
+    let Ok(slowest) = slowest(alloc, board) else {
+        return Err(Refusal::NoMemory);
+    };
+    let Ok(mut new) = Board::new(alloc, limit) else {
+        return Err(Refusal::NoMemory);
+    };
+    make_all(board, &mut new, who)?;
+    send_all(board, &mut new, who, &slowest)?;
+    settle_all(alloc, board, &mut new, who)?;
+    Ok(new)
+}

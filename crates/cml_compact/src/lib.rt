@@ -1,0 +1,13 @@
+//! Compaction: a short journal that leaves what a board's long one leaves.
+#![tactic(auto)]
+
+mod compacting;
+mod laws;
+mod making;
+mod sending;
+mod settling;
+mod slowest;
+mod telling;
+
+pub use compacting::compact;
+pub use laws::same_is_answered_alike;
