@@ -1,5 +1,5 @@
 -- What the calls of a compaction do to the facts of the objects.
-use Rattle.std.proofs.Common.{◌≡◌, ◌≢◌, ℕ, zero, suc, ◌+◌, ◌<◌, ◌≤◌, inl, inr, true, false, List, [], ◌∷◌, ◌++◌}
+use Rattle.std.proofs.Common.{◌≡◌, ◌≢◌, ℕ, zero, suc, ◌+◌, ◌<◌, ◌≤◌, inl, inr, true, List, [], ◌∷◌, ◌++◌}
 use Rattle.std.proofs.Common.{length, slice_get, Option, Some, None, IsTrue, IsSome, IfSome, refl, sym, ap, subst}
 use Rattle.std.proofs.Common.{◌∙◌, arith}
 use Rattle.std.specs.Option.{option_map}
@@ -22,21 +22,21 @@ use Rattle.cml_board.specs.declared.entry.Entry.{Entry}
 use Rattle.cml_board.specs.declared.object.Form.TheVariants.{Once, Mutable}
 use Rattle.cml_board.specs.Origins.{Origin, mailbox, channel, port, ivar, mvar, kind_by}
 use Rattle.cml_board.specs.Held.{held}
-use Rattle.cml_board.specs.History.{Lawful, Fits, answer, new_name, no_entries, entries_in, made, origin_of, kind_of, is_open, sent}
+use Rattle.cml_board.specs.History.{Lawful, Fits, answer, new_name, entries_in, made, origin_of, kind_of, is_open, sent}
 use Rattle.cml_board.specs.History.{owed}
 use Rattle.cml_board.specs.Facts.{Facts, facts_of, new_facts}
 use Rattle.cml_board.specs.Shown.{Shown}
-use Rattle.cml_compact.specs.Stages.{closings, fillings, weight, weights, unplaced, begun_anew}
+use Rattle.cml_compact.specs.Stages.{fillings, weight, weights, unplaced, begun_anew}
 use Rattle.cml_compact.specs.Stepping.{maker_of, maker_in, Reaches, Halfway, Changes}
 use Rattle.cml_board.specs.{Refusal}
 use Rattle.cml_board.specs.declared.outcome.Refusal.TheVariants as refusal
 use Rattle.cml_compact.specs.{Stops}
 use Rattle.cml_compact.specs.Stepping.{Tells}
 use Rattle.cml_board.proofs.TellingLemmas.{noted, Makes, makes_here, makes_other, makes_more, put_here, put_other, put_made, taken_here}
-use Rattle.cml_board.proofs.TellingLemmas.{taken_other, taken_made, shut_here, shut_other, shut_made}
+use Rattle.cml_board.proofs.TellingLemmas.{taken_other, taken_made}
 use Rattle.cml_board.proofs.BeginningLemmas.{mailbox_makes, channel_makes, port_makes, variable_makes}
 use Rattle.cml_board.proofs.LeavingLemmas.{set_here, set_other, spared_made, filled_sets}
-use Rattle.cml_board.proofs.AnsweringLemmas.{answer_put, answer_taken, answer_shut}
+use Rattle.cml_board.proofs.AnsweringLemmas.{answer_put, answer_taken}
 use Rattle.cml_board.proofs.HoldingLemmas.{answer_filled}
 use Rattle.cml_compact.proofs.ChannelsLemmas.{port_after}
 use Rattle.cml_compact.proofs.AlikeLemmas.{kind_told}
@@ -78,11 +78,6 @@ module _ {M : Type 0} where
       → now.history ≡ noted who asked reply ∷ was.history
   told was now who asked reply tells answered =
       tells.history ∙ ap (λ r. noted who asked r ∷ was.history) (same_Some tells.reply reply (sym tells.answered ∙ answered))
-
-  weighs_shut : (f : Facts M) → f.opened ≡ true → weight (record f { opened = false }) ≡ weight f + 1
-  weighs_shut f opened =
-      let none : closings f.opened ≡ 0 = ap closings opened in
-      omega arith
 
   weighs_filled : (f : Facts M) (message : M) → f.held ≡ None → weight (record f { held = Some message }) ≡ weight f + 1
   weighs_filled f message empty =
@@ -146,16 +141,6 @@ module _ {M : Type 0} where
       ∙ ap {A = Facts M} (λ x. record x { got = x.got ++ message ∷ [] }) same)
       (λ k other. taken_other was.history who ask.Recv name message k refl other)
 
-  pub changes_shut : (old was now : Shown M) (who : Who) (name : Name) (f : Facts M)
-      → Changes old was name.0 f → is_open was.history name.0 ≡ true → Tells was now who (ClosePort name)
-      → Changes old now name.0 (record f { opened = false })
-  changes_shut old was now who name f changes opened tells =
-      changes_more old was now who (ClosePort name) Done name.0 f (record f { opened = false }) changes tells
-      (answer_shut was.history name opened) (shut_made was.history who name)
-      (weighs_shut f (ap (λ x. x.opened) (sym changes.here) ∙ opened))
-      (λ same. shut_here was.history who name ∙ ap {A = Facts M} (λ x. record x { opened = false }) same)
-      (λ k other. shut_other was.history who name k other)
-
   pub changes_filled : (old was now : Shown M) (who : Who) (name : Name) (message : M) (f : Facts M)
       → Changes old was name.0 f → held was.history name.0 ≡ None → Tells was now who (call.Put name message)
       → Changes old now name.0 (record f { held = Some message })
@@ -174,32 +159,6 @@ module _ {M : Type 0} where
   changes_sent old new name f g some all changes same sends =
       changes_as old new name (record f { sent = some }) (record g { sent = all }) changes
       (ap {A = Facts M} (λ x. record x { sent = some }) same ∙ ap {A = List M} (λ xs. record g { sent = xs }) sends)
-
-  -- from stage to stage
-  pub halfway_start : (most : ℕ) (board : Shown M) (all : ℕ) (from to : ℕ → Facts M) → Reaches most board all from
-      → Halfway most board all 0 from to
-  halfway_start most board all from to reaches = record {
-    begins = reaches.begins;
-    limit = reaches.limit;
-    lawful = reaches.lawful;
-    count = reaches.count;
-    entries = reaches.entries;
-    done = λ k none. absurd (omega arith);
-    rest = λ k later within. reaches.each k within;
-  }
-
-  pub halfway_end : (most : ℕ) (board : Shown M) (all : ℕ) (from to : ℕ → Facts M) → Halfway most board all all from to
-      → Reaches most board all to
-  halfway_end most board all from to half =
-      record {
-        begins = half.begins;
-        limit = half.limit;
-        lawful = half.lawful;
-        count = half.count;
-        entries = half.entries;
-        each
-            = half.done;
-      }
 
   pub halfway_next : (most : ℕ) (old new : Shown M) (all n : ℕ) (from to : ℕ → Facts M) → Halfway most old all n from to → n < all
       → Changes old new n (to n) → Halfway most new all (n + 1) from to
@@ -220,19 +179,6 @@ module _ {M : Type 0} where
       | inr later ↦ let same : k ≡ n = omega arith in ap (facts_of new.history) same ∙ changes.here ∙ ap to (sym same)
     ];
     rest = λ k later within. changes.others k (λ same. absurd (omega arith)) ∙ half.rest k (omega arith) within;
-  }
-
-  -- the first object is still to be made
-  pub reaches_none : (most : ℕ) (board : Shown M) (facts : ℕ → Facts M) → board.history ≡ no_entries → board.past ≡ no_entries
-      → board.limit ≡ most
-      → Reaches most board 0 facts
-  reaches_none most board facts none begins limited = record {
-    begins = begins;
-    limit = limited;
-    lawful = subst (λ h. Lawful h) (sym none) tt;
-    count = ap (λ h. length (made h)) none;
-    entries = ap entries_in none;
-    each = λ k within. absurd (omega arith);
   }
 
   -- what the call that makes an object is answered, and makes
@@ -328,15 +274,6 @@ module _ {M : Type 0} where
   maker_fits most old board n lawful reaches within =
       let some = some_origin old n within in
       subst (λ x. Fits board.history (maker_in x)) (sym some.1) (remakes most old board n some.0 lawful reaches some.1).fits
-
-  pub maker_answered : (most : ℕ) (old : List (Entry M)) (board : Shown M) (n : ℕ) → Lawful old → Reaches most board n (begun_anew old)
-      → n < length (made old)
-      → answer board.history (maker_in (origin_of old n)) ≢ None
-  maker_answered most old board n lawful reaches within = λ none.
-      let some = some_origin old n within in
-      let e : ◌≡◌ {A = Option (Reply M)} (Some (new_name board.history)) None =
-      sym (remakes most old board n some.0 lawful reaches some.1).answered ∙ ap (λ x. answer board.history (maker_in x)) (sym some.1)
-      ∙ none in cc
 
   pub maker_next : (most : ℕ) (old : List (Entry M)) (was now : Shown M) (who : Who) (n : ℕ) → Lawful old
       → Reaches most was n (begun_anew old) → n < length (made old)

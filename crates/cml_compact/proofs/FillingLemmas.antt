@@ -1,70 +1,27 @@
 -- A port is closed and a variable is filled, and then they are settled. A mailbox and a channel are settled before.
 use Rattle.std.proofs.Common.{◌≡◌, ◌≢◌, ℕ, ◌-◌, inl, inr, Bool, true, false, ◌&&◌, cond, List, [], length, take, Option, Some}
 use Rattle.std.proofs.Common.{None}
-use Rattle.std.proofs.Common.{refl, sym, ap, ◌∙◌, arith}
+use Rattle.std.proofs.Common.{refl, sym, ap, ◌∙◌}
 use Rattle.std.specs.Option.{option_map_or}
 use Rattle.std.proofs.lemmas.Bool.{cases_Bool, cond-true, cond-false, false≢true}
 use Rattle.std.proofs.lemmas.Option.{none-some, same_Some}
 use Rattle.cml_calls.specs.{is_port, is_variable}
-use Rattle.cml_board.specs.{Entry, Name, Who, source_by, held, Lawful, Fits, answer, origin_of, is_open, is_a, owed, held_by}
+use Rattle.cml_board.specs.{Entry, Name, Who, source_by, held, Lawful, origin_of, is_open, is_a, owed, held_by}
 use Rattle.cml_board.specs.{facts_of}
 use Rattle.cml_board.specs.declared.call.Call.TheVariants.{ClosePort}
 use Rattle.cml_board.specs.declared.call.Call.TheVariants as call
-use Rattle.cml_board.specs.declared.entry.Reply.TheVariants.{Done}
 use Rattle.cml_board.specs.Shown.{Shown}
 use Rattle.cml_board.proofs.UnmadeLemmas.{facts_equal}
-use Rattle.cml_board.proofs.AnsweringLemmas.{fits_by, answer_shut}
 use Rattle.cml_board.proofs.ClosingLemmas.{closed_is_port}
 use Rattle.cml_compact.specs.{stock, stocked, settled}
-use Rattle.cml_compact.specs.Stages.{weight}
 use Rattle.cml_compact.specs.Stepping.{Tells, Changes}
-use Rattle.cml_compact.proofs.AnewLemmas.{changes_none, changes_as, changes_shut, changes_filled}
-use Rattle.cml_compact.proofs.PassingLemmas.{kind_anew, holds_none}
+use Rattle.cml_compact.proofs.AnewLemmas.{changes_none, changes_as, changes_filled}
 
 module _ {M : Type 0} where
   stocked_changes : (old : List (Entry M)) (start : Shown M) (name : ℕ) → Lawful start.history
       → facts_of start.history name ≡ stocked old name → Changes start start name (stocked old name)
   stocked_changes old start name lawful here =
       changes_as start start name (facts_of start.history name) (stocked old name) (changes_none start name lawful) here
-
-  -- a port that is closed
-  pub shut_fits : (old : List (Entry M)) (start : Shown M) (name : Name) → is_a is_port old name.0 ≡ true
-      → facts_of start.history name.0 ≡ stocked old name.0 → Fits start.history (ClosePort name)
-  shut_fits old start name is here =
-      fits_by is_port start.history name (ClosePort name) refl (λ k. refl)
-      (ap (λ k. option_map_or is_port k false) (kind_anew old start.history name.0 (stocked old name.0) here refl) ∙ is)
-
-  pub shut_answered : (old : List (Entry M)) (start : Shown M) (name : Name)
-      → facts_of start.history name.0 ≡ stocked old name.0 → answer start.history (ClosePort name) ≢ None
-  shut_answered old start name here = λ none.
-      none-some Done (sym none ∙ answer_shut start.history name (ap (λ f. f.opened) here))
-
-  shut_settled : (old : List (Entry M)) (name : ℕ) → is_a is_port old name ≡ true → is_open old name ≡ false
-      → record (stocked old name) { opened = false } ≡ settled old name
-  shut_settled old name is closed =
-      let stream = stock old (source_by name (origin_of old name)) in
-      let neither : (is_a is_port old name && is_open old name) ≡ false =
-      ap (λ t. is_a is_port old name && t) closed ∙ and_none (is_a is_port old name) in
-      facts_equal (record (stocked old name) { opened = false }) (settled old name) refl (sym closed) refl
-      (sym (cond-false (is_a is_port old name && is_open old name) (take (length stream - length (owed old name)) stream) [] neither))
-      (sym (holds_none old name is))
-    where
-      and_none : (t : Bool) → (t && false) ≡ false
-      and_none true = refl
-      and_none false = refl
-
-  pub shut_settles : (old : List (Entry M)) (start now : Shown M) (who : Who) (name : Name) → Lawful start.history
-      → is_a is_port old name.0 ≡ true → is_open old name.0 ≡ false → facts_of start.history name.0 ≡ stocked old name.0
-      → Tells start now who (ClosePort name) → Changes start now name.0 (settled old name.0)
-  shut_settles old start now who name lawful is closed here tells =
-      changes_as start now name.0 (record (stocked old name.0) { opened = false }) (settled old name.0)
-      (changes_shut start start now who name (stocked old name.0) (stocked_changes old start name.0 lawful here)
-      (ap (λ f. f.opened) here) tells)
-      (shut_settled old name.0 is closed)
-
-  pub shut_weighs : (old : List (Entry M)) (name : ℕ) → is_a is_port old name ≡ true → is_open old name ≡ false
-      → weight (settled old name) - weight (stocked old name) ≡ 1
-  shut_weighs old name is closed = omega (arith, ap weight (shut_settled old name is closed))
 
   -- what is no port is open, and passes over nothing
   open_other : (old : List (Entry M)) (name : ℕ) → Lawful old → is_a is_port old name ≡ false → is_open old name ≡ true
@@ -104,13 +61,6 @@ module _ {M : Type 0} where
       by_variable false is =
           absurd (none-some (Some message) (sym (cond-false (is_a is_variable old name) (Some (held old name)) None is) ∙ holds))
 
-  pub fill_fits : (old : List (Entry M)) (start : Shown M) (name : Name) (message : M) → held_by old name.0 ≡ Some (Some message)
-      → facts_of start.history name.0 ≡ stocked old name.0 → Fits start.history (call.Put name message)
-  fill_fits old start name message holds here =
-      fits_by is_variable start.history name (call.Put name message) refl (λ k. refl)
-      (ap (λ k. option_map_or is_variable k false) (kind_anew old start.history name.0 (stocked old name.0) here refl)
-      ∙ (held_parts old name.0 message holds).0)
-
   fill_settled : (old : List (Entry M)) (name : ℕ) (message : M) → Lawful old → is_a is_port old name ≡ false
       → held_by old name ≡ Some (Some message) → record (stocked old name) { held = Some message } ≡ settled old name
   fill_settled old name message lawful isnt holds =
@@ -126,10 +76,6 @@ module _ {M : Type 0} where
       (changes_filled start start now who name message (stocked old name.0) (stocked_changes old start name.0 follows here)
       (ap (λ f. f.held) here) tells)
       (fill_settled old name.0 message lawful isnt holds)
-
-  pub fill_weighs : (old : List (Entry M)) (name : ℕ) (message : M) → Lawful old → is_a is_port old name ≡ false
-      → held_by old name ≡ Some (Some message) → weight (settled old name) - weight (stocked old name) ≡ 1
-  fill_weighs old name message lawful isnt holds = omega (arith, ap weight (fill_settled old name message lawful isnt holds))
 
   -- a variable that holds nothing, or no variable, holds no message
   pub empty_inside : (old : List (Entry M)) (name : ℕ) → Some None ≡ held_by old name → (message : M)

@@ -8,18 +8,18 @@ use Rattle.std.proofs.lemmas.Option.{none-some}
 use Rattle.cml_calls.specs.{Kind, is_receiver, is_port, is_variable}
 use Rattle.cml_calls.specs.declared.kind.Kind.TheVariants as kind
 use Rattle.cml_calls.specs.declared.table.Ask.TheVariants as ask
-use Rattle.cml_board.specs.{Entry, Name, Who, Origin, port, kind_by, source_by, start_by, held, Lawful, Fits, answer}
+use Rattle.cml_board.specs.{Entry, Name, Who, Origin, port, kind_by, source_by, start_by, held, Lawful, answer}
 use Rattle.cml_board.specs.{origin_of}
-use Rattle.cml_board.specs.{kind_of, is_open, sent, got, owed, is_a, owed_count, entries_in, facts_of}
+use Rattle.cml_board.specs.{kind_of, is_open, sent, got, owed, is_a, owed_count, facts_of}
 use Rattle.cml_board.specs.declared.call.Call.TheVariants.{Recv}
 use Rattle.cml_board.specs.declared.entry.Reply.TheVariants.{Got}
 use Rattle.cml_board.specs.Facts.{Facts}
 use Rattle.cml_board.specs.Shown.{Shown}
 use Rattle.cml_board.proofs.ListLemmas.{take_next, slice_get_drop}
 use Rattle.cml_board.proofs.UnmadeLemmas.{facts_equal}
-use Rattle.cml_board.proofs.AnsweringLemmas.{fits_taking, answer_taken}
+use Rattle.cml_board.proofs.AnsweringLemmas.{answer_taken}
 use Rattle.cml_compact.specs.{stock, stocked, settled}
-use Rattle.cml_compact.specs.Stages.{unplaced, weight}
+use Rattle.cml_compact.specs.Stages.{unplaced}
 use Rattle.cml_compact.specs.Stepping.{Tells, Changes}
 use Rattle.cml_compact.proofs.AlikeLemmas.{kind_told}
 use Rattle.cml_compact.proofs.AnewLemmas.{changes_none, changes_as, changes_taken}
@@ -124,11 +124,6 @@ module _ {M : Type 0} where
       ∙ slice_get_drop n 0 stream ∙ ap (slice_get stream) last in
       (some.0, here ∙ some.1, some.1)
 
-  pub passing_fits : (old : List (Entry M)) (start was : Shown M) (name : Name) (source at n : ℕ) → Passes old start name.0 source at
-      → Changes start was name.0 (passing old name.0 n) → Fits was.history (Recv name)
-  passing_fits old start was name source at n own changes =
-      fits_taking was.history ask.Recv name refl (passing_kind old start was name.0 source at n own changes)
-
   pub passing_answered : (old : List (Entry M)) (start was : Shown M) (name : Name) (source at n : ℕ) → Lawful old
       → Passes old start name.0 source at → n < length (stock old source) → Changes start was name.0 (passing old name.0 n)
       → answer was.history (Recv name) ≢ None
@@ -174,26 +169,3 @@ module _ {M : Type 0} where
       → Changes start now name (passing old name n) → Changes start now name (settled old name)
   passing_end old start now name source at n own is all changes =
       changes_as start now name (passing old name n) (settled old name) changes (passing_settled old start name source at n own is all)
-
-  -- while it is still to pass over some there are fewer entries than there will be
-  pub passing_more : (old : List (Entry M)) (start now : Shown M) (name source at n : ℕ) → Passes old start name source at
-      → is_a is_port old name ≡ true → Changes start now name (passing old name n) → facts_of start.history name ≡ stocked old name
-      → n < length (stock old source) - length (owed old name)
-      → entries_in now.history + 1 ≤ entries_in start.history + (weight (settled old name) - weight (stocked old name))
-  passing_more old start now name source at n own is changes here more =
-      let stream = stock old source in
-      let all = passing_settled old start name source at (length stream - length (owed old name)) own is refl in
-      let one : length (take n stream) ≡ n = omega (arith, length-take n stream) in
-      let rest : length (take (length stream - length (owed old name)) stream) ≡ length stream - length (owed old name) =
-      omega (arith, length-take (length stream - length (owed old name)) stream) in
-      omega (
-        arith,
-        more,
-        one,
-        rest,
-        changes.entries,
-        ap weight here,
-        ap weight all,
-        ap length (stream_of old name source at n own.begun),
-        ap length (stream_of old name source at (length stream - length (owed old name)) own.begun),
-      )

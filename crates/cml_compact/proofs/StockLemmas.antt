@@ -14,7 +14,7 @@ use Rattle.cml_board.specs.Counts.{channel_in}
 use Rattle.cml_board.proofs.ListLemmas.{slice_get-set_same, slice_get-set_other}
 use Rattle.cml_board.proofs.ClosingLemmas.{mailbox_open}
 use Rattle.cml_compact.specs.Stages.{longer, owed_of, longest_of, stock}
-use Rattle.cml_compact.specs.Slowest.{AreNames, AreSlowest}
+use Rattle.cml_compact.specs.Slowest.{AreSlowest}
 use Rattle.cml_compact.proofs.ChannelsLemmas.{port_after}
 
 -- a shorter end of a list is an end of a longer one
@@ -115,11 +115,6 @@ module _ {M : Type 0} where
       (ap (λ k. option_map_or is_mailbox k false) is)
       ∙ cond-true (is_a is_channel h name) (longest_of h name (length (made h))) [] (ap (λ k. option_map_or is_channel k false) is)
 
-  pub stock_none : (h : List (Entry M)) (name : ℕ) → is_a is_mailbox h name ≡ false → is_a is_channel h name ≡ false → stock h name ≡ []
-  stock_none h name first second =
-      cond-false (is_a is_mailbox h name) (owed h name) (cond (is_a is_channel h name) (longest_of h name (length (made h))) []) first
-      ∙ cond-false (is_a is_channel h name) (longest_of h name (length (made h))) [] second
-
   -- of a mailbox, what it is owed is sent again
   pub mailbox_stock : (h : List (Entry M)) (name : ℕ) → Lawful h → kind_of h name ≡ Some kind.Mailbox → owed_to h name ≡ stock h name
   mailbox_stock h name lawful is =
@@ -199,29 +194,6 @@ module _ {M : Type 0} where
   longest_stays h source n less =
       let next : n + 1 ≡ suc n = omega arith in
       ap (longest_of h source) next ∙ longer_else (longest_of h source n) (owed_of h source n) less
-
-  -- at first each channel has itself, which is owed nothing
-  pub slowest_start : (h : List (Entry M)) (names : List Name) → AreNames (length (made h)) names → AreSlowest h 0 names
-  slowest_start h names own = record {
-    all = own.all;
-    each = λ source name is found.
-        let within : source < length names = slice_get_within names source name found in
-        let same : record { 0 = source } ≡ name =
-        same_Some (record { 0 = source }) name (sym (own.each source (omega (arith, within, own.all))) ∙ found) in
-        ap (λ (n : Name). owed_to h n.0) (sym same)
-        ∙ cond-false (is_a is_receiver h source && is_open h source) (owed h source) []
-        (ap (λ k. option_map_or is_receiver k false && is_open h source) is);
-  }
-
-  -- an object that is no port changes nothing
-  pub slowest_other : (h : List (Entry M)) (n : ℕ) (found : List Name) → AreSlowest h n found → channel_of h n ≡ None
-      → AreSlowest h (n + 1) found
-  slowest_other h n found before none = record {
-    all = before.all;
-    each = λ source name is at.
-        let nothing = owed_outside h source n is (λ start e. none-some (record { 0 = source }) (sym none ∙ ap channel_in e)) in
-        before.each source name is at ∙ sym (longest_stays h source n (omega (arith, ap length nothing)));
-  }
 
   port_of : (h : List (Entry M)) (n : ℕ) (from : Name) → channel_of h n ≡ Some from
       → (start : ℕ) × (origin_of h n ≡ Some (port from.0 start))
