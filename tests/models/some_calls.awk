@@ -142,6 +142,12 @@ function begin(number,    at, seat) {
     print seat "mvar"; makes("mvar")
 }
 
+# A cut of the journal, which drops its entries only if the case may.
+function cutting(drops, at) {
+    if (drops) return one_of("cut take cut_open take_open")
+    return at % 2 ? "take" : "take_open"
+}
+
 function case_of(number,    at, drops) {
     ground = one_of("board board floor hall")
     drops = below(2)
@@ -150,7 +156,7 @@ function case_of(number,    at, drops) {
         if (ground == "hall" && at == 40) leave()
         print line()
         if (ground != "board" && below(12) == 0) end_all()
-        if (below(6) == 0) print drops ? one_of("cut take") : "take"
+        if (below(6) == 0) print cutting(drops, at)
     }
     for (at = 0; at < objects; at++) print "tell " at
     if (!drops) print "pieces"

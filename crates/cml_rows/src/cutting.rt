@@ -15,6 +15,10 @@ pub enum Way {
     Cut,
     /// They are returned.
     Take,
+    /// They are dropped, also while lanes and feeds are open.
+    CutOpen,
+    /// They are returned, also while lanes and feeds are open.
+    TakeOpen,
 }
 
 impl Way {
@@ -23,6 +27,8 @@ impl Way {
         match word {
             "cut" => Some(Way::Cut),
             "take" => Some(Way::Take),
+            "cut_open" => Some(Way::CutOpen),
+            "take_open" => Some(Way::TakeOpen),
             _ => None,
         }
     }
@@ -31,8 +37,8 @@ impl Way {
 /// The line that is performed behind a case's last line: if entries were taken, it asks whether they are lawful.
 pub fn last_look(way: Option<Way>) -> Option<&'static str> {
     match way {
-        Some(Way::Take) => Some("pieces"),
-        Some(Way::Cut) | None => None,
+        Some(Way::Take | Way::TakeOpen) => Some("pieces"),
+        Some(Way::Cut | Way::CutOpen) | None => None,
     }
 }
 
@@ -43,6 +49,10 @@ pub trait Journaled<M: Numbered> {
     fn cut(&mut self) -> Result<(), Refusal>;
 
     fn take_journal(&mut self) -> Result<Vec<Entry<M>>, Refusal>;
+
+    fn cut_open(&mut self);
+
+    fn take_journal_open(&mut self) -> Vec<Entry<M>>;
 }
 
 impl<M: Numbered> Journaled<M> for Numbers<M> {
@@ -57,6 +67,14 @@ impl<M: Numbered> Journaled<M> for Numbers<M> {
 
     fn take_journal(&mut self) -> Result<Vec<Entry<M>>, Refusal> {
         Ok(Board::take_journal(self))
+    }
+
+    fn cut_open(&mut self) {
+        Board::cut(self);
+    }
+
+    fn take_journal_open(&mut self) -> Vec<Entry<M>> {
+        Board::take_journal(self)
     }
 }
 
@@ -93,7 +111,7 @@ impl<M: Numbered> Pieces<M> {
         self.pieces.clear();
     }
 
-    /// Cuts the journal this way, if in any, unless a lane or a feed is open.
+    /// Cuts the journal this way, if in any. While a lane or a feed is open, only the open ways cut it.
     pub fn cut_by<J: Journaled<M>>(&mut self, told: &mut Told, ground: &mut J, way: Option<Way>) {
         match way {
             Some(Way::Cut) => {
@@ -101,6 +119,10 @@ impl<M: Numbered> Pieces<M> {
             }
             Some(Way::Take) => {
                 let _count = self.take(told, ground);
+            }
+            Some(Way::CutOpen) => ground.cut_open(),
+            Some(Way::TakeOpen) => {
+                let _count = self.take_open(told, ground);
             }
             None => {}
         }
@@ -111,6 +133,14 @@ impl<M: Numbered> Pieces<M> {
         match *words.first().unwrap_or(&"") {
             "cut" => tell_done(told, ground.cut()),
             "take" => self.tell_take(told, ground),
+            "cut_open" => {
+                ground.cut_open();
+                told.say("done");
+            }
+            "take_open" => {
+                let count = self.take_open(told, ground);
+                tell_taken(told, count);
+            }
             "cut_at" => told.show(&ground.board().cut_at()),
             "journal" => told.show(&ground.board().journal().len()),
             "noted" => self.tell_noted(told, ground.board(), number(words, 1).unwrap_or(0)),
@@ -126,10 +156,7 @@ impl<M: Numbered> Pieces<M> {
 
     fn tell_take<J: Journaled<M>>(&mut self, told: &mut Told, ground: &mut J) {
         match self.take(told, ground) {
-            Ok(count) => {
-                told.say("took ");
-                told.show(&count);
-            }
+            Ok(count) => tell_taken(told, count),
             Err(refusal) => told.say(refusal_word(refusal)),
         }
     }
@@ -138,9 +165,21 @@ impl<M: Numbered> Pieces<M> {
     fn take<J: Journaled<M>>(&mut self, told: &mut Told, ground: &mut J) -> Result<usize, Refusal> {
         let from = ground.board().cut_at();
         let entries = ground.take_journal()?;
-        let count = entries.len();
-        told.needs(self.pieces.push(Piece { from, entries }).is_ok());
-        Ok(count)
+        Ok(self.keep(told, Piece { from, entries }))
+    }
+
+    /// The same while lanes and feeds are open.
+    fn take_open<J: Journaled<M>>(&mut self, told: &mut Told, ground: &mut J) -> usize {
+        let from = ground.board().cut_at();
+        let entries = ground.take_journal_open();
+        self.keep(told, Piece { from, entries })
+    }
+
+    /// Keeps a piece, and returns how many entries it has.
+    fn keep(&mut self, told: &mut Told, piece: Piece<M>) -> usize {
+        let count = piece.entries.len();
+        told.needs(self.pieces.push(piece).is_ok());
+        count
     }
 
     /// Writes the entry at a position, which counts from the board's first entry on, also one that was taken.
@@ -192,4 +231,9 @@ impl<M: Numbered> Pieces<M> {
         feeding.feed(told, board.journal());
         feeding.tell(told);
     }
+}
+
+fn tell_taken(told: &mut Told, count: usize) {
+    told.say("took ");
+    told.show(&count);
 }

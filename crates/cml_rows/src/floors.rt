@@ -30,6 +30,14 @@ impl<M: Numbered> Journaled<M> for Floor<M, BoardLog<M>> {
     fn take_journal(&mut self) -> Result<Vec<Entry<M>>, Refusal> {
         Floor::take_journal(self)
     }
+
+    fn cut_open(&mut self) {
+        Floor::cut_open(self);
+    }
+
+    fn take_journal_open(&mut self) -> Vec<Entry<M>> {
+        Floor::take_journal_open(self)
+    }
 }
 
 impl<M: Numbered> Ground<M> for Floor<M, BoardLog<M>> {

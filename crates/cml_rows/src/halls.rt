@@ -59,6 +59,14 @@ impl<M: Numbered, Led: Ledger> Journaled<M> for Seated<M, Led> {
     fn take_journal(&mut self) -> Result<Vec<Entry<M>>, Refusal> {
         self.hall.take_journal()
     }
+
+    fn cut_open(&mut self) {
+        self.hall.cut_open();
+    }
+
+    fn take_journal_open(&mut self) -> Vec<Entry<M>> {
+        self.hall.take_journal_open()
+    }
 }
 
 impl<M: Numbered, Led: Ledger> Ground<M> for Seated<M, Led> {

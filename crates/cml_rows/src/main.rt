@@ -1,7 +1,8 @@
 //! Performs tables of calls on a board, a floor or a hall: it writes each line of standard input again, with its outcome
 //! behind `: `. A call that ran out of memory is made once more, and the line then says so. With the word `texts` the
 //! messages are texts, the digits of the tables' numbers. With the word `cut` or `take` the journal is cut behind each line
-//! if it can be. `cut` drops its entries; `take` keeps them, and in the end checks them piece by piece.
+//! if it can be. `cut` drops its entries; `take` keeps them, and in the end checks them piece by piece. With `cut_open` or
+//! `take_open` it is cut behind each line, also while lanes and feeds are open.
 #![tactic(auto)]
 
 mod cutting;
@@ -48,7 +49,7 @@ enum Messages {
 fn main(rt: HostRuntime) -> io::Result<ExitCode> {
     let words = env::args(&rt)?.collect::<Vec<String>>(rt.alloc())?;
     let Some(order) = order_of(words.get(1..).unwrap_or(&[])) else {
-        eprintln!(rt; "usage: cml_rows [texts] [cut | take]")?;
+        eprintln!(rt; "usage: cml_rows [texts] [cut | take | cut_open | take_open]")?;
         return Ok(ExitCode::from(2));
     };
     match order.messages {
