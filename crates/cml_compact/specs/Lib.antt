@@ -6,4 +6,4 @@ pub mod Compacting
 -- the names that others import from here
 pub use Leaving.{FollowedAlike, LeavesTheSame, SameChannels, SameHeld, SameKinds, SameOpen, SameOwed}
 pub use Stages.{begun_anew, passed_over, settled, stock, stocked}
-pub use Compacting.{Compacts, Stops, compact_size}
+pub use Compacting.{AllBy, Compacts, Stops, compact_size}

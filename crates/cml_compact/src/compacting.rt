@@ -1,6 +1,6 @@
 ghost use Rattle.std.specs.Prelude.{◌≡◌, ◌≤◌, ◌^◌, IfOk, IfErr};
 ghost use Rattle.cml_board.specs.{ShowsTheSame};
-ghost use Rattle.cml_compact.specs.{Compacts, Stops, compact_size};
+ghost use Rattle.cml_compact.specs.{AllBy, Compacts, Stops, compact_size};
 
 use crate::making::make_all;
 use crate::sending::send_all;
@@ -25,6 +25,7 @@ pub fn compact<M: Message, L: MessageLog<M>>(
     requires least { 1 ≤ limit }
     requires most { limit ≤ 2 ^ 32 }
     ensures ok { IfOk result (λ new. Compacts board.old new) }
+    ensures whose { IfOk result (λ new. AllBy who new.history) }
     ensures limit { IfOk result (λ new. new.limit ≡ limit) }
     ensures err { IfErr result (Stops limit (compact_size board.old.history)) }
     ensures same { ShowsTheSame board.old board.new }

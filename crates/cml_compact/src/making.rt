@@ -4,7 +4,7 @@ ghost use Rattle.cml_calls.specs.{is_port};
 ghost use Rattle.cml_board.specs.{Lawful, is_a, made, origin_of, no_entries, entries_in};
 ghost use Rattle.cml_compact.specs.Stages.{weights};
 ghost use Rattle.cml_compact.specs.Stepping.{maker_in, Reaches};
-ghost use Rattle.cml_compact.specs.{Stops, begun_anew};
+ghost use Rattle.cml_compact.specs.{AllBy, Stops, begun_anew};
 
 use crate::telling::tell;
 use cml_board::{Board, Call, Message, Name, Refusal, Who};
@@ -21,6 +21,7 @@ pub fn make_all<M: Message, L: MessageLog<M>>(
     requires begins { new.old.past ≡ no_entries }
     ensures ok { OnOk result (Reaches new.old.limit new.new (length (made board.now.history)) (begun_anew board.now.history)) }
     ensures err { IfErr result (Stops new.old.limit (weights (begun_anew board.now.history) (length (made board.now.history)))) }
+    ensures whose { AllBy who new.old.history → AllBy who new.new.history }
 {
     board.facts();
     for name in 0..board.object_count() {

@@ -6,8 +6,9 @@ ghost use Rattle.cml_board.specs.{Lawful, ShowsTheSame, adds, kind_of, made, no_
 ghost use Rattle.cml_compact.specs.Stages.{weight, weights, stock};
 ghost use Rattle.cml_compact.specs.Slowest.{AreSlowest};
 ghost use Rattle.cml_compact.specs.Stepping.{kind_given, Reaches, Changes};
-ghost use Rattle.cml_compact.specs.{Stops, begun_anew, stocked};
+ghost use Rattle.cml_compact.specs.{AllBy, Stops, begun_anew, stocked};
 
+use crate::slowest::owed;
 use crate::telling::tell;
 use cml_board::{Board, Call, Give, Message, Name, Refusal, Who};
 use cml_calls::Kind;
@@ -24,6 +25,7 @@ pub fn send_all<M: Message, L: MessageLog<M>>(
     requires slowest { AreSlowest board.old.history (length (made board.old.history)) slowest.now.items }
     ensures ok { OnOk result (Reaches new.old.limit new.new (length (made board.old.history)) (stocked board.old.history)) }
     ensures err { IfErr result (Stops new.old.limit (weights (stocked board.old.history) (length (made board.old.history)))) }
+    ensures whose { AllBy who new.old.history → AllBy who new.new.history }
     ensures same { ShowsTheSame board.old board.new }
 {
     board.facts();
@@ -49,6 +51,7 @@ fn send_one<M: Message, L: MessageLog<M>>(
     requires slowest { kind_of board.old.history name.0 ≡ Some Channel → owed_to board.old.history from.0 ≡ stock board.old.history name.0 }
     ensures ok { OnOk result (Changes new.old new.new name.0 (stocked board.old.history name.0)) }
     ensures err { IfErr result (Stops new.old.limit (entries_in new.old.history + length (stock board.old.history name.0))) }
+    ensures whose { AllBy who new.old.history → AllBy who new.new.history }
     ensures same { ShowsTheSame board.old board.new }
 {
     match board.kind(name) {
@@ -58,7 +61,7 @@ fn send_one<M: Message, L: MessageLog<M>>(
     }
 }
 
-/// Sends what this object is owed.
+/// Sends what this object is owed. If that is nothing, it opens no cursor, which would take memory.
 fn send_owed<M: Message, L: MessageLog<M>>(
     board: &mut Board<M, L>,
     new: &mut Board<M, L>,
@@ -75,8 +78,12 @@ fn send_owed<M: Message, L: MessageLog<M>>(
     ensures ok { OnOk result
         (Changes new.old new.new name.0 (record (facts_of new.old.history name.0) { sent = owed_to board.old.history from.0 })) }
     ensures err { IfErr result (Stops new.old.limit (entries_in new.old.history + length (owed_to board.old.history from.0))) }
+    ensures whose { AllBy who new.old.history → AllBy who new.new.history }
     ensures same { ShowsTheSame board.old board.new }
 {
+    if owed(board, from) == 0 {
+        return Ok(());
+    }
     match board.share_owed(from) {
         Ok(messages) => give_all(new, who, name, give, messages),
         Err(_) => Err(Refusal::NoMemory),
@@ -98,6 +105,7 @@ fn give_all<M: Message, L: MessageLog<M>>(
     requires empty { (facts_of new.old.history name.0).sent ≡ [] }
     ensures ok { OnOk result (Changes new.old new.new name.0 (record (facts_of new.old.history name.0) { sent = messages.items })) }
     ensures err { IfErr result (Stops new.old.limit (entries_in new.old.history + length messages.items)) }
+    ensures whose { AllBy who new.old.history → AllBy who new.new.history }
 {
     for message in messages {
         tell(new, who, Call::give(give, name, message))?;

@@ -4,7 +4,7 @@ ghost use Rattle.cml_calls.specs.{is_port};
 ghost use Rattle.cml_board.specs.{Lawful, made, origin_of, source_by, is_a, is_open, sent, owed, no_entries, entries_in, facts_of};
 ghost use Rattle.cml_compact.specs.Stages.{weight, weights, stock};
 ghost use Rattle.cml_compact.specs.Stepping.{Reaches, Halfway, Changes};
-ghost use Rattle.cml_compact.specs.{Stops, stocked, settled};
+ghost use Rattle.cml_compact.specs.{AllBy, Stops, stocked, settled};
 
 use crate::telling::tell;
 use cml_board::{Board, Call, Message, Name, Refusal, Who};
@@ -21,6 +21,7 @@ pub fn settle_all<M: Message, L: MessageLog<M>>(
     requires stocked { Reaches new.old.limit new.old (length (made board.now.history)) (stocked board.now.history) }
     ensures ok { OnOk result (Reaches new.old.limit new.new (length (made board.now.history)) (settled board.now.history)) }
     ensures err { IfErr result (Stops new.old.limit (weights (settled board.now.history) (length (made board.now.history)))) }
+    ensures whose { AllBy who new.old.history → AllBy who new.new.history }
 {
     board.facts();
     for name in 0..board.object_count() {
@@ -44,6 +45,7 @@ fn settle_one<M: Message, L: MessageLog<M>>(
     ensures ok { OnOk result (Changes new.old new.new name.0 (settled board.now.history name.0)) }
     ensures err { IfErr result (Stops new.old.limit (entries_in new.old.history
         + (weight (settled board.now.history name.0) - weight (stocked board.now.history name.0)))) }
+    ensures whose { AllBy who new.old.history → AllBy who new.new.history }
 {
     match board.is_open(name) {
         Some(true) => pass_over(board, new, who, name),
@@ -70,6 +72,7 @@ fn pass_over<M: Message, L: MessageLog<M>>(
     ensures ok { OnOk result (Changes new.old new.new name.0 (settled board.now.history name.0)) }
     ensures err { IfErr result (Stops new.old.limit (entries_in new.old.history
         + (weight (settled board.now.history name.0) - weight (stocked board.now.history name.0)))) }
+    ensures whose { AllBy who new.old.history → AllBy who new.new.history }
 {
     let more = new.owed_count(name).unwrap_or(0);
     let left = board.owed_count(name).unwrap_or(0);
@@ -94,6 +97,7 @@ fn close<M: Message, L: MessageLog<M>>(
     ensures ok { OnOk result (Changes new.old new.new name.0 (settled board.now.history name.0)) }
     ensures err { IfErr result (Stops new.old.limit (entries_in new.old.history
         + (weight (settled board.now.history name.0) - weight (stocked board.now.history name.0)))) }
+    ensures whose { AllBy who new.old.history → AllBy who new.new.history }
 {
     tell(new, who, Call::ClosePort(name))
 }
@@ -114,6 +118,7 @@ fn fill<M: Message, L: MessageLog<M>>(
     ensures ok { OnOk result (Changes new.old new.new name.0 (settled board.now.history name.0)) }
     ensures err { IfErr result (Stops new.old.limit (entries_in new.old.history
         + (weight (settled board.now.history name.0) - weight (stocked board.now.history name.0)))) }
+    ensures whose { AllBy who new.old.history → AllBy who new.new.history }
 {
     let Some(held) = board.held(name) else {
         return Ok(());

@@ -51,7 +51,7 @@ fn compare<M: Message, L: MessageLog<M>>(board: &Board<M, L>, found: &mut Vec<Na
 }
 
 /// How many messages an object is owed.
-fn owed<M: Message, L: MessageLog<M>>(board: &Board<M, L>, name: Name) -> u64
+pub fn owed<M: Message, L: MessageLog<M>>(board: &Board<M, L>, name: Name) -> u64
     ensures { result ≡ length (owed_to board.now.history name.0) }
 {
     board.owed_count(name).unwrap_or(0)

@@ -1,7 +1,7 @@
 ghost use Rattle.std.specs.Prelude.{◌≡◌, ◌≢◌, ◌+◌, None, OnOk, IfErr};
 ghost use Rattle.cml_board.specs.{Fits, Lawful, answer, no_entries, entries_in};
 ghost use Rattle.cml_compact.specs.Stepping.{Tells};
-ghost use Rattle.cml_compact.specs.{Stops};
+ghost use Rattle.cml_compact.specs.{AllBy, Stops};
 
 use cml_board::{Board, Call, Message, Refusal, Response, Who};
 use cml_log::MessageLog;
@@ -16,6 +16,7 @@ pub fn tell<M: Message, L: MessageLog<M>>(
     requires fits { Fits new.old.history call }
     requires answered { answer new.old.history call ≢ None }
     ensures ok { OnOk result (Tells new.old new.new who call) }
+    ensures whose { AllBy who new.old.history → AllBy who new.new.history }
     ensures err { IfErr result (Stops new.old.limit (entries_in new.old.history + 1)) }
 {
     let _limit = new.limit();

@@ -30,4 +30,5 @@ loop-name-preserved g c =
           (subst (λ history. Changes c.loop-name.new c.send_one.new.new c.loop-name.name (stocked history c.loop-name.name))
           c.loop-name.invariant.same.history c.in_ok-send_one.ensures.ok);
       same = same_twice c.args.board.now c.loop-name.board c.send_one.new.board c.loop-name.invariant.same c.send_one.ensures.same;
+      whose = λ before. c.in_ok-send_one.ensures.whose (c.loop-name.invariant.whose before);
     }

@@ -13,7 +13,7 @@ tell-requires-clause-answered g c =
     (c.unwrap_or-left.ensures ∙ ap (λ n. unwrap_or n 0) c.owed_count-2.ensures) in
     passing_answered old c.args.new.now c.loop-at.new c.args.name own.0 own.1 (c.loop-at._at - c.unwrap_or-left.result) c.requires.lawful
     own.2
-    (omega (arith, counts.0, c.loop-at-test.true)) c.loop-at.invariant
+    (omega (arith, counts.0, c.loop-at-test.true)) c.loop-at.invariant.changes
 
 pub loop-at-preserved : goal.loop-at-preserved
 loop-at-preserved g c =
@@ -24,10 +24,14 @@ loop-at-preserved g c =
     (c.unwrap_or-left.ensures ∙ ap (λ n. unwrap_or n 0) c.owed_count-2.ensures) in
     let next : c.loop-at._at - c.unwrap_or-left.result + 1 ≡ c.loop-at._at + 1 - c.unwrap_or-left.result =
     omega (arith, c.loop-at.auto._at) in
-    subst (λ n. Changes c.args.new.now c.tell.new.new c.args.name.0 (passing old c.args.name.0 n)) next
-    (passing_next old c.args.new.now c.loop-at.new c.tell.new.new c.args.who c.args.name own.0 own.1
-    (c.loop-at._at - c.unwrap_or-left.result) c.requires.lawful own.2 (omega (arith, counts.0, c.loop-at-test.true)) c.loop-at.invariant
-    c.in_ok-tell.ensures.ok)
+    record {
+      changes =
+          subst (λ n. Changes c.args.new.now c.tell.new.new c.args.name.0 (passing old c.args.name.0 n)) next
+          (passing_next old c.args.new.now c.loop-at.new c.tell.new.new c.args.who c.args.name own.0 own.1
+          (c.loop-at._at - c.unwrap_or-left.result) c.requires.lawful own.2 (omega (arith, counts.0, c.loop-at-test.true)) c.loop-at.invariant.changes
+          c.in_ok-tell.ensures.ok);
+      whose = λ before. c.in_ok-tell.ensures.whose (c.loop-at.invariant.whose before);
+    }
 
 pub returns-clause-ok : goal.returns-clause-ok
 returns-clause-ok g c =
@@ -38,4 +42,4 @@ returns-clause-ok g c =
     (c.unwrap_or-left.ensures ∙ ap (λ n. unwrap_or n 0) c.owed_count-2.ensures) in
     let fewer = (port_stock old c.args.name.0 own.0 own.1 c.requires.lawful own.2.begun c.requires.opened).0 in
     passing_end old c.args.new.now c.loop-at.new c.args.name.0 own.0 own.1 (c.loop-at._at - c.unwrap_or-left.result) own.2 c.requires.port
-    (omega (arith, fewer, counts.0, counts.1, c.loop-at-test.false, c.loop-at.auto._at-end)) c.loop-at.invariant
+    (omega (arith, fewer, counts.0, counts.1, c.loop-at-test.false, c.loop-at.auto._at-end)) c.loop-at.invariant.changes

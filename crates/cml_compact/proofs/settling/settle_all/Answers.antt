@@ -13,13 +13,16 @@ returns-in_err-settle_one-clause-err g c =
     let p = err_from_is_err_and c.from_residual.result c.from_residual.ensures.1 in
     rw (p.1, p.2) (stops_more c.loop-name.new.limit c.args.new.now.limit
     (entries_in c.loop-name.new.history + (weight (settled h c.loop-name.name) - weight (stocked h c.loop-name.name))) _
-    c.in_err-settle_one.field-0.0 c.loop-name.invariant.limit
-    (half_more _ _ c.loop-name.name c.loop-name.new (stocked h) (settled h) c.loop-name.invariant
+    c.in_err-settle_one.field-0.0 c.loop-name.invariant.half.limit
+    (half_more _ _ c.loop-name.name c.loop-name.new (stocked h) (settled h) c.loop-name.invariant.half
     (omega (arith, c.loop-name-test.true, c.object_count-name-end.ensures)) (settled_more h))
     c.in_err-settle_one.ensures.err)
 
 pub loop-name-preserved : goal.loop-name-preserved
-loop-name-preserved g c =
-    halfway_next _ c.loop-name.new c.settle_one.new.new _ c.loop-name.name (stocked c.args.board.now.history)
-    (settled c.args.board.now.history) c.loop-name.invariant
-    (omega (arith, c.loop-name-test.true, c.object_count-name-end.ensures)) c.in_ok-settle_one.ensures.ok
+loop-name-preserved g c = record {
+  half =
+      halfway_next _ c.loop-name.new c.settle_one.new.new _ c.loop-name.name (stocked c.args.board.now.history)
+      (settled c.args.board.now.history) c.loop-name.invariant.half
+      (omega (arith, c.loop-name-test.true, c.object_count-name-end.ensures)) c.in_ok-settle_one.ensures.ok;
+  whose = λ before. c.in_ok-settle_one.ensures.whose (c.loop-name.invariant.whose before);
+}
