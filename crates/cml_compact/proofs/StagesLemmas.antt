@@ -2,12 +2,13 @@
 use Rattle.std.proofs.Common.{◌≡◌, ℕ, zero, suc, ◌+◌, ◌-◌, ◌<◌, ◌≤◌, inl, inr, List, length, Option, Some, None, refl, sym, ap, subst}
 use Rattle.std.proofs.Common.{◌∙◌, arith}
 use Rattle.std.proofs.lemmas.Bool.{cases_lt}
-use Rattle.cml_board.specs.{Entry, Origin, mailbox, channel, port, ivar, mvar, source_by, Lawful, made, origin_of, sent, entries_in}
+use Rattle.cml_board.specs.{Entry, Who, no_entries, Origin, mailbox, channel, port, ivar, mvar, source_by, Lawful, made, origin_of, sent}
+use Rattle.cml_board.specs.{entries_in}
 use Rattle.cml_board.specs.{facts_of}
 use Rattle.cml_board.specs.{ShowsTheSame}
 use Rattle.cml_board.specs.Facts.{Facts}
 use Rattle.cml_board.specs.Shown.{Shown}
-use Rattle.cml_compact.specs.{begun_anew, stock, stocked, settled, compact_size}
+use Rattle.cml_compact.specs.{AllBy, begun_anew, stock, stocked, settled, compact_size}
 use Rattle.cml_compact.specs.Stages.{weight, weights}
 use Rattle.cml_compact.specs.Stepping.{Halfway}
 use Rattle.cml_compact.proofs.ChannelsLemmas.{port_after}
@@ -99,3 +100,7 @@ module _ {M : Type 0} where
     limit = two.limit ∙ one.limit;
     reserved = two.reserved ∙ one.reserved;
   }
+
+  -- of no entries all are anybody's
+  pub all_by_none : (who : Who) (h : List (Entry M)) → h ≡ no_entries → AllBy who h
+  all_by_none who h none = subst (λ entries. AllBy who entries) (sym none) (λ k d within. absurd (omega arith))

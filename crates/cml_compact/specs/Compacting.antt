@@ -1,5 +1,5 @@
 -- What a compaction makes of a board.
-use Rattle.std.specs.Prelude.{ℕ, ◌≡◌, ◌<◌, List, [], ◌∷◌, length, ⊤}
+use Rattle.std.specs.Prelude.{ℕ, ◌≡◌, ◌<◌, List, All, length, ⊤}
 use Rattle.cml_board.specs.{Entry, Who, Lawful, Refusal, no_entries, entries_in, made}
 use Rattle.cml_board.specs.declared.outcome.Refusal.TheVariants.{JournalFull, NoMemory}
 use Rattle.cml_board.specs.Shown.{Shown}
@@ -15,8 +15,7 @@ Stops limit size refusal = ⊥
 module _ {M : Type 0} where
   -- all entries are of this seat, lane or feed
   abbrev pub AllBy : Who → List (Entry M) → Type 0
-  AllBy who [] = ⊤
-  AllBy who (entry ∷ before) = (entry.who ≡ who) × AllBy who before
+  AllBy who history = All (λ entry. entry.who ≡ who) history
 
   -- how many calls it makes: for each object one that makes it, one for each message that is sent again, one for each that a
   -- port passes over, and one that closes a port or fills a variable

@@ -1,8 +1,8 @@
 pub mod Leaving
 pub mod Stages
 pub mod Slowest
-pub mod Stepping
 pub mod Compacting
+pub mod Stepping
 -- the names that others import from here
 pub use Leaving.{FollowedAlike, LeavesTheSame, SameChannels, SameHeld, SameKinds, SameOpen, SameOwed}
 pub use Stages.{begun_anew, passed_over, settled, stock, stocked}

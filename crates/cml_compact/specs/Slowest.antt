@@ -1,4 +1,4 @@
--- Which object of a channel's is owed most.
+-- Which port of each channel is owed most.
 use Rattle.std.specs.Prelude.{ℕ, ◌≡◌, ◌<◌, List, length, slice_get, Some}
 use Rattle.cml_calls.specs.declared.kind.Kind.TheVariants.{Channel}
 use Rattle.cml_board.specs.{Entry, Name, made, kind_of, owed_to}
@@ -10,7 +10,7 @@ pub record AreNames (count : ℕ) (names : List Name) : Type 0 where
   pub each : (k : ℕ) → k < count → slice_get names k ≡ Some (record { 0 = k })
 
 module _ {M : Type 0} where
-  -- for each channel one that is owed as much as any of the first n objects
+  -- for each channel one that is owed the longest of the lists of the first n objects
   pub record AreSlowest (history : List (Entry M)) (n : ℕ) (found : List Name) : Type 0 where
     pub all : length found ≡ length (made history)
     pub each : (source : ℕ) (name : Name) → kind_of history source ≡ Some Channel → slice_get found source ≡ Some name

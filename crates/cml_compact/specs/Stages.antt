@@ -11,7 +11,7 @@ abbrev pub unplaced : Origin → Origin
 unplaced (port source start) = port source 0
 unplaced origin = origin
 
--- a call that closes the object, if it isn't open
+-- how many calls close an object: one if it isn't open
 abbrev pub closings : Bool → ℕ
 closings true = 0
 closings false = 1
@@ -21,22 +21,22 @@ module _ {M : Type 0} where
   abbrev pub longer : List M → List M → List M
   longer xs ys = if nat_lt (length xs) (length ys) then ys else xs
 
-  -- what an object is owed of the messages of this one
+  -- what an object is owed of the messages of this source
   abbrev pub owed_of : List (Entry M) → ℕ → ℕ → List M
   owed_of history source object = if reads history source object then owed history object else []
 
-  -- the longest list that one of the first n objects is owed of them
+  -- the longest of the lists that the first n objects are owed of them
   abbrev pub longest_of : List (Entry M) → ℕ → ℕ → List M
   longest_of history source zero = []
   longest_of history source (suc n) = longer (longest_of history source n) (owed_of history source n)
 
-  -- what is sent again: what waits in a mailbox, and of a channel's messages what the open port that is the last is owed
+  -- what is sent again: all that waits in a mailbox, and all that the slowest open port of a channel is owed
   abbrev pub stock : List (Entry M) → ℕ → List M
   stock history name =
       if is_a is_mailbox history name then owed history name
       else if is_a is_channel history name then longest_of history name (length (made history)) else []
 
-  -- what an open port receives of that, until it is owed just what it was
+  -- what an open port receives of that, until it is owed what it was
   abbrev pub passed_over : List (Entry M) → ℕ → List M
   passed_over history name =
       let stream = stock history (source_by name (origin_of history name)) in
@@ -47,7 +47,7 @@ module _ {M : Type 0} where
   begun_anew history name =
       record { origin = option_map unplaced (origin_of history name); opened = true; sent = []; got = []; held = None }
 
-  -- what is sent again was sent
+  -- and what is sent again was sent
   abbrev pub stocked : List (Entry M) → ℕ → Facts M
   stocked history name = record (begun_anew history name) { sent = stock history name }
 
@@ -61,16 +61,16 @@ module _ {M : Type 0} where
     held = if is_a is_variable history name then held history name else None;
   }
 
-  -- a call that fills the variable, if it holds something
+  -- how many calls fill a variable: one if it holds something
   abbrev pub fillings : Option M → ℕ
   fillings None = 0
   fillings (Some message) = 1
 
-  -- how many calls bring an object there that was just made
+  -- how many calls give an object these facts once it is made
   abbrev pub weight : Facts M → ℕ
   weight facts = length facts.sent + length facts.got + closings facts.opened + fillings facts.held
 
-  -- how many make the first n objects and bring each there
+  -- how many make the first n objects and give them these facts
   abbrev pub weights : (ℕ → Facts M) → ℕ → ℕ
   weights facts zero = 0
   weights facts (suc n) = weights facts n + (1 + weight (facts n))

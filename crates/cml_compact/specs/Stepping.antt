@@ -1,23 +1,24 @@
 -- How the calls of a compaction change the board that it makes.
-use Rattle.std.specs.Prelude.{ℕ, ◌≡◌, ◌≢◌, ◌+◌, ◌<◌, ◌≤◌, length, Option, Some, None}
+use Rattle.std.specs.Prelude.{ℕ, ◌≡◌, ◌≢◌, ◌+◌, ◌-◌, ◌<◌, ◌≤◌, length, Option, Some, None}
 use Rattle.cml_calls.specs.{Give, Kind}
 use Rattle.cml_calls.specs.declared.table.Give.TheVariants as give
 use Rattle.cml_calls.specs.declared.kind.Kind.TheVariants as kind
-use Rattle.cml_board.specs.{Call, Who, Reply, Origin, mailbox, channel, port, ivar, mvar, Lawful, answer, no_entries, entries_in}
+use Rattle.cml_board.specs.{Call, Refusal, Who, Reply, Origin, mailbox, channel, port, ivar, mvar, Lawful, answer, no_entries, entries_in}
 use Rattle.cml_board.specs.{made, facts_of}
 use Rattle.cml_board.specs.declared.call.Call.TheVariants.{NewMailbox, NewChannel, NewPort, NewIVar, NewMVar}
 use Rattle.cml_board.specs.History.{with_entry}
 use Rattle.cml_board.specs.Facts.{Facts}
 use Rattle.cml_board.specs.Shown.{Shown}
 use Rattle.cml_compact.specs.Stages.{weight, weights}
+use Rattle.cml_compact.specs.Compacting.{Stops}
 
--- what a message is so sent to
+-- the kind of object that takes a message so given
 abbrev pub kind_given : Give → Kind
 kind_given give.Cast = kind.Channel
 kind_given other = kind.Mailbox
 
 module _ {M : Type 0} where
-  -- the call that makes such an object, and a port at its channel's end
+  -- the call that makes such an object; a port begins at its channel's end
   abbrev pub maker_of : Origin → Call M
   maker_of mailbox = NewMailbox
   maker_of channel = NewChannel
@@ -38,7 +39,7 @@ module _ {M : Type 0} where
     pub limit : new.limit ≡ old.limit
     pub lawful : Lawful new.history
 
-  -- a new board, on which just the first n objects were made, and their facts
+  -- a new board with this limit, on which just the first n objects were made, with these facts
   pub record Reaches (most : ℕ) (board : Shown M) (n : ℕ) (facts : ℕ → Facts M) : Type 0 where
     pub begins : board.past ≡ no_entries
     pub limit : board.limit ≡ most
@@ -47,7 +48,7 @@ module _ {M : Type 0} where
     pub entries : entries_in board.history ≡ weights (facts_of board.history) n
     pub each : (name : ℕ) → name < n → facts_of board.history name ≡ facts name
 
-  -- one on which the first n of all objects have the new facts, and the others still the old ones
+  -- one on which all objects were made: the first n have the new facts, and the others still the old ones
   pub record Halfway (most : ℕ) (board : Shown M) (all n : ℕ) (from to : ℕ → Facts M) : Type 0 where
     pub begins : board.past ≡ no_entries
     pub limit : board.limit ≡ most
@@ -66,3 +67,7 @@ module _ {M : Type 0} where
     pub entries : entries_in new.history + weight (facts_of old.history name) ≡ entries_in old.history + weight facts
     pub here : facts_of new.history name ≡ facts
     pub others : (other : ℕ) → other ≢ name → facts_of new.history other ≡ facts_of old.history other
+
+  -- why it stops before an object with these facts has those: the limit is less than the entries would then be, or for want of memory
+  abbrev pub StopsBefore : Shown M → Facts M → Facts M → Refusal → Type 0
+  StopsBefore board now then refusal = Stops board.limit (entries_in board.history + (weight then - weight now)) refusal

@@ -1,9 +1,9 @@
 //! The third stage: each object leaves what it left before.
-ghost use Rattle.std.specs.Prelude.{◌≡◌, ◌<◌, ◌+◌, ◌-◌, true, false, length, OnOk, IfErr};
+ghost use Rattle.std.specs.Prelude.{◌≡◌, ◌<◌, true, false, length, OnOk, IfErr};
 ghost use Rattle.cml_calls.specs.{is_port};
-ghost use Rattle.cml_board.specs.{Lawful, made, origin_of, source_by, is_a, is_open, sent, owed, no_entries, entries_in, facts_of};
-ghost use Rattle.cml_compact.specs.Stages.{weight, weights, stock};
-ghost use Rattle.cml_compact.specs.Stepping.{Reaches, Halfway, Changes};
+ghost use Rattle.cml_board.specs.{Lawful, made, origin_of, source_by, is_a, is_open, sent, owed, no_entries, facts_of};
+ghost use Rattle.cml_compact.specs.Stages.{weights, stock};
+ghost use Rattle.cml_compact.specs.Stepping.{Reaches, Halfway, Changes, StopsBefore};
 ghost use Rattle.cml_compact.specs.{AllBy, Stops, stocked, settled};
 
 use crate::telling::tell;
@@ -43,8 +43,7 @@ fn settle_one<M: Message, L: MessageLog<M>>(
     requires half { Halfway new.old.limit new.old (length (made board.now.history)) name.0
         (stocked board.now.history) (settled board.now.history) }
     ensures ok { OnOk result (Changes new.old new.new name.0 (settled board.now.history name.0)) }
-    ensures err { IfErr result (Stops new.old.limit (entries_in new.old.history
-        + (weight (settled board.now.history name.0) - weight (stocked board.now.history name.0)))) }
+    ensures err { IfErr result (StopsBefore new.old (stocked board.now.history name.0) (settled board.now.history name.0)) }
     ensures whose { AllBy who new.old.history → AllBy who new.new.history }
 {
     match board.is_open(name) {
@@ -70,8 +69,7 @@ fn pass_over<M: Message, L: MessageLog<M>>(
     requires sends { sent new.old.history (source_by name.0 (origin_of board.now.history name.0))
         ≡ stock board.now.history (source_by name.0 (origin_of board.now.history name.0)) }
     ensures ok { OnOk result (Changes new.old new.new name.0 (settled board.now.history name.0)) }
-    ensures err { IfErr result (Stops new.old.limit (entries_in new.old.history
-        + (weight (settled board.now.history name.0) - weight (stocked board.now.history name.0)))) }
+    ensures err { IfErr result (StopsBefore new.old (stocked board.now.history name.0) (settled board.now.history name.0)) }
     ensures whose { AllBy who new.old.history → AllBy who new.new.history }
 {
     let more = new.owed_count(name).unwrap_or(0);
@@ -95,8 +93,7 @@ fn close<M: Message, L: MessageLog<M>>(
     requires closed { is_open board.now.history name.0 ≡ false }
     requires stocked { facts_of new.old.history name.0 ≡ stocked board.now.history name.0 }
     ensures ok { OnOk result (Changes new.old new.new name.0 (settled board.now.history name.0)) }
-    ensures err { IfErr result (Stops new.old.limit (entries_in new.old.history
-        + (weight (settled board.now.history name.0) - weight (stocked board.now.history name.0)))) }
+    ensures err { IfErr result (StopsBefore new.old (stocked board.now.history name.0) (settled board.now.history name.0)) }
     ensures whose { AllBy who new.old.history → AllBy who new.new.history }
 {
     tell(new, who, Call::ClosePort(name))
@@ -116,8 +113,7 @@ fn fill<M: Message, L: MessageLog<M>>(
     requires port { is_a is_port board.now.history name.0 ≡ false }
     requires stocked { facts_of new.old.history name.0 ≡ stocked board.now.history name.0 }
     ensures ok { OnOk result (Changes new.old new.new name.0 (settled board.now.history name.0)) }
-    ensures err { IfErr result (Stops new.old.limit (entries_in new.old.history
-        + (weight (settled board.now.history name.0) - weight (stocked board.now.history name.0)))) }
+    ensures err { IfErr result (StopsBefore new.old (stocked board.now.history name.0) (settled board.now.history name.0)) }
     ensures whose { AllBy who new.old.history → AllBy who new.new.history }
 {
     let Some(held) = board.held(name) else {

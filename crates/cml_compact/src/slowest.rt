@@ -1,4 +1,4 @@
-//! Which open port of each channel is the last.
+//! Which open port of each channel is owed most.
 ghost use Rattle.std.specs.Prelude.{◌≡◌, ◌<◌, ◌+◌, length, IfOk};
 ghost use Rattle.cml_board.specs.{Lawful, owed_to, made};
 ghost use Rattle.cml_compact.specs.Slowest.{AreNames, AreSlowest};

@@ -5,7 +5,7 @@ use Rattle.cml_compact.specs.{begun_anew, stocked, settled}
 use Rattle.cml_compact.specs.Stages.{weights}
 use Rattle.cml_compact.specs.Stepping.{Reaches}
 use Rattle.cml_compact.proofs.AnewLemmas.{stops_more}
-use Rattle.cml_compact.proofs.StagesLemmas.{begun_less, stocked_less}
+use Rattle.cml_compact.proofs.StagesLemmas.{begun_less, stocked_less, all_by_none}
 use Rattle.cml_compact.proofs.SettlingLemmas.{compacts_told}
 use Rattle.cml_compact.proofs.compacting.compact.Goals as goal
 
@@ -28,3 +28,8 @@ returns-clause-ok g c =
     compacts_told c.args.board.now c.send_all.new.new.limit c.settle_all.new.new c.facts.ensures.sound.lawful
     (subst (λ h. Reaches c.send_all.new.new.limit c.settle_all.new.new (length (made h)) (settled h)) c.send_all.ensures.same.history
     c.in_ok-settle_all.ensures.ok)
+
+pub returns-clause-whose : goal.returns-clause-whose
+returns-clause-whose g c =
+    c.settle_all.ensures.whose
+    (c.send_all.ensures.whose (c.make_all.ensures.whose (all_by_none c.args.who c.in-Ok-new.new.history c.in-Ok-new.ensures.history)))

@@ -8,7 +8,8 @@ pub loop-message-preserved : goal.loop-message-preserved
 loop-message-preserved g c = record {
   changes =
       changes_put c.args.new.now c.loop-message.new c.tell.new.new c.args.who c.args.give c.args.name c.in-Some.message
-      (record (facts_of c.args.new.now.history c.args.name.0) { sent = c.loop-message.yielded }) c.requires.adds c.loop-message.invariant.changes
+      (record (facts_of c.args.new.now.history c.args.name.0) { sent = c.loop-message.yielded }) c.requires.adds
+      c.loop-message.invariant.changes
       (subst (λ call. Tells c.loop-message.new c.tell.new.new c.args.who call) c.give.ensures c.in_ok-tell.ensures.ok);
   whose = λ before. c.in_ok-tell.ensures.whose (c.loop-message.invariant.whose before);
 }

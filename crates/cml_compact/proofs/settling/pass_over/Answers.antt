@@ -28,7 +28,8 @@ loop-at-preserved g c =
       changes =
           subst (λ n. Changes c.args.new.now c.tell.new.new c.args.name.0 (passing old c.args.name.0 n)) next
           (passing_next old c.args.new.now c.loop-at.new c.tell.new.new c.args.who c.args.name own.0 own.1
-          (c.loop-at._at - c.unwrap_or-left.result) c.requires.lawful own.2 (omega (arith, counts.0, c.loop-at-test.true)) c.loop-at.invariant.changes
+          (c.loop-at._at - c.unwrap_or-left.result) c.requires.lawful own.2 (omega (arith, counts.0, c.loop-at-test.true))
+          c.loop-at.invariant.changes
           c.in_ok-tell.ensures.ok);
       whose = λ before. c.in_ok-tell.ensures.whose (c.loop-at.invariant.whose before);
     }
