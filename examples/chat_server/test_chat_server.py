@@ -104,10 +104,15 @@ class ChatServer(Cases):
             self.fail(self.server.said() + self.server.errors())
 
     def crash(self):
-        """A case: the server is killed, and has said nothing on standard error."""
+        """A case: the server is killed, and has said on standard error how far it had read alone."""
         self.server.kill()
-        with self.case("a server says nothing on standard error"):
-            self.assertEqual(self.server.errors(), "")
+        with self.case("a server says nothing else on standard error"):
+            self.assertEqual(self.complaints(), "")
+
+    def complaints(self):
+        """What the server said on standard error, apart from how much of a file it had read."""
+        said = rf"(?m)^chat_server: {re.escape(str(self.journal))}: \d+ of \d+ kB are read\n"
+        return re.sub(said, "", self.server.errors())
 
     def loads(self, word):
         """Runs clients, each of whose lines `passed` and `failed` is a case."""
@@ -153,11 +158,14 @@ class ChatServer(Cases):
         with self.case(f"{name}: its error"):
             self.assertEqual(ended.errors()[: len(error)], error)
 
-    def no_journal(self, name, text):
-        """A case: a file that is no journal of a chat server is refused, and stays as it was."""
+    def no_journal(self, name, text, why=""):
+        """A case: a file that is no journal of a chat server is refused, and stays as it was.
+
+        The reason begins so.
+        """
         other = self.work / "other"
         other.write_text(text)
-        error = f"chat_server: {other} is no journal of a chat server: "
+        error = f"chat_server: {other} is no journal of a chat server: {why}"
         self.refuses(name, 5, error, "--listen", "127.0.0.1:0", "--journal", other)
         with self.case(f"{name}: the file stays"):
             self.assertEqual(other.read_text(), text)
@@ -226,14 +234,21 @@ class ChatServer(Cases):
         )
         in_use = f"chat_server: {self.journal}: another server has the file"
         self.refuses("a file in use", 6, in_use, *anywhere, "--journal", self.journal)
-        self.no_journal("a text", "Shopping\nmilk\n")
+        missing = "line 1 has `Shopping`, and `journal 2` was expected there"
+        self.no_journal("a text", "Shopping\nmilk\n", missing)
         self.no_journal("a text of one line without its end", "milk")
-        self.no_journal("a journal of numbers", "journal 1\nseat 0 mailbox: made 0\nend 1\n")
+        numbers = "journal 1\nseat 0 mailbox: made 0\nend 1\n"
+        self.no_journal("a journal of numbers", numbers, "line 1 is `journal 1`: its messages are")
+        later = "line 1 is `journal 9`: this server reads version 2"
+        self.no_journal("a journal of a later version", "journal 9\nend 0\n", later)
         self.no_journal(
             "a journal of another program", "journal 2\nseat 0 mailbox: made 0\nend 1\n"
         )
         begun = "journal 2\nseat 0 mvar =chat%201: made 0\n"
-        self.no_journal("an unlawful journal", f"{begun}seat 0 recv 0: =a\nend 2\n")
+        unlawful = "line 3 has `seat 0 recv 0: =a`, which no switchboard answers behind the 1 entries"
+        self.no_journal("an unlawful journal", f"{begun}seat 0 recv 0: =a\nend 2\n", unlawful)
+        damaged = "line 3 has `seat O put 0 =a: done`, and an entry, as"
+        self.no_journal("a damaged journal", f"{begun}seat O put 0 =a: done\nend 2\n", damaged)
         self.no_journal(
             "a journal with a record of nothing", f"{begun}seat 0 mvar =room%20a: made 1\nend 2\n"
         )
@@ -314,7 +329,7 @@ class ChatServer(Cases):
         with self.case("a client of a server that ends"):
             self.assertEqual(client.ends(), 0, client.said() + client.errors())
         with self.case("a server ends"):
-            self.assertEqual((self.server.ends(), self.server.errors()), (0, ""))
+            self.assertEqual((self.server.ends(), self.complaints()), (0, ""))
         self.lawful("of a server that ended well")
 
     def test_fast(self):

@@ -1,9 +1,11 @@
 //! The file that keeps the journal.
 
+use crate::damage;
 use crate::failure::Failure;
+use crate::progress::Progress;
 use seryugo::{CheckError, Kept, RestoreError, Switchboard};
 use std::fs::{self, OpenOptions, TryLockError};
-use std::io::{self, BufReader, Read, Seek, SeekFrom, Write};
+use std::io::{self, BufRead, Read, Seek, SeekFrom, Write};
 use std::path::{Path, PathBuf};
 
 /// How a journal of bytes begins.
@@ -35,8 +37,9 @@ impl JournalFile {
             Err(TryLockError::WouldBlock) => return Err(Failure::InUse(path.to_owned())),
             Err(TryLockError::Error(error)) => return Err(fail(error)),
         }
-        let (board, kept) = Switchboard::restore_torn(BufReader::with_capacity(1 << 16, &file), limit)
-            .map_err(|error| failure(path, error))?;
+        let length = file.metadata().map_err(fail)?.len();
+        let (board, kept) = Switchboard::restore_torn(Progress::new(&file, path, length), limit)
+            .map_err(|error| failure(path, &file, error))?;
         let file = JournalFile {
             path: path.to_owned(),
             file,
@@ -76,9 +79,10 @@ impl JournalFile {
 
 impl Opened {
     /// Hands over the part of the text that has whole lines.
-    pub fn text(&self) -> io::Result<impl Read + '_> {
+    pub fn text(&self) -> io::Result<impl BufRead + '_> {
         (&self.file.file).seek(SeekFrom::Start(0))?;
-        Ok((&self.file.file).take(self.kept.bytes))
+        let text = (&self.file.file).take(self.kept.bytes);
+        Ok(Progress::new(text, &self.file.path, self.kept.bytes))
     }
 
     /// Cuts off what a killed server left of a line, and ends the last piece.
@@ -101,10 +105,15 @@ fn sync_folder(path: &Path) -> io::Result<()> {
     }
 }
 
-fn failure(path: &Path, error: RestoreError) -> Failure {
+/// Why no switchboard was made of the file.
+fn failure(path: &Path, mut file: &fs::File, error: RestoreError) -> Failure {
     match error {
         RestoreError::Check(CheckError::Io(error)) => Failure::File(path.to_owned(), error),
         RestoreError::Check(CheckError::NoMemory) => Failure::Library(seryugo::Error::NoMemory),
+        RestoreError::Check(error) => {
+            let why = file.seek(SeekFrom::Start(0)).and_then(|_| damage::told(file, &error));
+            Failure::NoJournal(path.to_owned(), why.unwrap_or_else(|_| error.to_string()))
+        }
         other => Failure::NoJournal(path.to_owned(), other.to_string()),
     }
 }

@@ -6,6 +6,7 @@
 
 mod arguments;
 mod connection;
+mod damage;
 mod directory;
 mod failure;
 mod history;
@@ -15,6 +16,7 @@ mod keeper;
 mod lines;
 mod messages;
 mod outbox;
+mod progress;
 mod protocol;
 mod publisher;
 mod recovery;
@@ -36,7 +38,7 @@ use seats::Seats;
 use server::Server;
 use seryugo::Port;
 use std::ffi::OsString;
-use std::io::{self, BufReader, Write};
+use std::io::{self, Write};
 use std::net::{TcpListener, TcpStream};
 use std::process::ExitCode;
 use std::sync::atomic::{AtomicBool, Ordering};
@@ -103,7 +105,7 @@ fn serve(arguments: &Arguments) -> Result<(), Failure> {
 }
 
 fn note_all(history: &History, opened: &Opened) -> io::Result<()> {
-    history.note(0, BufReader::with_capacity(1 << 16, opened.text()?)).map(drop)
+    history.note(0, opened.text()?).map(drop)
 }
 
 /// Starts the threads, and waits until the server is to end. If the file can't be written, or a call of the library fails that
