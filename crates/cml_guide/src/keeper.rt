@@ -41,11 +41,8 @@ impl Keeper {
         if at.saturating_sub(self.entries()) < PIECE {
             return Ok(());
         }
-        match board.take_journal(rt) {
-            Ok(piece) => self.keep(piece),
-            // A lane is open. There is a next time.
-            Err(_) => Ok(()),
-        }
+        // Clients may have lanes open.
+        self.keep(board.take_journal_open(rt))
     }
 
     fn keep(&mut self, piece: Vec<Entry<u64>>) -> Result<(), Trouble> {
