@@ -24,5 +24,6 @@ within 'ten million messages through each log' 40000 0 10000000 log8
 within 'a journal that is cut' 40000 0 10000000 soak1
 within 'journals that grow' 40000 1 1000000
 within 'a journal that a thread takes' 200000 0 2000000 soak2
+within 'a journal that is cut while lanes and feeds are open' 200000 0 2000000 soak_lanes
 within 'journals that grow beside threads' 200000 1 2000000
 count

@@ -22,6 +22,9 @@ const WINDOW: u64 = 1_000;
 /// After how many windows the journal is taken. Each adds at least two entries a message.
 const WINDOWS: u64 = 50;
 
+/// After how many entries of lanes and feeds the journal is cut while they are open.
+const PIECE: u64 = 100_000;
+
 /// How many messages are multicast before each feed is pumped.
 const BATCH: u64 = 256;
 
@@ -45,6 +48,13 @@ enum By<S, M: Numbered> {
 }
 
 type Job<M, Led> = (By<Seat<Led>, M>, Part);
+
+/// The lanes that are drained, or the feeds that are pumped: those of the numbers below this one.
+#[derive(Clone, Copy)]
+enum Rings {
+    Lanes(u64),
+    Feeds(u64),
+}
 
 /// A thread's seat, what it does, and a sum over what it received.
 #[derive(Drop)]
@@ -215,8 +225,11 @@ impl<M: Numbered, Led: Ledger, R: Runtime> Seated<'_, M, Led, R> {
             Role::Maker => make_objects(run.workload.3, self),
             Role::Pacer => self.perform_windows(Verb::Ask(Ask::Recv)),
             Role::Cutter => self.perform_windows(Verb::Give(Give::Send)),
-            Role::Drainer(lanes) => self.move_all(lanes, part.end),
-            Role::Pumper(feeds) => self.move_all(feeds, part.end.saturating_mul(feeds)),
+            Role::Drainer(lanes) => self.move_all(Rings::Lanes(lanes), part.end),
+            Role::Pumper(feeds) => {
+                self.move_all(Rings::Feeds(feeds), part.end.saturating_mul(feeds))
+            }
+            Role::Soaker(lanes, feeds) => self.soak(lanes, feeds),
             _ => part.perform(self, part.start, part.end),
         }
     }
@@ -237,7 +250,7 @@ impl<M: Numbered, Led: Ledger, R: Runtime> Seated<'_, M, Led, R> {
     }
 
     /// Drains the lanes and receives what came, or multicasts a batch and pumps the feeds, until so many messages have moved.
-    fn move_all(&mut self, rings: u64, all: u64) -> Done {
+    fn move_all(&mut self, rings: Rings, all: u64) -> Done {
         let (part, mut next, mut moved) = (self.part, 0u64, 0u64);
         for _ in self.hall.run.rt.forever() {
             let end = match part.role {
@@ -254,13 +267,39 @@ impl<M: Numbered, Led: Ledger, R: Runtime> Seated<'_, M, Led, R> {
         Some(())
     }
 
+    /// Drains the lanes once each feed's port has received all that came before, until all messages went through. Cuts the
+    /// journal again and again, while the lanes and feeds are open. So the channel keeps few messages, and the journal few entries.
+    fn soak(&mut self, lanes: u64, feeds: u64) -> Done {
+        let (hall, mut left, mut owed, mut entries) = (self.hall, self.part.end, 0u64, 0u64);
+        for _ in hall.run.rt.forever() {
+            if left == 0 && owed == 0 {
+                break;
+            }
+            if owed == 0 {
+                let sent = self.move_each(Rings::Lanes(lanes));
+                left = left.saturating_sub(sent);
+                owed = sent.saturating_mul(feeds);
+                entries = entries.saturating_add(sent);
+            }
+            let received = self.move_each(Rings::Feeds(feeds));
+            owed = owed.saturating_sub(received);
+            entries = entries.saturating_add(received);
+            if entries >= PIECE {
+                hall.board.cut_open(hall.run.rt);
+                entries = 0;
+            }
+        }
+        Some(())
+    }
+
     /// Drains each lane or pumps each feed once, and returns how many messages moved. If none did, it lets the others work.
-    fn move_each(&self, rings: u64) -> u64 {
+    fn move_each(&self, rings: Rings) -> u64 {
         let (rt, board, mut sum) = (self.hall.run.rt, &self.hall.board, 0u64);
-        for ring in 0..rings {
-            let moved = match self.part.role {
-                Role::Drainer(_) => board.drain(rt, ring),
-                _ => board.pump(rt, ring),
+        let (Rings::Lanes(count) | Rings::Feeds(count)) = rings;
+        for ring in 0..count {
+            let moved = match rings {
+                Rings::Lanes(_) => board.drain(rt, ring),
+                Rings::Feeds(_) => board.pump(rt, ring),
             };
             sum = sum.saturating_add(moved.unwrap_or(0) as u64);
         }

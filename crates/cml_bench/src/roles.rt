@@ -44,6 +44,8 @@ pub enum Role {
     FeedReader,
     /// Multicasts, and pumps this many feeds.
     Pumper(u64),
+    /// Drains so many lanes onto a channel, pumps so many feeds from it, and cuts the journal while all are open.
+    Soaker(u64, u64),
 }
 
 /// A call that makes an object, or one on an object.

@@ -2,7 +2,7 @@
 use crate::roles::Crews;
 use crate::roles::Role::{
     CastTo, Caster, Client, Collector, Cutter, Drainer, FeedReader, Filler, Getter, Holder, Pacer,
-    Pair, Passer, Pumper, Putter, Reader, Sender, Taker, Worker,
+    Pair, Passer, Pumper, Putter, Reader, Sender, Soaker, Taker, Worker,
 };
 use Ground::{Board, Chunks, CutBoard, Deque, Hall, Journal, Lane};
 use Messages::{Bytes, LongTexts, Numbers, One, Texts};
@@ -46,6 +46,8 @@ const PIPE: Crews = &[(1, Getter), (1, Sender)];
 
 const LANES: Crews = &[(1, Drainer(4)), (4, Filler)];
 
+const SOAKED: Crews = &[(2, FeedReader), (1, Soaker(4, 2)), (4, Filler)];
+
 pub const WORKLOADS: &[Workload] = &[
     Workload("pairs1", Board, Numbers, &[(1, Pair)]),
     Workload("burst1", Board, Numbers, &[(1, Sender), (1, Getter)]),
@@ -75,6 +77,7 @@ pub const WORKLOADS: &[Workload] = &[
     Workload("feed8", Hall, Numbers, &[(8, FeedReader), (1, Pumper(8))]),
     Workload("var2", Hall, Numbers, &[(1, Taker), (1, Putter)]),
     Workload("soak2", Hall, Numbers, &[(1, Pacer), (1, Cutter)]),
+    Workload("soak_lanes", Hall, Numbers, SOAKED),
     Workload("token8", Hall, Numbers, &[(8, Passer)]),
     Workload("token63", Hall, Numbers, &[(63, Passer)]),
     Workload("server32", Hall, Numbers, &[(8, Worker), (32, Client)]),
