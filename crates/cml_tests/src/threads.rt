@@ -34,6 +34,7 @@ const SCENES: &[(u64, Scene, &str)] = &[
     (MANY, Scene::Alone(forms::STEPS), forms::TOLD),
     (2, Scene::Alone(refusing::STEPS), refusing::TOLD),
     (2, Scene::Alone(cutting::STEPS), cutting::TOLD),
+    (2, Scene::Alone(cutting::OPEN), cutting::TOLD_OPEN),
     (
         MANY,
         Scene::InTurn(settling::SENDS, settling::POLLS),

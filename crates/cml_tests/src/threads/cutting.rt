@@ -1,10 +1,12 @@
 //! Cuts of a switchboard's journal. They fail while a lane is open, and else drop or return the entries. What waits is
-//! received after a cut, and there is room for as many entries again.
+//! received after a cut, and there is room for as many entries again. Open cuts are made while a lane or a feed is open.
 use super::forms::Form;
 use super::steps::Step;
 use cml_board::Name;
 
 const MAILBOX: Name = Name(0);
+
+const CHANNEL: Name = Name(1);
 
 /// The mailbox and one message: then the journal is full.
 pub const STEPS: &[Step] = &[
@@ -35,4 +37,51 @@ Ok(2)
 Ok(Got(6))
 Count { seats: 5, rings: 0, total: 5 }
 (Seat(0), Recv(Name(0)), Got(6))
+";
+
+/// A lane, and then a feed, with a full journal that only open cuts make room in.
+pub const OPEN: &[Step] = &[
+    Step::Form(Form::Mailbox),
+    Step::OpenLane(MAILBOX),
+    Step::Push(5),
+    Step::Form(Form::Send(MAILBOX, 4)),
+    Step::Cut,
+    Step::CutOpen,
+    Step::CloseLane,
+    Step::Form(Form::MChannel),
+    Step::TakeJournal,
+    Step::OpenFeed(CHANNEL),
+    Step::Form(Form::Multicast(CHANNEL, 6)),
+    Step::TakeJournal,
+    Step::TakeJournalOpen,
+    Step::Pump,
+    Step::Form(Form::Recv(MAILBOX)),
+    Step::TakeJournalOpen,
+    Step::Pop,
+    Step::EndFeed,
+    Step::Form(Form::Recv(MAILBOX)),
+];
+
+/// The result of each step. The counts are of all nine entries, and the journal has the last alone.
+pub const TOLD_OPEN: &str = "Ok(Made(Name(0)))
+0
+Ok(())
+Ok(Done)
+Err(Busy)
+()
+Ok(())
+Ok(Made(Name(1)))
+Ok(2)
+(0, Name(2))
+Ok(Done)
+Err(Busy)
+2
+Ok(1)
+Ok(Got(4))
+2
+Some(6)
+Ok(true)
+Ok(Got(5))
+Count { seats: 6, rings: 3, total: 9 }
+(Seat(0), Recv(Name(0)), Got(5))
 ";

@@ -24,6 +24,9 @@ pub enum Step {
     Cut,
     /// A cut that hands the journal over: how many entries.
     TakeJournal,
+    /// The same two while the lane or the feed is open.
+    CutOpen,
+    TakeJournalOpen,
     OpenLane(Name),
     Push(u64),
     /// The lane is closed by its end.
@@ -76,6 +79,8 @@ impl<Led: Ledger, R: Wait> Hands<'_, Led, R> {
             Step::Reserve(entries) => tell(text, &self.board.reserve(self.rt, entries)),
             Step::Cut => tell(text, &self.board.cut(self.rt)),
             Step::TakeJournal => tell(text, &journal_taken(self.rt, self.board)),
+            Step::CutOpen => self.cut_open(text),
+            Step::TakeJournalOpen => self.take_journal_open(text),
             Step::OpenLane(target) => self.open_lane(text, target),
             Step::Push(message) => self.push(text, message),
             Step::CloseLane => self.close_lane(text),
@@ -89,6 +94,15 @@ impl<Led: Ledger, R: Wait> Hands<'_, Led, R> {
 
     fn call(&mut self, text: &mut String, call: Call<u64>) {
         tell(text, &self.board.call(self.rt, &mut self.seat, call));
+    }
+
+    fn cut_open(&self, text: &mut String) {
+        self.board.cut_open(self.rt);
+        tell(text, &());
+    }
+
+    fn take_journal_open(&self, text: &mut String) {
+        tell(text, &self.board.take_journal_open(self.rt).len());
     }
 
     fn open_lane(&mut self, text: &mut String, target: Name) {
