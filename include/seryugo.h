@@ -76,7 +76,9 @@ enum seryugo_code {
     /* The text of a journal has a fault, or begins behind a cut. */
     SERYUGO_FAULT = 18,
     /* The text of a journal ends before its last piece does. */
-    SERYUGO_TORN = 19
+    SERYUGO_TORN = 19,
+    /* A line of a journal's text would have more than 1,114,112 bytes, which no reading takes. */
+    SERYUGO_TOO_LONG = 20
 };
 
 /* A handle to a room, a lane, a feed, a checker, a reading or a journal that was taken. A call that opens it writes it, and
@@ -527,10 +529,9 @@ uint32_t seryugo_bytes_taken_entry(struct seryugo *journal, uint64_t place, stru
  * outlive the journal and the room.
  *
  * The call writes nothing if it returns one of these. SERYUGO_NO_MEMORY: there is no memory for the text, or it would have more
- * than 2^32 - 1 bytes. SERYUGO_OUT_OF_BOUNDS: the position behind the last entry would be 2^64 or more.
- *
- * A line of more than 1,114,112 bytes is written, but no reading takes it. In a message, each byte outside 0x21 to 0x7E, and each
- * `%`, takes three bytes of the line.
+ * than 2^32 - 1 bytes. SERYUGO_OUT_OF_BOUNDS: the position behind the last entry would be 2^64 or more. SERYUGO_TOO_LONG: a line
+ * would have more than 1,114,112 bytes, which no reading takes. In a message, each byte outside 0x21 to 0x7E, and each `%`, takes
+ * three bytes of the line. So a server that keeps its journal sends no message of more than 371,000 bytes.
  */
 uint32_t seryugo_journal_text(struct seryugo *journal, uint64_t from, struct seryugo_bytes *text);
 

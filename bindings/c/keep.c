@@ -408,7 +408,7 @@ static void try_bytes(void)
     close_one(&has_room, room);
 }
 
-/* A message whose line would be too long is written, and no reading takes it. */
+/* No reading would take the line of this message, so it isn't written. */
 static void try_too_long_a_line(void)
 {
     memset(many, 0xFF, sizeof many);
@@ -418,13 +418,11 @@ static void try_too_long_a_line(void)
     RETURNS(DONE, seryugo_new_seat(&room, &(uint64_t){ 0 }));
     RETURNS(DONE, seryugo_new_mailbox(&room, 0, &(uint64_t){ 0 }));
     SEND(many, sizeof many);
-    append();
+    RETURNS(DONE, seryugo_take_journal(&room, &journal, &(uint64_t){ 0 }));
+    has_journal = true;
+    RETURNS(TOO_LONG, seryugo_journal_text(&journal, 0, &text));
+    close_one(&has_journal, journal);
     close_one(&has_room, room);
-    RETURNS(DONE, seryugo_bytes_reading_open(&reading));
-    has_reading = true;
-    RETURNS(FAULT, take_parts(kept, 10000));
-    COUNTS(1, 2);
-    close_one(&has_reading, reading);
 }
 
 int main(void)

@@ -115,7 +115,14 @@ class Torn(SeryugoError):
     words = "the journal's text ends before the end of its last piece"
 
 
-_KINDS = (Closed, Gone, Busy, NoSuch, WrongKind, JournalFull, Stalled, NoMemory, OutOfBounds)
+class TooLong(SeryugoError):
+    """A journal isn't written as text, since no reader would take the line of a message."""
+
+    code = 20
+    words = "a message of the journal is so long that no reader would take its line"
+
+
+_KINDS = (Closed, Gone, Busy, NoSuch, WrongKind, JournalFull, Stalled, NoMemory, OutOfBounds, TooLong)
 
 _BY_CODE: Dict[int, Type[SeryugoError]] = {kind.code: kind for kind in _KINDS}
 

@@ -118,7 +118,8 @@ class Journal:
         """Return the entries as text: one piece of a journal, which `cml check` reads.
 
         The texts of all journals that were taken, one behind the other, are the switchboard's
-        history. `Switchboard.restore` goes on from it.
+        history. `Switchboard.restore` goes on from it. Fails with `TooLong` if a message is so
+        long that no reader would take its line.
         """
         text = library.Bytes()
         with self._lock:

@@ -96,6 +96,13 @@ class Texts(unittest.TestCase):
             Switchboard.restore([first, second.replace(b"=hello", b"=hallo")])
         self.assertEqual(told.exception.position, 3)
 
+    def test_too_long(self):
+        mailbox = self.seat.mailbox(str)
+        self.seat.send(mailbox, "\n" * 371_400)
+        journal = self.board.take_journal()
+        with self.assertRaises(seryugo.TooLong):
+            journal.text()
+
     def test_bad_arguments(self):
         text = self.history()
         for limit in (0, 2**32 + 1, 2**64 + 1):

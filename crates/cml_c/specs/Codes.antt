@@ -26,6 +26,7 @@ number code.OutOfBounds = 16
 number code.Unlawful = 17
 number code.Fault = 18
 number code.Torn = 19
+number code.TooLong = 20
 
 -- a refusal has the code of the same name
 abbrev pub of_refusal : Refusal → Code

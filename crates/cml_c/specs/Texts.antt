@@ -1,9 +1,10 @@
 -- What C gets of a journal as text.
-use Rattle.std.specs.Prelude.{ℕ, ◌≡◌, ◌+◌, ◌<◌, ◌≤◌, ◌^◌, ◌⊎◌, List, length}
+use Rattle.std.specs.Prelude.{ℕ, ◌≡◌, ◌+◌, ◌<◌, ◌≤◌, ◌^◌, ◌⊎◌, List, length, ⊤}
 use Rattle.std.specs.Fmt.{decimal}
 use Rattle.cml_board.specs.{Entry}
-use Rattle.cml_journal.specs.{bytes_text, text_of, piece_lines}
-use Rattle.cml_c.specs.declared.code.Code.TheVariants.{Done, NoMemory, OutOfBounds}
+use Rattle.cml_journal.specs.{AreShort, IsTooLong, bytes_text, text_of, piece_lines}
+use Rattle.cml_c.specs.declared.code.Code.TheVariants.{Done, NoMemory, OutOfBounds, TooLong}
+use Rattle.cml_c.specs.declared.code.Code.{Code}
 use Rattle.cml_c.specs.declared.kept.Kept.{Kept}
 use Rattle.cml_c.specs.declared.kept.Kept.TheVariants.{Numbers, Bytes}
 use Rattle.cml_c.specs.declared.kept.Resource.{Resource}
@@ -12,16 +13,20 @@ use Rattle.cml_c.specs.Codes.{number}
 use Rattle.cml_c.specs.Handles.{OnJournal}
 use Rattle.cml_c.specs.Messages.{IsHanded}
 
--- a new message is handed over, or there is no memory for it
-abbrev pub HandsNew : List ℕ → ℕ → SeryugoBytes → SeryugoBytes → Type 0
-HandsNew bytes code from to = ((code ≡ number Done) × IsHanded bytes to) ⊎ ((code ≡ number NoMemory) × (to ≡ from))
+-- why no text of these entries is handed over: there is no memory for it, or no reading would take a line of it
+abbrev pub IsUnwritten : {M : Type 0} → (M → List ℕ) → List (Entry M) → Code → Type 0
+IsUnwritten text entries NoMemory = ⊤
+IsUnwritten text entries TooLong = (place : ℕ) × IsTooLong text entries place
+IsUnwritten text entries code = ⊥
 
--- the text of these entries as one piece, whose first has this position, is handed over, or there is no memory for it; or no
--- position is behind them
+-- the text of these entries as one piece, whose first has this position, is handed over, and a reading takes each line; or it is
+-- not, for one of these reasons; or no position is behind them
 abbrev pub HandsText : {M : Type 0} → ℕ → (M → List ℕ) → ℕ → ℕ → SeryugoBytes → SeryugoBytes → List (Entry M) → Type 0
-HandsText version text at code from to entries =
-    ((at + length entries < 2 ^ 64) × HandsNew (text_of (piece_lines version text at entries)) code from to)
-    ⊎ ((2 ^ 64 ≤ at + length entries) × (code ≡ number OutOfBounds) × (to ≡ from))
+HandsText version text at told from to entries =
+    ((at + length entries < 2 ^ 64) × (told ≡ number Done) × AreShort text entries
+    × IsHanded (text_of (piece_lines version text at entries)) to)
+    ⊎ ((at + length entries < 2 ^ 64) × ((code : Code) × (told ≡ number code) × IsUnwritten text entries code) × (to ≡ from))
+    ⊎ ((2 ^ 64 ≤ at + length entries) × (told ≡ number OutOfBounds) × (to ≡ from))
 
 -- the same of the entries of a journal that was taken
 abbrev pub HandsTaken : {M : Type 0} → ℕ → (M → List ℕ) → ℕ → SeryugoBytes → SeryugoBytes → ℕ → Resource M → Resource M → Type 0

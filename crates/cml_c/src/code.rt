@@ -38,6 +38,8 @@ pub enum Code {
     Fault,
     /// A journal's text ends before its last piece does.
     Torn,
+    /// No reading would take a line of the journal's text.
+    TooLong,
 }
 
 impl Code {
@@ -65,6 +67,7 @@ impl Code {
             Code::Unlawful => 17,
             Code::Fault => 18,
             Code::Torn => 19,
+            Code::TooLong => 20,
         }
     }
 

@@ -1,14 +1,14 @@
 //! A journal as text.
-ghost use Rattle.std.specs.Prelude.{◌≡◌, ◌+◌, ◌<◌, ◌^◌, length, IfSome};
-ghost use Rattle.cml_journal.specs.{text_of, piece_lines};
-ghost use Rattle.cml_c.specs.{HandsText, HandsJournal};
+ghost use Rattle.std.specs.Prelude.{◌≡◌, ◌+◌, ◌<◌, ◌^◌, length, IfOk, IfErr, OnOk};
+ghost use Rattle.cml_journal.specs.{AreShort, text_of, piece_lines};
+ghost use Rattle.cml_c.specs.{HandsText, HandsJournal, IsUnwritten};
 
 use crate::code::Code;
 use crate::handle::Handle;
 use crate::kept::on_either;
 use crate::messages::{SeryugoBytes, hand_over_new};
 use cml_board::{Bytes, Entry, Message};
-use cml_journal::{Written, add_piece};
+use cml_journal::{Unwritten, Written, add_piece};
 use std::alloc::Global;
 
 /// Hands over the entries of a journal that was taken as text: one piece, whose first entry is at position `from`.
@@ -36,17 +36,31 @@ fn hand_over_text<M: Message + Written>(
         return Code::OutOfBounds.number();
     }
     match text_of(alloc, from, entries) {
-        Some(piece) => hand_over_new(alloc, piece, text),
-        None => Code::NoMemory.number(),
+        Ok(piece) => hand_over_new(alloc, piece, text),
+        Err(code) => code.number(),
     }
 }
 
-/// The text of a piece, unless there is no memory for it, or it would be longer than a message.
-fn text_of<M: Message + Written>(alloc: Global, from: u64, entries: &[Entry<M>]) -> Option<Bytes>
+/// The text of a piece. Fails with `TooLong` if no reading would take a line of it, and with `NoMemory` if there is no memory for
+/// it, or if it would be longer than a message.
+fn text_of<M: Message + Written>(
+    alloc: Global,
+    from: u64,
+    entries: &[Entry<M>],
+) -> Result<Bytes, Code>
     requires { from + length entries.now < 2 ^ 64 }
-    ensures { IfSome result (λ piece. piece ≡ text_of (piece_lines M.VERSION M.text from entries.now)) }
+    ensures text { IfOk result (λ piece. piece ≡ text_of (piece_lines M.VERSION M.text from entries.now)) }
+    ensures short { OnOk result (AreShort M.text entries.now) }
+    ensures code { IfErr result (IsUnwritten M.text entries.now) }
 {
     let mut text = String::new(alloc);
-    add_piece(&mut text, from, entries).ok()?;
-    Bytes::from_vec(alloc, text.into_bytes()).ok()?.ok()
+    match add_piece(&mut text, from, entries) {
+        Ok(()) => {}
+        Err(Unwritten::Memory) => return Err(Code::NoMemory),
+        Err(Unwritten::TooLong(_)) => return Err(Code::TooLong),
+    }
+    match Bytes::from_vec(alloc, text.into_bytes()) {
+        Ok(Ok(piece)) => Ok(piece),
+        _ => Err(Code::NoMemory),
+    }
 }

@@ -1,11 +1,12 @@
 -- A text is written part by part.
-use Rattle.std.proofs.Common.{◌≡◌, ℕ, ◌+◌, ◌<◌, List, [], ◌∷◌, ◌++◌, length, take, get_or, Option, Some, None, Result, Ok}
-use Rattle.std.proofs.Common.{Err, refl, sym, subst, ap, ◌∙◌, append_assoc}
-use Rattle.std.specs.Prelude.{OnOk}
-use Rattle.std.specs.List.{flat_map}
+use Rattle.std.proofs.Common.{◌≡◌, ℕ, ◌+◌, ◌<◌, Bool, true, false, List, [], ◌∷◌, ◌++◌, length, take, get_or, Option, Some, None, Result}
+use Rattle.std.proofs.Common.{Ok, Err, refl, sym, subst, ap, ◌∙◌, append_assoc}
+use Rattle.std.specs.Prelude.{OnOk, MatchBool}
+use Rattle.std.specs.List.{flat_map, AllByRecursion}
 use Rattle.std.specs.Io.KnownBytes.{Appends}
 use Rattle.std.proofs.lemmas.List.{append-nil, take_more}
 use Rattle.std.proofs.lemmas.List.Concat.{flat_map-append}
+use Rattle.std.proofs.lemmas.Bool.{false≢true}
 use Rattle.cml_journal.specs.{Writes}
 
 pub on_ok : {A E P Q : Type 0} (r : Result A E) → (P → Q) → OnOk r P → OnOk r Q
@@ -21,7 +22,7 @@ pub appends_both : (held between holds : Option (List ℕ)) (one other : List �
 appends_both None between holds one other first second = tt
 appends_both (Some bytes) None holds one other first second = absurd first
 appends_both (Some bytes) (Some more) None one other first second = absurd second
-appends_both (Some bytes) (Some more) (Some most) one other first second =
+appends_both (Some bytes) (Some more) (Some all) one other first second =
     second ∙ ap (λ (t : List ℕ). t ++ other) first ∙ append_assoc bytes one other
 
 -- nothing was written yet
@@ -60,3 +61,17 @@ lines_more line text entries i d within =
     ∙ ap (λ (t : List ℕ). text ++ t) (ap (λ (t : List ℕ). flat_map line (take i entries) ++ t)
     (sym (append-nil (line (get_or entries i d))))
     ∙ sym (flat_map-append line (take i entries) (get_or entries i d ∷ [])) ∙ ap (flat_map line) (sym (take_more entries i d within)))
+
+-- each of one more of them holds
+pub all_more : {E : Type 0} (P : E → Type 0) (xs : List E) (i : ℕ) (d : E) → i < length xs → AllByRecursion P (take i xs)
+    → P (get_or xs i d) → AllByRecursion P (take (i + 1) xs)
+all_more {E = E} P xs i d within all one = subst (AllByRecursion P) (sym (take_more xs i d within)) (all_then (take i xs) all)
+  where
+    all_then : (ys : List E) → AllByRecursion P ys → AllByRecursion P (ys ++ get_or xs i d ∷ [])
+    all_then [] some = (one, tt)
+    all_then (y ∷ ys) some = (some.0, all_then ys some.1)
+
+-- what is so is so
+pub when_so : (P Q : Type 0) (b : Bool) → MatchBool b P Q → b ≡ true → P
+when_so P Q true p e = p
+when_so P Q false q e = absurd (false≢true e)

@@ -8,6 +8,7 @@ pub mod EscapeLaws
 pub mod Words
 pub mod Streams
 pub mod Feeding
+pub mod Lengths
 pub mod Faults
 pub mod Checks
 -- the names that others import from here
@@ -21,6 +22,7 @@ pub use Escapes.{before, byte_at, byte_text, bytes_text, digit_in, escape_at, es
 unfoldable pub use Escapes.{bytes_in}
 pub use Words.{script_word}
 pub use Streams.{Writes, from_lines, head_lines, numbered_line, piece_lines, stream_lines, text_of, with_line_end}
+pub use Lengths.{AreShort, IsShort, IsTooLong, MayBeTooLong}
 pub use Feeding.{IsReadable, Read, State, Step, begun, behind, byte_read, end_by, end_of, ended_by, fresh, from_by, has_line_end, headed}
 pub use Feeding.{held, held_all, line_step, most, no_entry, numbered, waiting_at}
 unfoldable pub use Feeding.{behind_header, entered, inside, line_read, reading, turned}
@@ -28,6 +30,7 @@ pub use Faults.{HasFault, Meets}
 pub use Checks.{Goes, HaltTells, HaltsIn, IsFaultyJournal, IsLawfulJournal, IsRestored, IsSoFar, IsSpent, IsTold, IsUnlawfulJournal}
 pub use Checks.{MayHaltAt, Progress, ShowsFault, ShowsFront, ShowsUnlawful, StopsIn, halt_of, is_whole, line_of_last}
 pub use declared.fault.Unread.{Unread}
+pub use declared.fault.Unwritten.{Unwritten}
 pub use declared.fault.What.{What}
 pub use declared.reader.Stage.{Stage}
 pub use declared.stop.Halt.{Halt}

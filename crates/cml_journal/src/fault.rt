@@ -1,6 +1,7 @@
 //! What is wrong with a journal's text.
 ghost use Rattle.std.specs.Prelude.{◌≡◌};
 ghost use Rattle.cml_journal.specs.declared.fault.Unread.TheVariants.{Memory};
+ghost use Rattle.cml_journal.specs.declared.fault.Unwritten.TheVariants.{Memory as NoRoom};
 
 use std::alloc::AllocError;
 use std::error::Error;
@@ -54,6 +55,30 @@ pub enum Unread {
     Memory,
     #[error("{0}")]
     Fault(What),
+}
+
+/// No reader takes the line of the entry at this place, from 0: it would have more than 1,114,112 bytes. So the piece was not
+/// written.
+#[derive(Clone, Copy, Debug, PartialEq, Eq, Error)]
+#[error("the line of entry {0} is too long")]
+pub struct TooLong(pub u64);
+
+/// The reason why a piece was not added to a text.
+#[derive(Clone, Copy, Debug, PartialEq, Eq, Error)]
+pub enum Unwritten {
+    #[error("no memory")]
+    Memory,
+    /// No reader takes the line of the entry at this place, from 0: it would have more than 1,114,112 bytes.
+    #[error("the line of entry {0} is too long")]
+    TooLong(u64),
+}
+
+impl From<AllocError> for Unwritten {
+    ghost from_gives = { λ _ unwritten. unwritten ≡ NoRoom };
+
+    fn from(_error: AllocError) -> Unwritten {
+        Unwritten::Memory
+    }
 }
 
 impl From<AllocError> for Unread {

@@ -15,7 +15,7 @@ mod writing;
 mod written;
 
 pub use check::Check;
-pub use fault::{Unread, What};
+pub use fault::{TooLong, Unread, Unwritten, What};
 pub use laws::{lines_are_entries, pieces_are_read, streams_are_pieces, streams_may_be_cut};
 pub use pieces::{add_piece, add_piece_in, write_piece};
 pub use reader::Reader;

@@ -1,9 +1,13 @@
 //! How pieces of a journal are written.
-ghost use Rattle.std.specs.Prelude.{◌≡◌, ◌<◌, ◌+◌, ◌^◌, ◌++◌, OnOk, string_bytes, length, codes};
+ghost use Rattle.std.specs.Prelude.{◌≡◌, ◌<◌, ◌+◌, ◌^◌, ◌++◌, IfOk, IfErr, OnOk, OnErr};
+ghost use Rattle.std.specs.Prelude.{MatchBool, MatchOption, string_bytes, length, codes};
 ghost use Rattle.std.specs.Io.KnownBytes.{Appends};
 ghost use Rattle.std.specs.List.{flat_map};
 ghost use Rattle.cml_journal.specs.{line_of, numbered_line, with_line_end, text_of, head_lines, piece_lines, Writes};
+ghost use Rattle.cml_journal.specs.{most, IsShort, AreShort, IsTooLong, MayBeTooLong};
 
+use crate::fault::{TooLong, Unwritten};
+use crate::reader::MOST;
 use crate::spelling::{OwnWords, Spelling};
 use crate::writing::{write_entry, write_entry_in};
 use crate::written::Written;
@@ -16,8 +20,33 @@ use std::io::{self, Write};
 const MANY: usize = 8_192;
 
 /// Writes a piece, and flushes the writer. It allocates memory for a part of the piece's text: at most one line more than 8,192
-/// bytes. If it fails, it may have written some bytes.
+/// bytes.
+///
+/// Errors: the place of the first entry whose line no reader takes, and then nothing was written; or an `io::Error`, and then it
+/// may have written some bytes. Each line is written into memory first, to see how long it is.
 pub fn write_piece<M: Written, W: Write>(
+    alloc: Global,
+    writer: &mut W,
+    from: u64,
+    entries: &[Entry<M>],
+) -> Result<io::Result<()>, TooLong>
+    requires { from + length entries.now < 2 ^ 64 }
+    ensures written { IfOk result (λ done. OnOk done (Appends (W.contents writer.old) (W.contents writer.new)
+        (text_of (piece_lines M.VERSION M.text from entries.now)))) }
+    // Each line of what was written is read.
+    ensures short { IfOk result (λ done. OnOk done (AreShort M.text entries.now)) }
+    ensures long { IfErr result (λ long. IsTooLong M.text entries.now long.0) }
+    ensures unwritten { OnErr result (W.contents writer.new ≡ W.contents writer.old) }
+{
+    match too_long(alloc, entries) {
+        Ok(Some(place)) => Err(TooLong(place)),
+        Ok(None) => Ok(write_short(alloc, writer, from, entries)),
+        Err(error) => Ok(Err(error.into())),
+    }
+}
+
+/// Writes a piece whose lines are short enough.
+fn write_short<M: Written, W: Write>(
     alloc: Global,
     writer: &mut W,
     from: u64,
@@ -32,6 +61,37 @@ pub fn write_piece<M: Written, W: Write>(
     write_lines(writer, &mut text, entries)?;
     write_numbered(&mut text, "end", from + entries.len() as u64)?;
     write_whole(writer, text.as_bytes())
+}
+
+/// The place of the first entry whose line no reader takes, if there is one.
+fn too_long<M: Written>(alloc: Global, entries: &[Entry<M>]) -> Result<Option<u64>, AllocError>
+    ensures { IfOk result (λ found. MatchOption found (AreShort M.text entries.now) (IsTooLong M.text entries.now)) }
+{
+    let mut line = String::new(alloc);
+    let mut place = 0;
+    for entry in entries {
+        line.clear();
+        if !add_line(&mut line, &OwnWords, entry)? {
+            return Ok(Some(place));
+        }
+        place += 1;
+    }
+    Ok(None)
+}
+
+/// Adds an entry's line, without a line end, and says whether a reader takes it.
+fn add_line<M, S: Spelling<M>>(
+    text: &mut String,
+    spelling: &S,
+    entry: &Entry<M>,
+) -> Result<bool, AllocError>
+    ensures line { OnOk result (string_bytes text.new ≡ string_bytes text.old ++ line_of (S.word spelling.now) entry.now) }
+    ensures short { IfOk result (λ short. MatchBool short (IsShort (S.word spelling.now) entry.now)
+        (most < length (line_of (S.word spelling.now) entry.now))) }
+{
+    let before = text.len();
+    write_entry_in(text, spelling, entry)?;
+    Ok(text.len() - before <= MOST)
 }
 
 /// Adds the lines of entries to a text, and writes what it has whenever that is much.
@@ -63,15 +123,18 @@ fn write_much<W: Write>(writer: &mut W, text: &mut String) -> io::Result<()>
     Ok(())
 }
 
-/// Adds a piece: its header, the position of its first entry unless that is 0, its entries and its end. If it fails, it may
-/// have added a part of the piece.
+/// Adds a piece: its header, the position of its first entry unless that is 0, its entries and its end. It fails at the first
+/// entry whose line no reader takes, or if there is no memory. Then it may have added a part of the piece.
 pub fn add_piece<M: Written>(
     text: &mut String,
     from: u64,
     entries: &[Entry<M>],
-) -> Result<(), AllocError>
+) -> Result<(), Unwritten>
     requires { from + length entries.now < 2 ^ 64 }
-    ensures { OnOk result (string_bytes text.new ≡ string_bytes text.old ++ text_of (piece_lines M.VERSION M.text from entries.now)) }
+    ensures added { OnOk result (string_bytes text.new ≡ string_bytes text.old ++ text_of (piece_lines M.VERSION M.text from entries.now)) }
+    // Each line of what was added is read.
+    ensures short { OnOk result (AreShort M.text entries.now) }
+    ensures long { IfErr result (MayBeTooLong M.text entries.now) }
 {
     add_piece_in(text, &OwnWords, from, entries)
 }
@@ -82,14 +145,17 @@ pub fn add_piece_in<M, S: Spelling<M>>(
     spelling: &S,
     from: u64,
     entries: &[Entry<M>],
-) -> Result<(), AllocError>
+) -> Result<(), Unwritten>
     requires { from + length entries.now < 2 ^ 64 }
-    ensures { OnOk result (string_bytes text.new
+    ensures added { OnOk result (string_bytes text.new
         ≡ string_bytes text.old ++ text_of (piece_lines (S.version spelling.now) (S.word spelling.now) from entries.now)) }
+    ensures short { OnOk result (AreShort (S.word spelling.now) entries.now) }
+    ensures long { IfErr result (MayBeTooLong (S.word spelling.now) entries.now) }
 {
     write_head(text, spelling.version(), from)?;
     write_entries(text, spelling, entries)?;
-    write_numbered(text, "end", from + entries.len() as u64)
+    write_numbered(text, "end", from + entries.len() as u64)?;
+    Ok(())
 }
 
 fn write_numbered(text: &mut String, word: &str, number: u64) -> Result<(), AllocError>
@@ -112,13 +178,19 @@ fn write_entries<M, S: Spelling<M>>(
     text: &mut String,
     spelling: &S,
     entries: &[Entry<M>],
-) -> Result<(), AllocError>
-    ensures { OnOk result (string_bytes text.new
+) -> Result<(), Unwritten>
+    ensures lines { OnOk result (string_bytes text.new
         ≡ string_bytes text.old ++ flat_map (λ entry. with_line_end (line_of (S.word spelling.now) entry)) entries.now) }
+    ensures short { OnOk result (AreShort (S.word spelling.now) entries.now) }
+    ensures long { IfErr result (MayBeTooLong (S.word spelling.now) entries.now) }
 {
+    let mut place = 0;
     for entry in entries {
-        write_entry_in(text, spelling, entry)?;
+        if !add_line(text, spelling, entry)? {
+            return Err(Unwritten::TooLong(place));
+        }
         text.push_str("\n")?;
+        place += 1;
     }
     Ok(())
 }

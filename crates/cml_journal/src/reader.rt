@@ -15,7 +15,7 @@ use std::alloc::Global;
 use std::marker::Model;
 
 /// The most bytes of a line.
-const MOST: usize = 1_114_112;
+pub(crate) const MOST: usize = 1_114_112;
 
 /// Where in a stream of pieces a line is.
 #[derive(Clone, Copy, Debug, PartialEq, Eq)]

@@ -3,7 +3,7 @@ ghost use Rattle.std.specs.Prelude.{◌+◌, ◌<◌, ◌^◌, length};
 
 use crate::ending::Ending;
 use cml_board::Entry;
-use cml_journal::write_piece;
+use cml_journal::{TooLong, write_piece};
 use std::alloc::Global;
 use std::io::{ErrorKind, Write};
 
@@ -34,9 +34,10 @@ pub(crate) struct Written<'a, W: Write> {
 impl<W: Write> Keeper for Written<'_, W> {
     fn keep(&mut self, from: u64, entries: &[Entry<u64>]) -> Result<(), Ending> {
         match write_piece(self.alloc, self.writer, from, entries) {
-            Ok(()) => Ok(()),
-            Err(error) if error.kind() == ErrorKind::OutOfMemory => Err(Ending::NoMemory),
-            Err(_) => Err(Ending::WriteFault),
+            Ok(Ok(())) => Ok(()),
+            Ok(Err(error)) if error.kind() == ErrorKind::OutOfMemory => Err(Ending::NoMemory),
+            // No line of numbers is too long.
+            Ok(Err(_)) | Err(TooLong(_)) => Err(Ending::WriteFault),
         }
     }
 }

@@ -42,8 +42,11 @@ fn journal_text(
         version: script.version(),
     };
     let mut text = String::new(alloc);
-    add_piece_in(&mut text, &words, 0, journal(board))?;
-    Ok(text)
+    match add_piece_in(&mut text, &words, 0, journal(board)) {
+        Ok(()) => Ok(text),
+        // No line is too long, since a text has at most 64 bytes.
+        Err(_) => Err(AllocError),
+    }
 }
 
 /// Writes the whole text, and returns how the run ended.

@@ -51,6 +51,9 @@ pub enum Error {
     Full,
     /// A limit isn't from 1 to 2^32, a capacity isn't from 1 to 1024, or a message has more than 2^32 - 1 bytes.
     OutOfBounds,
+    /// The journal isn't written as text, since a message is so long that no reader would take its line, of more than 1,114,112
+    /// bytes.
+    TooLong,
     /// The call's time limit passed before there was an answer.
     TimedOut,
     /// The message was received, and it can't be read as the type that its object has. These are its bytes.
@@ -81,6 +84,7 @@ impl Error {
             13 => Error::Full,
             16 => Error::OutOfBounds,
             code::NOT_KEPT => Error::NotKept,
+            20 => Error::TooLong,
             other => Error::Unknown(other),
         }
     }
@@ -99,7 +103,8 @@ impl Error {
         match self {
             Error::JournalFull | Error::NotKept | Error::Busy | Error::Full => true,
             Error::NoMemory | Error::TimedOut | Error::Unseen => true,
-            Error::Gone | Error::NoSuch | Error::WrongKind | Error::Stalled | Error::OutOfBounds => false,
+            Error::Gone | Error::NoSuch | Error::WrongKind | Error::Stalled => false,
+            Error::OutOfBounds | Error::TooLong => false,
             Error::Unreadable(_) | Error::Version { .. } | Error::Unknown(_) => false,
         }
     }
@@ -121,6 +126,7 @@ impl fmt::Display for Error {
             Error::OutOfBounds => {
                 "a limit isn't from 1 to 2^32, a capacity isn't from 1 to 1024, or a message has more than 2^32 - 1 bytes"
             }
+            Error::TooLong => "a message of the journal is so long that no reader would take its line",
             Error::TimedOut => "the time limit passed before there was an answer",
             Error::Unreadable(bytes) => {
                 return write!(f, "the message of {} bytes that was received can't be read as its type", bytes.len())

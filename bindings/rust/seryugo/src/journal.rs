@@ -1,6 +1,7 @@
 //! A journal that was taken.
 
 use crate::entry::{found, Entry};
+use crate::error::Error;
 use crate::raw::Handle;
 use crate::received::Received;
 use crate::room::{Bytes, Room};
@@ -115,7 +116,9 @@ impl<R: Room> Journal<R> {
     /// behind the other, and [`Checker`](crate::Checker) and [`Switchboard::restore`](crate::Switchboard::restore) read them. It
     /// flushes nothing.
     ///
-    /// Errors: `OutOfMemory` if there is no memory for the text, or it would have 2^32 bytes or more; and what `to` fails with.
+    /// Errors: `InvalidData`, with [`Error::TooLong`] inside, if a message is so long that no reader would take its line, and then
+    /// nothing is written; `OutOfMemory` if there is no memory for the text, or it would have 2^32 bytes or more; and what `to`
+    /// fails with.
     ///
     /// ```
     /// # fn main() -> Result<(), Box<dyn std::error::Error>> {
@@ -130,8 +133,11 @@ impl<R: Room> Journal<R> {
     /// # }
     /// ```
     pub fn write_to(&self, to: &mut impl Write) -> io::Result<()> {
-        // No journal has a position of 2^64, so that only memory can be refused.
-        let text = Received::text_of(&mut self.handle.borrow_mut(), self.first).map_err(|_| ErrorKind::OutOfMemory)?;
+        let text = Received::text_of(&mut self.handle.borrow_mut(), self.first).map_err(|error| match error {
+            Error::TooLong => io::Error::new(ErrorKind::InvalidData, error),
+            // No journal has a position of 2^64, so that nothing else but memory can be refused.
+            _ => ErrorKind::OutOfMemory.into(),
+        })?;
         to.write_all(text.as_slice())
     }
 

@@ -374,6 +374,7 @@ fn errors_have_plain_words() {
         Error::Unseen,
         Error::Full,
         Error::OutOfBounds,
+        Error::TooLong,
         Error::TimedOut,
         Error::Unreadable(vec![1, 2]),
         Error::Version {

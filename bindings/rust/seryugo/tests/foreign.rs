@@ -136,6 +136,7 @@ fn error_of(code: u32) -> Error {
         12 => Error::Unseen,
         13 => Error::Full,
         16 => Error::OutOfBounds,
+        20 => Error::TooLong,
         code => Error::Unknown(code),
     }
 }

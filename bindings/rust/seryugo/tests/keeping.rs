@@ -193,6 +193,41 @@ fn readers_and_writers_may_fail() {
     assert_eq!(&room, b"journ");
 }
 
+/// A journal with a line that no reader takes isn't written. A message of three bytes a byte may have 371,000.
+#[test]
+fn no_journal_is_written_that_is_not_read() {
+    for (length, is_short) in [(371_000, true), (371_400, false)] {
+        let board = Switchboard::new(LIMIT).unwrap();
+        let mut seat = board.seat().unwrap();
+        let mailbox = seat.mailbox::<Vec<u8>>().unwrap();
+        seat.send(mailbox, vec![0xFF; length]).unwrap();
+        let mut text = Vec::new();
+        match board.take_journal().unwrap().write_to(&mut text) {
+            Ok(()) => assert!(is_short),
+            Err(error) => {
+                assert_eq!((is_short, error.kind(), text.len()), (false, io::ErrorKind::InvalidData, 0));
+                assert_eq!(error.into_inner().unwrap().downcast_ref(), Some(&Error::TooLong));
+                continue;
+            }
+        }
+        let again: Switchboard = Switchboard::restore(&text[..], LIMIT).unwrap();
+        let mailbox = again.mailbox::<Vec<u8>>(0).unwrap();
+        assert_eq!(again.seat().unwrap().recv(mailbox).unwrap().len(), length);
+    }
+}
+
+/// What a journal's numbers cost doesn't go by how high they are.
+#[test]
+fn a_huge_number_costs_nothing() {
+    let last = (1_u64 << 63) - 2;
+    for who in ["seat", "lane", "feed"] {
+        let text = format!("journal 1\n{who} {last} mailbox: made 0\nend 1\n");
+        let board = Board::restore(text.as_bytes(), LIMIT).unwrap();
+        let seat = board.seat().map(|seat| seat.number());
+        assert_eq!(seat, if who == "seat" { Err(Error::NoMemory) } else { Ok(0) });
+    }
+}
+
 /// The threads of a restored board wait and are woken, by the numbers that follow those of the journal.
 #[test]
 fn threads_wait_on_a_restored_board() {

@@ -5,7 +5,7 @@ use Rattle.std.specs.Io.KnownBytes.{Appends}
 use Rattle.cml_journal.specs.{line_of, numbered_line, with_line_end, text_of, head_lines}
 use Rattle.cml_journal.proofs.PieceLemmas.{piece_text}
 use Rattle.cml_journal.proofs.PartLemmas.{on_ok, writes_end}
-use Rattle.cml_journal.proofs.pieces.write_piece.Goals as goal
+use Rattle.cml_journal.proofs.pieces.write_short.Goals as goal
 
 pub returns : goal.returns
 returns g c =
