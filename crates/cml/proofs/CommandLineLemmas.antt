@@ -17,8 +17,8 @@ use Rattle.clap.proofs.WalkLemmas.{walk_stopped}
 use Rattle.cml_shell.specs.{error_status}
 use Rattle.cml.specs.{AsksFor, AsksHelp, HasOrder, Reads, asked_of, faults_of, limit_of, usage, AreUses, FindsBoth, FindsFlag, Flag}
 use Rattle.cml.specs.{form_if, IsLimitOption, Limit, ReadsAs, Use, given_by, state_by, Order}
-use Rattle.cml.specs.declared.asked.Order.TheVariants.{Replay, Run, Check}
-use Rattle.cml.proofs.CommandWordsLemmas.{Found, IsBare, IsOrOther, Uses, a_flag, a_value, dashes, flagged, help, help_alone}
+use Rattle.cml.specs.declared.asked.Order.TheVariants.{Replay, Run, Check, Compact}
+use Rattle.cml.proofs.CommandWordsLemmas.{bare_words, Found, IsBare, IsOrOther, Uses, a_flag, a_value, dashes, flagged, help, help_alone}
 use Rattle.cml.proofs.CommandWordsLemmas.{holding, limit_parser, limited, long_help, neither, none_of_both, same_or_other}
 use Rattle.cml.proofs.CommandWordsLemmas.{some_kind, turn_of, uses_of}
 use Rattle.clap.specs.Lexer.{long_of, short_of}
@@ -47,6 +47,10 @@ below name = record (slice_index_or (built usage).subs 0 (built usage).top) { na
 abbrev below_check : Shape
 below_check = slice_index_or (built usage).subs 2 (built usage).top
 
+-- the level of words below `compact`
+abbrev below_compact : Shape
+below_compact = slice_index_or (built usage).subs 3 (built usage).top
+
 uses_below : (name : Text) (words : List Text) → level_fault (below name) [] nothing_held words false [] ≡ []
     → Uses (below name) (codes "journal") words
 uses_below name =
@@ -68,6 +72,12 @@ uses_check =
     found : (word : Text) → IsOrOther (codes "state") word → Found below_check (codes "state") word
     found word (inl is) = flagged (rw (← is) refl) (rw (← is) refl)
     found word (inr other) = neither (rw other (help_alone (λ a. not (is_some a.index) && has_long a word)))
+
+uses_compact : (words : List Text) → level_fault below_compact [] nothing_held words false [] ≡ [] → AreUses [] [] words
+uses_compact =
+    bare_words below_compact
+    (record { once = refl; short = λ x. help_alone (λ a. not (is_some a.index) && has_short a x); others = refl })
+    (λ word. help_alone (λ a. not (is_some a.index) && has_long a word))
 
 -- ---- the words after a subcommand's name are left to its level
 
@@ -128,30 +138,34 @@ pub understood : (words : List Text) → faults_of words ≡ [] → (order : Ord
 understood words fine = by_words (asked_of words) refl
   where
     by_first : (word : Text) (rest : List Text) → asked_of words ≡ word ∷ rest → IsOrOther (codes "replay") word
-        → IsOrOther (codes "run") word → IsOrOther (codes "check") word
+        → IsOrOther (codes "run") word → IsOrOther (codes "check") word → IsOrOther (codes "compact") word
         → IsOrOther (codes "help") word → (order : Order) × AsksFor words order
-    by_first word rest are (inl is) run_or check_or help_or =
+    by_first word rest are (inl is) run_or check_or compact_or help_or =
         let here = left (codes "replay") (below (codes "replay")) refl refl refl words word rest fine are is in
         let by = uses_below (codes "replay") rest here.1 in
         (Replay by.2.0.0 by.2.0.1, record { uses = by.0; rest = rest; gives = by.2.1; reads = by.1; are = here.0 })
-    by_first word rest are (inr r) (inl is) check_or help_or =
+    by_first word rest are (inr r) (inl is) check_or compact_or help_or =
         let here = left (codes "run") (below (codes "run")) refl refl refl words word rest fine are is in
         let by = uses_below (codes "run") rest here.1 in
         (Run by.2.0.0 by.2.0.1, record { uses = by.0; rest = rest; gives = by.2.1; reads = by.1; are = here.0 })
-    by_first word rest are (inr r) (inr u) (inl is) help_or =
+    by_first word rest are (inr r) (inr u) (inl is) compact_or help_or =
         let here = left (codes "check") below_check refl refl refl words word rest fine are is in
         let by = uses_check rest here.1 in
         let state = by.3 (λ has. cc) in
         (Check state.0, record { uses = by.0; rest = rest; gives = state.1; reads = by.1; are = here.0 })
-    by_first word rest are (inr r) (inr u) (inr k) (inl is) =
+    by_first word rest are (inr r) (inr u) (inr k) (inl is) help_or =
+        let here = left (codes "compact") below_compact refl refl refl words word rest fine are is in
+        (Compact, (rest, here.0, uses_compact rest here.1))
+    by_first word rest are (inr r) (inr u) (inr k) (inr c) (inl is) =
         absurd (odd_words (asked_of words) rest (inr (inl (are ∙ ap (λ w. w ∷ rest) (sym is)))) fine)
-    by_first word rest are (inr r) (inr u) (inr k) (inr h) =
-        absurd (other_first word rest (rw (r, u, k, h) refl) (ap fault_at (sym are) ∙ fine))
+    by_first word rest are (inr r) (inr u) (inr k) (inr c) (inr h) =
+        absurd (other_first word rest (rw (r, u, k, c, h) refl) (ap fault_at (sym are) ∙ fine))
 
     by_words : (asked : List Text) → asked_of words ≡ asked → (order : Order) × AsksFor words order
     by_words [] are = absurd (odd_words (asked_of words) [] (inl are) fine)
     by_words (word ∷ rest) are =
         by_first word rest are (same_or_other _ word) (same_or_other _ word) (same_or_other _ word) (same_or_other _ word)
+        (same_or_other _ word)
 
 -- ---- the levels take the words of an order
 
@@ -247,6 +261,12 @@ taken_check (Flag ∷ []) words (first, rest, is, flag, inl e) = rw (is, flag, e
 taken_check (Flag ∷ []) words (first, rest, is, flag, inr e) = rw (is, flag, e) (refl, refl)
 taken_check _ words reads = tt
 
+-- the level takes no words but the `--` that ends them
+taken_compact : (words : List Text) → AreUses [] [] words → level_fault below_compact [] nothing_held words false [] ≡ []
+unfolding clap_on_literals
+taken_compact words (inl e) = rw e refl
+taken_compact words (inr e) = rw e refl
+
 -- ---- words that ask for an order are without fault, and a parse finds the order
 
 abbrev pub IsTaken : List Text → Order → Type 0
@@ -266,6 +286,8 @@ taken words (Run limit form) asks =
 taken words (Check state) asks =
     let by = rw asks.gives at (taken_check asks.uses asks.rest asks.reads) in
     (has_order (codes "check") below_check refl refl refl words asks.rest (Check state) asks.are by.0 (refl, by.1), tt)
+taken words Compact (rest, are, uses) =
+    (has_order (codes "compact") below_compact refl refl refl words rest Compact are (taken_compact rest uses) refl, tt)
 
 -- ---- what is read of the words, by what a parse found
 
@@ -293,7 +315,8 @@ unfolding clap_on_literals
 help_is_shown words (help, is, inl h) = elim is [ inl e ↦ rw (h, e) refl | inr e ↦ rw (h, e) refl ]
 help_is_shown words (help, is, inr (inl h)) = elim is [ inl e ↦ rw (h, e) refl | inr e ↦ rw (h, e) refl ]
 help_is_shown words (help, is, inr (inr (inl h))) = elim is [ inl e ↦ rw (h, e) refl | inr e ↦ rw (h, e) refl ]
-help_is_shown words (help, is, inr (inr (inr h))) = elim is [ inl e ↦ rw (h, e) refl | inr e ↦ rw (h, e) refl ]
+help_is_shown words (help, is, inr (inr (inr (inl h)))) = elim is [ inl e ↦ rw (h, e) refl | inr e ↦ rw (h, e) refl ]
+help_is_shown words (help, is, inr (inr (inr (inr h)))) = elim is [ inl e ↦ rw (h, e) refl | inr e ↦ rw (h, e) refl ]
 
 pub told_help : (words : List Text) (read : Result Order Error) → Reads words read → AsksHelp words
     → IsErrAnd read (λ error. (kind_of error ≡ kind.DisplayHelp) ⊎ (kind_of error ≡ kind.OutOfMemory))

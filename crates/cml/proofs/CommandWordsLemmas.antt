@@ -119,6 +119,20 @@ module _ (s : Shape) (bare : IsBare s) where
   trailing_end waiting h [] fine = (refl, rw bare.once at fine.1)
   trailing_end waiting h (word ∷ more) fine = absurd (no_stray (rw bare.others at (first_turn (standing waiting true h) word more fine).0))
 
+  -- a level without options takes no words but the `--` that ends them
+  pub bare_words : ((name : Text) → IsHelpAlone (arg_by_long s.rules name)) → (words : List Text)
+      → level_fault s [] nothing_held words false [] ≡ [] → AreUses [] [] words
+  unfolding walked
+  bare_words alone [] none = inl refl
+  bare_words alone (word ∷ rest) none =
+      let parts = none_of_both _ _ none in
+      let turn = first_turn (standing idle false (holding [] None)) word rest (parts.0, (none_of_both _ _ parts.1).0) in
+      elim (turn_of [] idle [] None word refl turn.0) [
+        | dashes is ↦ inr (ap₂ (λ w ws. w ∷ ws) is (trailing_end idle (holding [] None) rest (rw is at turn.1)).0)
+        | a_value d is stray ↦ absurd (stray refl)
+        | a_flag name value e d fine ↦ absurd (long_help _ _ _ _ (alone name) fine)
+      ]
+
 -- ---- words that begin with two hyphens
 
 stripped : (c : ℕ) (text rest : Text) → strip_byte c text ≡ Some rest → text ≡ c ∷ rest

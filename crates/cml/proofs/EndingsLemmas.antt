@@ -1,5 +1,5 @@
 -- What an ending says of what was read and checked.
-use Rattle.std.proofs.Common.{◌≡◌, inl, inr, ℕ, ◌+◌, ◌<◌, ◌≤◌, take, drop, length, add-one, Bool, true, false, List, [], ◌++◌}
+use Rattle.std.proofs.Common.{◌≡◌, ◌≢◌, inl, inr, ℕ, ◌+◌, ◌<◌, ◌≤◌, take, drop, length, add-one, Bool, true, false, List, [], ◌++◌}
 use Rattle.std.proofs.Common.{reverse, Option, Some, None, Ok, refl, sym, ap, ◌∙◌, subst, append_assoc}
 use Rattle.std.proofs.lemmas.List.{append-nil, take_all, take_at, take-append-drop}
 use Rattle.std.proofs.KnownBytes.{Consumes-nil, Consumes-trans}
@@ -13,7 +13,9 @@ use Rattle.std.specs.Global.{Global}
 use Rattle.std.specs.Prelude.{String, string_bytes}
 use Rattle.cml.specs.declared.check.ending.Ending.{Ending}
 use Rattle.cml.specs.declared.check.ending.Ending.TheVariants.{Lawful as lawful, Unlawful, Fault, Torn, BehindCut, ReadFault}
-use Rattle.cml.specs.declared.check.ending.Ending.TheVariants.{WriteFault, NoMemory}
+use Rattle.cml.specs.declared.check.ending.Ending.TheVariants.{WriteFault, NoMemory, Compacted, TooLong}
+use Rattle.cml.specs.declared.check.wanted.Wanted.{Wanted}
+use Rattle.cml.specs.declared.check.wanted.Wanted.TheVariants as wanted
 use Rattle.cml.specs.{Writes, answer_text, lines_for, object_line, object_lines, state_lines, told_state, IsSilent, IsRead, IsFront}
 use Rattle.cml.specs.{GivesCut, EndsInFront, is_behind_cut, IsVerdict, TellsAs, ConcludesAs, ConcludesBy, is_of_bytes, Tells, EndsAs}
 use Rattle.cml.specs.{EndsIn, IsEarly, IsHeardOut, IsStateOf, IsToldLawful, IsToldUnlawful, Concludes}
@@ -50,6 +52,8 @@ module _ {M : Type 0} (version : ℕ) (meaning : List ℕ → Option M) (text : 
   ends_as_stopped old new bytes (stop.Unlawful at line) (Fault number what) ends stops = absurd ends
   ends_as_stopped old new bytes (stop.Unlawful at line) (Torn number) ends stops = absurd ends
   ends_as_stopped old new bytes (stop.Unlawful at line) BehindCut ends stops = absurd ends
+  ends_as_stopped old new bytes (stop.Unlawful at line) (Compacted written) ends stops = absurd ends
+  ends_as_stopped old new bytes (stop.Unlawful at line) (TooLong place) ends stops = absurd ends
   ends_as_stopped old new bytes (stop.Unlawful at line) ReadFault ends stops = absurd ends
   ends_as_stopped old new bytes (stop.Unlawful at line) WriteFault ends stops = absurd ends
   ends_as_stopped old new bytes (stop.Fault line what) ending ends stops =
@@ -58,11 +62,12 @@ module _ {M : Type 0} (version : ℕ) (meaning : List ℕ → Option M) (text : 
       subst (λ (e : Ending). EndsIn version meaning text old bytes e) (sym ends) (tt, λ asked before so. tt)
 
   -- ---- the end
-  pub told_lawful : (asked : Bool) (bytes : List ℕ) (progress : Progress M) (count : ℕ) (state : String Global)
-      → IsLawfulJournal version meaning bytes count
+  pub told_lawful : (asked : Wanted) (bytes : List ℕ) (progress : Progress M) (count : ℕ) (state : String Global)
+      → asked ≢ wanted.Compacted → IsLawfulJournal version meaning bytes count
       → IsStateOf version meaning text asked bytes progress (string_bytes state) → IsSoFar version meaning bytes progress
       → IsToldLawful version meaning text asked bytes count (string_bytes state)
-  told_lawful asked bytes progress count state is told so = record {
+  told_lawful asked bytes progress count state verdict is told so = record {
+    verdict = verdict;
     is = is;
     told = told so ∙ ap (λ (es : List (Entry M)). told_state text asked (reverse es)) (same_entries (so.read) is.read);
   }
@@ -74,7 +79,7 @@ module _ {M : Type 0} (version : ℕ) (meaning : List ℕ → Option M) (text : 
   pub state_restored : (bytes : List ℕ) (progress : Progress M) (restored : RestoredShown M) (lines : List ℕ)
       → (IsSoFar version meaning bytes progress → IsRestored version meaning bytes 1 restored)
       → lines ≡ state_lines text restored.board.history
-      → IsStateOf version meaning text true bytes progress lines
+      → IsStateOf version meaning text wanted.State bytes progress lines
   state_restored bytes progress restored lines restores is so =
       let of = restores so in
       is ∙ ap (state_lines text) of.made.history
@@ -87,6 +92,8 @@ module _ {M : Type 0} (version : ℕ) (meaning : List ℕ → Option M) (text : 
   heard_early : (ending : Ending) (new : Option (List ℕ)) → IsEarly ending → IsHeardOut ending new
   heard_early (lawful count state) new is = absurd is
   heard_early (Torn line) new is = absurd is
+  heard_early (Compacted written) new is = absurd is
+  heard_early (TooLong place) new is = absurd is
   heard_early (Unlawful at line answer) new is = tt
   heard_early (Fault line what) new is = tt
   heard_early NoMemory new is = tt
@@ -97,6 +104,8 @@ module _ {M : Type 0} (version : ℕ) (meaning : List ℕ → Option M) (text : 
   heard_at_end : (ending : Ending) (new : Option (List ℕ)) → IsAtEnd new → IsHeardOut ending new
   heard_at_end (lawful count state) new end = end
   heard_at_end (Torn line) new end = end
+  heard_at_end (Compacted written) new end = end
+  heard_at_end (TooLong place) new end = end
   heard_at_end (Unlawful at line answer) new end = tt
   heard_at_end (Fault line what) new end = tt
   heard_at_end NoMemory new end = tt
@@ -105,7 +114,7 @@ module _ {M : Type 0} (version : ℕ) (meaning : List ℕ → Option M) (text : 
   heard_at_end WriteFault new end = tt
 
   -- it was not asked yet
-  pub concludes_in_front : (asked : Bool) (check : Progress M) (front : List ℕ) (old : Option (List ℕ)) (ending : Ending)
+  pub concludes_in_front : (asked : Wanted) (check : Progress M) (front : List ℕ) (old : Option (List ℕ)) (ending : Ending)
       → IsFront front old → IsSoFar version meaning [] check
       → EndsIn version meaning text check front ending → Concludes version meaning text asked front old old ending
   concludes_in_front asked check front old ending long so ends = record {
@@ -117,7 +126,7 @@ module _ {M : Type 0} (version : ℕ) (meaning : List ℕ → Option M) (text : 
   }
 
   -- there was no memory for a check
-  pub concludes_without : (asked : Bool) (front : List ℕ) (old : Option (List ℕ)) → IsFront front old
+  pub concludes_without : (asked : Wanted) (front : List ℕ) (old : Option (List ℕ)) → IsFront front old
       → Concludes version meaning text asked front old old NoMemory
   concludes_without asked front old long = record {
     bytes = [];
@@ -128,7 +137,7 @@ module _ {M : Type 0} (version : ℕ) (meaning : List ℕ → Option M) (text : 
   }
 
   -- it was at its end
-  pub concludes_short : (asked : Bool) (check later : Progress M) (front : List ℕ) (old : Option (List ℕ)) (ending : Ending)
+  pub concludes_short : (asked : Wanted) (check later : Progress M) (front : List ℕ) (old : Option (List ℕ)) (ending : Ending)
       → IsFront front old → length front < 15
       → IsSoFar version meaning [] check → Goes version meaning check front later
       → ((all : List ℕ) → IsSoFar version meaning all later → Tells version meaning text asked all ending)
@@ -141,7 +150,7 @@ module _ {M : Type 0} (version : ℕ) (meaning : List ℕ → Option M) (text : 
     told = tells (front ++ []) (subst (λ (b : List ℕ). IsSoFar version meaning b later) (sym (append-nil front)) (goes [] so));
   }
 
-  pub concludes_early : (asked : Bool) (check : Progress M) (front bytes more : List ℕ) (old mid new : Option (List ℕ)) (ending : Ending)
+  pub concludes_early : (asked : Wanted) (check : Progress M) (front bytes more : List ℕ) (old mid new : Option (List ℕ)) (ending : Ending)
       → length front ≡ 15 → Consumes old mid bytes → Consumes mid new more
       → IsSoFar version meaning (front ++ bytes) check → EndsIn version meaning text check more ending
       → Concludes version meaning text asked front old new ending
@@ -160,7 +169,7 @@ module _ {M : Type 0} (version : ℕ) (meaning : List ℕ → Option M) (text : 
   so_on check later front bytes more so goes =
       subst (λ (b : List ℕ). IsSoFar version meaning b later) (append_assoc front bytes more) (goes (front ++ bytes) so)
 
-  pub concludes_at_end : (asked : Bool) (check later : Progress M) (front bytes more : List ℕ) (old mid new : Option (List ℕ))
+  pub concludes_at_end : (asked : Wanted) (check later : Progress M) (front bytes more : List ℕ) (old mid new : Option (List ℕ))
       (ending : Ending) → length front ≡ 15 → Consumes old mid bytes → Consumes mid new more
       → IsSoFar version meaning (front ++ bytes) check → Goes version meaning check more later → IsAtEnd new
       → ((all : List ℕ) → IsSoFar version meaning all later → Tells version meaning text asked all ending)
@@ -174,7 +183,7 @@ module _ {M : Type 0} (version : ℕ) (meaning : List ℕ → Option M) (text : 
   }
 
 -- ---- a front
-pub verdict_behind : (asked : Bool) (old mid new : Option (List ℕ)) (front : List ℕ) (ending : Ending)
+pub verdict_behind : (asked : Wanted) (old mid new : Option (List ℕ)) (front : List ℕ) (ending : Ending)
     → Consumes old mid front → is_behind_cut front ≡ false
     → ConcludesBy asked front mid new ending → IsVerdict asked old new ending
 verdict_behind asked old mid new front ending first uncut concluded = by (is_of_bytes front) refl concluded
@@ -208,8 +217,10 @@ silent_heard (lawful count state) new silent = absurd silent
 silent_heard (Unlawful at line answer) new silent = absurd silent
 silent_heard (Fault line what) new silent = absurd silent
 silent_heard (Torn line) new silent = absurd silent
+silent_heard (Compacted written) new silent = absurd silent
+silent_heard (TooLong place) new silent = absurd silent
 
-silent_tells : {M : Type 0} (version : ℕ) (meaning : List ℕ → Option M) (text : M → List ℕ) (asked : Bool) (bytes : List ℕ)
+silent_tells : {M : Type 0} (version : ℕ) (meaning : List ℕ → Option M) (text : M → List ℕ) (asked : Wanted) (bytes : List ℕ)
     (ending : Ending) → IsSilent ending
     → Tells version meaning text asked bytes ending
 silent_tells version meaning text asked bytes ReadFault silent = tt
@@ -220,12 +231,14 @@ silent_tells version meaning text asked bytes (lawful count state) silent = absu
 silent_tells version meaning text asked bytes (Unlawful at line answer) silent = absurd silent
 silent_tells version meaning text asked bytes (Fault line what) silent = absurd silent
 silent_tells version meaning text asked bytes (Torn line) silent = absurd silent
+silent_tells version meaning text asked bytes (Compacted written) silent = absurd silent
+silent_tells version meaning text asked bytes (TooLong place) silent = absurd silent
 
-silent_told : (of_bytes asked : Bool) (bytes : List ℕ) (ending : Ending) → IsSilent ending → TellsAs of_bytes asked bytes ending
+silent_told : (of_bytes : Bool) (asked : Wanted) (bytes : List ℕ) (ending : Ending) → IsSilent ending → TellsAs of_bytes asked bytes ending
 silent_told true asked bytes ending silent = silent_tells 2 message_of_word bytes_text asked bytes ending silent
 silent_told false asked bytes ending silent = silent_tells 1 number_of decimal asked bytes ending silent
 
-pub verdict_silent : (asked : Bool) (old new : Option (List ℕ)) (ending : Ending) → IsSilent ending
+pub verdict_silent : (asked : Wanted) (old new : Option (List ℕ)) (ending : Ending) → IsSilent ending
     → IsRead old new → IsVerdict asked old new ending
 verdict_silent asked old new ending silent read =
     let bytes = read.0 in
@@ -239,11 +252,11 @@ verdict_silent asked old new ending silent read =
       told = silent_told (is_of_bytes (take 15 bytes)) asked (take 15 bytes ++ drop 15 bytes) ending silent;
     }
 
-cut_told : (of_bytes asked : Bool) (bytes : List ℕ) → is_behind_cut bytes ≡ true → TellsAs of_bytes asked bytes BehindCut
+cut_told : (of_bytes : Bool) (asked : Wanted) (bytes : List ℕ) → is_behind_cut bytes ≡ true → TellsAs of_bytes asked bytes BehindCut
 cut_told true asked bytes cut = cut
 cut_told false asked bytes cut = cut
 
-verdict_cut : (asked : Bool) (old new : Option (List ℕ)) → GivesCut old new → IsVerdict asked old new BehindCut
+verdict_cut : (asked : Wanted) (old new : Option (List ℕ)) → GivesCut old new → IsVerdict asked old new BehindCut
 verdict_cut asked old new gives =
     let all = sym (append-nil gives.front) in record {
       front = gives.front;
@@ -256,7 +269,7 @@ verdict_cut asked old new gives =
     }
 
 -- a check that ends in the front
-pub verdict_in_front : (asked : Bool) (old new : Option (List ℕ)) (ending : Ending)
+pub verdict_in_front : (asked : Wanted) (old new : Option (List ℕ)) (ending : Ending)
     → EndsInFront old new ending → IsVerdict asked old new ending
 verdict_in_front asked old new BehindCut ends = verdict_cut asked old new ends
 verdict_in_front asked old new ReadFault ends = verdict_silent asked old new ReadFault ends.0 ends.1
@@ -266,6 +279,8 @@ verdict_in_front asked old new (lawful count state) ends = absurd ends.0
 verdict_in_front asked old new (Unlawful at line answer) ends = absurd ends.0
 verdict_in_front asked old new (Fault line what) ends = absurd ends.0
 verdict_in_front asked old new (Torn line) ends = absurd ends.0
+verdict_in_front asked old new (Compacted written) ends = absurd ends.0
+verdict_in_front asked old new (TooLong place) ends = absurd ends.0
 
 pub silent_in_front : (old new : Option (List ℕ)) (ending : Ending) → IsSilent ending → IsRead old new → EndsInFront old new ending
 silent_in_front old new ReadFault silent read = (silent, read)
@@ -276,6 +291,8 @@ silent_in_front old new (lawful count state) silent read = absurd silent
 silent_in_front old new (Unlawful at line answer) silent read = absurd silent
 silent_in_front old new (Fault line what) silent read = absurd silent
 silent_in_front old new (Torn line) silent read = absurd silent
+silent_in_front old new (Compacted written) silent read = absurd silent
+silent_in_front old new (TooLong place) silent read = absurd silent
 
 -- the front is behind a cut
 pub cut_in_front : (old new : Option (List ℕ)) (front : List ℕ) (ending : Ending) → Consumes old new front → length front ≤ 15
@@ -287,7 +304,7 @@ cut_in_front old new front ending given most cut =
 pub read_on_from : (old mid new : Option (List ℕ)) (front : List ℕ) → Consumes old mid front → IsRead mid new → IsRead old new
 read_on_from old mid new front first second = (front ++ second.0, Consumes-trans old mid new front second.0 first second.1)
 
-pub verdict_unwritten : (asked : Bool) (old new : Option (List ℕ)) (ending why : Ending) → IsVerdict asked old new ending
+pub verdict_unwritten : (asked : Wanted) (old new : Option (List ℕ)) (ending why : Ending) → IsVerdict asked old new ending
     → IsSilent why → IsVerdict asked old new why
 verdict_unwritten asked old new ending why verdict silent =
     verdict_silent asked old new why silent (verdict.front ++ verdict.rest, verdict.given)
@@ -306,6 +323,8 @@ writes_line old new ending line is appends = by ending (subst (Appends old new) 
     by ReadFault h = h
     by WriteFault h = tt
     by NoMemory h = h
+    by (Compacted written) h = h
+    by (TooLong place) h = h
 
 pub writes_nothing : (old : Option (List ℕ)) → Appends old old []
 writes_nothing None = tt

@@ -1,10 +1,10 @@
 -- What a check tells of the bytes of a journal.
-use Rattle.std.specs.Prelude.{◌≡◌, ◌⊎◌, ℕ, ◌<◌, ◌≤◌, Bool, true, false, ◌||◌, nat_eq, codes, string_bytes, List, ◌++◌, take}
+use Rattle.std.specs.Prelude.{◌≡◌, ◌≢◌, ◌⊎◌, ℕ, ◌<◌, ◌≤◌, Bool, true, false, ◌||◌, nat_eq, codes, string_bytes, List, ◌++◌, take}
 use Rattle.std.specs.Prelude.{length, reverse, String, Option, Some, None, Result, Ok, Err, ⊤}
 use Rattle.std.specs.Io.KnownBytes.{Consumes, IsAtEnd}
-use Rattle.cml_board.specs.{Entry, Lawful, Expected, expected_of}
+use Rattle.cml_board.specs.{Entry, Lawful, Expected, RestoredShown, expected_of}
 use Rattle.cml_journal.specs.{Stop, State, waiting_at, end_of, reading, Progress, IsSoFar, IsUnlawfulJournal, IsFaultyJournal}
-use Rattle.cml_journal.specs.{IsLawfulJournal, number_of, bytes_text, message_of_word, line_of}
+use Rattle.cml_journal.specs.{IsLawfulJournal, IsRestored, number_of, bytes_text, message_of_word, line_of}
 use Rattle.cml_journal.specs.declared.stop.Stop.TheVariants as stop
 use Rattle.std.specs.List.{starts_with}
 use Rattle.std.specs.Fmt.{decimal}
@@ -12,7 +12,10 @@ use Rattle.std.specs.Global.{Global}
 use Rattle.cml.specs.Lines.{answer_text, told_state}
 use Rattle.cml.specs.declared.check.ending.Ending.{Ending}
 use Rattle.cml.specs.declared.check.ending.Ending.TheVariants.{Lawful as lawful, Unlawful, Fault, Torn, BehindCut, ReadFault}
-use Rattle.cml.specs.declared.check.ending.Ending.TheVariants.{WriteFault, NoMemory}
+use Rattle.cml.specs.declared.check.ending.Ending.TheVariants.{WriteFault, NoMemory, Compacted, TooLong}
+use Rattle.cml.specs.declared.check.wanted.Wanted.{Wanted}
+use Rattle.cml.specs.declared.check.wanted.Wanted.TheVariants as wanted
+use Rattle.cml.specs.Compacted.{IsCompactOf, IsNoneOf}
 
 -- the ending by what stopped a check: there may be no memory for the right answer to the call
 abbrev pub EndsAs : {M : Type 0} → (M → List ℕ) → Progress M → Stop → Ending → Type 0
@@ -25,20 +28,24 @@ EndsAs text progress (stop.Fault line what) ending = ending ≡ Fault line what
 EndsAs text progress stop.NoMemory ending = ending ≡ NoMemory
 
 -- how a check ends that gave this
-abbrev pub ending_of : Result (ℕ × String Global) Ending → Ending
-ending_of (Ok found) = lawful found.0 found.1
+abbrev pub ending_of : Result Ending Ending → Ending
+ending_of (Ok ending) = ending
 ending_of (Err ending) = ending
 
--- where a check is lawful or torn, the reader is at its end
+-- where a check is lawful or torn, or asked for a short journal, the reader is at its end
 abbrev pub IsHeardOut : Ending → Option (List ℕ) → Type 0
 IsHeardOut (lawful count state) new = IsAtEnd new
 IsHeardOut (Torn line) new = IsAtEnd new
+IsHeardOut (Compacted written) new = IsAtEnd new
+IsHeardOut (TooLong place) new = IsAtEnd new
 IsHeardOut ending new = ⊤
 
 -- an ending that may come before the reader's end
 abbrev pub IsEarly : Ending → Type 0
 IsEarly (lawful count state) = ⊥
 IsEarly (Torn line) = ⊥
+IsEarly (Compacted written) = ⊥
+IsEarly (TooLong place) = ⊥
 IsEarly ending = ⊤
 
 -- the front of a journal of bytes
@@ -66,9 +73,19 @@ module _ {M : Type 0} (version : ℕ) (meaning : List ℕ → Option M) (text : 
     pub lawful : Lawful (reverse entries)
 
   -- the bytes are a whole journal of so many lawful entries, and these are the lines of its objects, if they are asked for
-  pub record IsToldLawful (asked : Bool) (bytes : List ℕ) (count : ℕ) (state : List ℕ) : Type 0 where
+  pub record IsToldLawful (asked : Wanted) (bytes : List ℕ) (count : ℕ) (state : List ℕ) : Type 0 where
+    pub verdict : asked ≢ wanted.Compacted
     pub is : IsLawfulJournal version meaning bytes count
     pub told : state ≡ told_state text asked (reverse is.entries)
+
+  -- a short journal was asked for, the bytes are a whole journal of lawful entries, and this is said of what they leave
+  pub record IsToldShort (asked : Wanted) (bytes : List ℕ) (Says : RestoredShown M → Type 0) : Type 0 where
+    pub short : asked ≡ wanted.Compacted
+    pub count : ℕ
+    pub is : IsLawfulJournal version meaning bytes count
+    pub restored : RestoredShown M
+    pub left : IsRestored version meaning bytes 1 restored
+    pub says : Says restored
 
   -- this is the line of the first entry that is unlawful, and the right answer to its call
   pub record IsToldUnlawful (bytes : List ℕ) (at : ℕ) (line answer : List ℕ) : Type 0 where
@@ -79,25 +96,28 @@ module _ {M : Type 0} (version : ℕ) (meaning : List ℕ → Option M) (text : 
     pub answered : answer ≡ answer_text text expected
 
   -- what an ending says of the bytes of a journal
-  abbrev pub Tells : Bool → List ℕ → Ending → Type 0
+  abbrev pub Tells : Wanted → List ℕ → Ending → Type 0
   Tells asked bytes (lawful count state) = IsToldLawful asked bytes count (string_bytes state)
   Tells asked bytes (Unlawful at line answer) = IsToldUnlawful bytes at (string_bytes line) (string_bytes answer)
   Tells asked bytes (Fault line what) = IsFaultyJournal version meaning bytes line what
   Tells asked bytes (Torn line) = IsTornJournal bytes line
   Tells asked bytes BehindCut = is_behind_cut bytes ≡ true
+  Tells asked bytes (Compacted written) =
+      IsToldShort asked bytes (λ restored. IsCompactOf version text restored (string_bytes written))
+  Tells asked bytes (TooLong place) = IsToldShort asked bytes (λ restored. IsNoneOf text restored (TooLong place))
   Tells asked bytes ending = ⊤
 
   -- these are the lines of the objects of what was read so far, if they are asked for
-  abbrev pub IsStateOf : Bool → List ℕ → Progress M → List ℕ → Type 0
+  abbrev pub IsStateOf : Wanted → List ℕ → Progress M → List ℕ → Type 0
   IsStateOf asked bytes progress state = (so : IsSoFar version meaning bytes progress) → state ≡ told_state text asked (reverse so.entries)
 
   -- a check ends in these bytes, behind any others
   abbrev pub EndsIn : Progress M → List ℕ → Ending → Type 0
   EndsIn old bytes ending =
-      IsEarly ending × ((asked : Bool) (before : List ℕ) → IsSoFar version meaning before old → Tells asked (before ++ bytes) ending)
+      IsEarly ending × ((asked : Wanted) (before : List ℕ) → IsSoFar version meaning before old → Tells asked (before ++ bytes) ending)
 
   -- a reader gave some bytes, and this is how the check of them ends behind the first 15 bytes, or behind all if they are fewer
-  pub record Concludes (asked : Bool) (front : List ℕ) (old new : Option (List ℕ)) (ending : Ending) : Type 0 where
+  pub record Concludes (asked : Wanted) (front : List ℕ) (old new : Option (List ℕ)) (ending : Ending) : Type 0 where
     pub bytes : List ℕ
     pub long : front ≡ take 15 (front ++ bytes)
     pub given : Consumes old new bytes
@@ -105,11 +125,11 @@ module _ {M : Type 0} (version : ℕ) (meaning : List ℕ → Option M) (text : 
     pub told : Tells asked (front ++ bytes) ending
 
 -- the check behind a front, whose messages are bytes or numbers
-abbrev pub ConcludesAs : Bool → Bool → List ℕ → Option (List ℕ) → Option (List ℕ) → Ending → Type 0
+abbrev pub ConcludesAs : Bool → Wanted → List ℕ → Option (List ℕ) → Option (List ℕ) → Ending → Type 0
 ConcludesAs true asked front old new ending = Concludes 2 message_of_word bytes_text asked front old new ending
 ConcludesAs false asked front old new ending = Concludes 1 number_of decimal asked front old new ending
 
-abbrev pub ConcludesBy : Bool → List ℕ → Option (List ℕ) → Option (List ℕ) → Ending → Type 0
+abbrev pub ConcludesBy : Wanted → List ℕ → Option (List ℕ) → Option (List ℕ) → Ending → Type 0
 ConcludesBy asked front old new ending = ConcludesAs (is_of_bytes front) asked front old new ending
 
 -- an ending that says nothing of a journal
@@ -124,7 +144,7 @@ abbrev pub IsRead : Option (List ℕ) → Option (List ℕ) → Type 0
 IsRead old new = (bytes : List ℕ) × Consumes old new bytes
 
 -- what an ending says of a journal whose messages are bytes, or numbers
-abbrev pub TellsAs : Bool → Bool → List ℕ → Ending → Type 0
+abbrev pub TellsAs : Bool → Wanted → List ℕ → Ending → Type 0
 TellsAs true asked bytes ending = Tells 2 message_of_word bytes_text asked bytes ending
 TellsAs false asked bytes ending = Tells 1 number_of decimal asked bytes ending
 
@@ -141,8 +161,8 @@ EndsInFront old new BehindCut = GivesCut old new
 EndsInFront old new ending = IsSilent ending × IsRead old new
 
 -- a reader gave the first 15 bytes, or all if they are fewer, and the rest, and this is how their check ends. By these first bytes
--- the messages are numbers or bytes, and the journal begins behind a cut or doesn't. It may be asked for the lines of the objects
-pub record IsVerdict (asked : Bool) (old new : Option (List ℕ)) (ending : Ending) : Type 0 where
+-- the messages are numbers or bytes, and the journal begins behind a cut or doesn't. This was asked for
+pub record IsVerdict (asked : Wanted) (old new : Option (List ℕ)) (ending : Ending) : Type 0 where
   pub front : List ℕ
   pub rest : List ℕ
   pub long : front ≡ take 15 (front ++ rest)

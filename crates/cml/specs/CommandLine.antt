@@ -77,17 +77,23 @@ AsksRun words limit form = Asks (codes "run") (codes "--journal") (λ uses. give
 abbrev pub AsksCheck : List Text → Bool → Type 0
 AsksCheck words state = Asks (codes "check") (codes "--state") (λ uses. state_by uses ≡ Some state) words
 
+-- the words ask to compact a journal
+abbrev pub AsksCompact : List Text → Type 0
+AsksCompact words = (rest : List Text) × (asked_of words ≡ codes "compact" ∷ rest) × AreUses [] [] rest
+
 -- the words ask for this order
 abbrev pub AsksFor : List Text → Order → Type 0
 AsksFor words (order.Replay limit form) = AsksReplay words limit form
 AsksFor words (order.Run limit form) = AsksRun words limit form
 AsksFor words (order.Check state) = AsksCheck words state
+AsksFor words order.Compact = AsksCompact words
 
 -- how many entries the journal of an order takes, where it makes one
 abbrev pub limit_of : Order → Option ℕ
 limit_of (order.Replay limit form) = Some limit
 limit_of (order.Run limit form) = Some limit
 limit_of (order.Check state) = None
+limit_of order.Compact = None
 
 -- the long or the short word for help
 abbrev pub IsHelp : Text → Type 0
@@ -99,7 +105,8 @@ AsksHelp words = (help : Text) × IsHelp help
     × ((asked_of words ≡ help ∷ [])
     ⊎ ((asked_of words ≡ codes "replay" ∷ help ∷ [])
     ⊎ ((asked_of words ≡ codes "run" ∷ help ∷ [])
-    ⊎ (asked_of words ≡ codes "check" ∷ help ∷ []))))
+    ⊎ ((asked_of words ≡ codes "check" ∷ help ∷ [])
+    ⊎ (asked_of words ≡ codes "compact" ∷ help ∷ [])))))
 
 -- `--limit`, a number from 1 to 2^32, and 65,536 where the words have none
 abbrev pub limit_rule : Rule
@@ -122,16 +129,22 @@ performing name = (with_rule (with_rule (new_app name) limit_rule) (flag_rule (c
 abbrev pub checking : Shape
 checking = (with_rule (new_app (codes "check")) (flag_rule (codes "state"))).top
 
+-- the subcommand without options
+abbrev pub compacting : Shape
+compacting = (new_app (codes "compact")).top
+
 -- the program, one of whose subcommands is required
 abbrev pub usage : App
 usage = with_subcommand
+    (with_subcommand
     (with_subcommand
     (with_subcommand
     (on_top (λ top. record top { subcommand_required = true; arg_required_else_help = true })
     (new_app (codes "cml")))
     (performing (codes "replay")))
     (performing (codes "run")))
-    checking
+    checking)
+    compacting
 
 -- what was found of each option gives this limit
 abbrev pub FindsLimit : (Text → Option Text) → ℕ → Type 0
@@ -156,6 +169,7 @@ abbrev pub Finds : Text → (Text → Option Text) → Order → Type 0
 Finds name found (order.Replay limit form) = (name ≡ codes "replay") × FindsBoth found (limit, form)
 Finds name found (order.Run limit form) = (name ≡ codes "run") × FindsBoth found (limit, form)
 Finds name found (order.Check state) = (name ≡ codes "check") × FindsFlag found (codes "state") state
+Finds name found order.Compact = name ≡ codes "compact"
 
 -- the parse found this order
 abbrev pub HasOrder : Option (Text × List Row) → Order → Type 0

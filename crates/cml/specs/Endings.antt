@@ -5,21 +5,25 @@ use Rattle.cml_script.specs.{Ending as ScriptEnding}
 use Rattle.cml_script.specs.declared.ending.Ending.TheVariants as ended
 use Rattle.cml.specs.declared.check.ending.Ending.{Ending as CheckEnding}
 use Rattle.cml.specs.declared.check.ending.Ending.TheVariants.{Lawful, Unlawful, Fault, Torn, BehindCut, ReadFault, WriteFault, NoMemory}
+use Rattle.cml.specs.declared.check.ending.Ending.TheVariants.{Compacted, TooLong}
 use Rattle.cml.specs.declared.ending.Ending.{Ending}
 use Rattle.cml.specs.declared.ending.Ending.TheVariants.{Performed, Checked}
 
 abbrev pub status_of_check : CheckEnding → ℕ
 status_of_check (Lawful count state) = 0
+status_of_check (Compacted written) = 0
 status_of_check (Unlawful at line answer) = 7
 status_of_check (Fault line what) = 2
 status_of_check (Torn line) = 2
 status_of_check BehindCut = 2
+status_of_check (TooLong place) = 2
 status_of_check ReadFault = 4
 status_of_check WriteFault = 4
 status_of_check NoMemory = 5
 
 abbrev pub is_check_shown : CheckEnding → Bool
 is_check_shown (Lawful count state) = false
+is_check_shown (Compacted written) = false
 is_check_shown (Unlawful at line answer) = false
 is_check_shown ending = true
 

@@ -1,5 +1,5 @@
 -- What is written of an ending.
-use Rattle.std.specs.Prelude.{ℕ, zero, suc, Bool, true, false, List, [], ◌∷◌, ◌++◌, codes, string_bytes, unwrap_or, Option, Some, None, ⊤}
+use Rattle.std.specs.Prelude.{ℕ, zero, suc, List, [], ◌∷◌, ◌++◌, codes, string_bytes, unwrap_or, Option, Some, None, ⊤}
 use Rattle.std.specs.Fmt.{decimal}
 use Rattle.std.specs.Io.KnownBytes.{Appends}
 use Rattle.cml_calls.specs.{Kind}
@@ -10,7 +10,9 @@ use Rattle.cml_board.specs.declared.outcome.Refusal.TheVariants.{NoSuch}
 use Rattle.cml_board.specs.declared.expected.Expected.TheVariants as expected
 use Rattle.cml_journal.specs.{reply_text}
 use Rattle.cml.specs.declared.check.ending.Ending.{Ending}
-use Rattle.cml.specs.declared.check.ending.Ending.TheVariants.{Lawful, Unlawful, WriteFault}
+use Rattle.cml.specs.declared.check.ending.Ending.TheVariants.{Lawful, Unlawful, WriteFault, Compacted}
+use Rattle.cml.specs.declared.check.wanted.Wanted.{Wanted}
+use Rattle.cml.specs.declared.check.wanted.Wanted.TheVariants.{State}
 
 -- a count, and 0 where there is none
 abbrev pub counted : Option ℕ → List ℕ
@@ -80,15 +82,16 @@ module _ {M : Type 0} (text : M → List ℕ) where
   state_lines history = object_lines history (entries_in history)
 
   -- the same, if they are asked for
-  abbrev pub told_state : Bool → List (Entry M) → List ℕ
-  told_state false history = []
-  told_state true history = state_lines history
+  abbrev pub told_state : Wanted → List (Entry M) → List ℕ
+  told_state State history = state_lines history
+  told_state other history = []
 
 -- the lines of a verdict, and nothing for another ending
 abbrev pub lines_for : Ending → List ℕ
 lines_for (Lawful count state) = codes "lawful " ++ decimal count ++ 10 ∷ string_bytes state
 lines_for (Unlawful at entry answer) =
     codes "unlawful at " ++ decimal at ++ codes ": " ++ string_bytes entry ++ 10 ∷ codes "answer: " ++ string_bytes answer ++ 10 ∷ []
+lines_for (Compacted written) = string_bytes written
 lines_for ending = []
 
 -- what the writer has behind an ending: its lines; unknown if it failed

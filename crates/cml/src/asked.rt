@@ -11,4 +11,6 @@ pub(crate) enum Order {
     Run(u64, Form),
     /// To check a journal, and to write the state that it ends in if that is asked for too.
     Check(bool),
+    /// To compact a journal.
+    Compact,
 }

@@ -2,9 +2,12 @@
 
 mod answer;
 mod checking;
+mod compacted;
 mod ending;
 mod state;
+mod wanted;
 mod written;
 
 pub(crate) use ending::Ending;
+pub(crate) use wanted::Wanted;
 pub(crate) use written::check;

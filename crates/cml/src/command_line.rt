@@ -4,8 +4,8 @@ ghost use Rattle.clap.specs.Words.{app_of, found_of, FailsBy, kind_of, new_app, 
 ghost use Rattle.clap.specs.Words.{subcommand_rows_of, with_subcommand};
 ghost use Rattle.clap.specs.declared.builder.command.Command.TheViews.{out-Command as fields_of};
 ghost use Rattle.cml_shell.specs.{error_status};
-ghost use Rattle.cml.specs.{usage, faults_of, form_if, limit_of, limit_rule, flag_rule, performing, checking, AsksFor, AsksHelp, Finds};
-ghost use Rattle.cml.specs.{FindsFlag, FindsLimit, HasOrder, Reads};
+ghost use Rattle.cml.specs.{usage, faults_of, form_if, limit_of, limit_rule, flag_rule, performing, checking, compacting, AsksFor};
+ghost use Rattle.cml.specs.{AsksHelp, Finds, FindsFlag, FindsLimit, HasOrder, Reads};
 
 use crate::asked::Order;
 use clap::error::ErrorKind;
@@ -70,6 +70,19 @@ It writes lawful N if all N entries are lawful. Otherwise it writes unlawful at 
 entry that isn't, where K counts the entries before it, and answer: with the right answer to its
 call.";
 
+const COMPACT_ABOUT: &str =
+    "Writes a short journal that leaves what the journal on standard input leaves";
+
+const COMPACT_LONG_ABOUT: &str =
+    "Writes a short journal that leaves what the journal on standard input leaves.
+
+The short journal makes the same objects, with the same numbers. Then mailboxes and open ports are
+owed the same messages, and variables hold the same. So whatever may follow the one journal may
+follow the other, and each later call has the same answer.
+
+It begins at nothing, and has a few entries for each object and for each message that is still kept.
+All of them are made by one seat. It is written only if the journal that was read is whole and lawful.";
+
 const JOURNAL_HELP: &str = "Writes the journal as text in place of the report";
 
 const STATE_HELP: &str =
@@ -115,6 +128,29 @@ By cml check < letters.journal:
 Exit status:
   0  the journal is lawful (also for help)
   2  the input is no journal, or it begins behind a cut: standard error names the line
+  3  the words of the command line are not understood
+  4  standard input can't be read, or standard output can't be written
+  5  no memory
+  7  the journal is not lawful";
+
+const COMPACT_AFTER_HELP: &str = "Example, letters.journal:
+  journal 1
+  seat 0 mailbox: made 0
+  seat 1 send 0 5: done
+  seat 1 send 0 7: done
+  seat 0 recv 0: 5
+  end 4
+
+By cml compact < letters.journal:
+  journal 1
+  seat 1 mailbox: made 0
+  seat 1 send 0 7: done
+  end 2
+
+Exit status:
+  0  the short journal was written (also for help)
+  2  the input is no journal, or it begins behind a cut: standard error names the line. Or a line
+     of the short journal would be too long
   3  the words of the command line are not understood
   4  standard input can't be read, or standard output can't be written
   5  no memory
@@ -176,6 +212,7 @@ fn order_of(name: &str, found: &ArgMatches<'_>) -> Option<Order>
         "replay" => Some(Order::Replay(limit_in(found), form_in(found))),
         "run" => Some(Order::Run(limit_in(found), form_in(found))),
         "check" => Some(Order::Check(is_set(found, "state"))),
+        "compact" => Some(Order::Compact),
         _ => None,
     }
 }
@@ -217,7 +254,7 @@ fn command<'a>(alloc: Global) -> Result<Command<'a>, AllocError>
         .bin_name("cml")?;
     let program = add_performing(alloc, program, "replay", REPLAY_ABOUT, REPLAY_LONG_ABOUT)?;
     let program = add_performing(alloc, program, "run", RUN_ABOUT, RUN_LONG_ABOUT)?;
-    add_check(alloc, program)
+    add_journals(alloc, program)
 }
 
 /// Adds a subcommand whose options are `--limit` and `--journal`.
@@ -265,6 +302,14 @@ fn limited<'a>(
         .arg(limit(alloc))
 }
 
+/// Adds the subcommands that read a journal.
+fn add_journals<'a>(alloc: Global, program: Command<'a>) -> Result<Command<'a>, AllocError>
+    ensures { IfOk result (λ command. app_of command ≡ with_subcommand (with_subcommand (app_of program.entry) checking) compacting) }
+{
+    let program = add_check(alloc, program)?;
+    add_compact(alloc, program)
+}
+
 /// Adds the subcommand whose one option is `--state`.
 fn add_check<'a>(alloc: Global, program: Command<'a>) -> Result<Command<'a>, AllocError>
     ensures { IfOk result (λ command. app_of command ≡ with_subcommand (app_of program.entry) checking) }
@@ -274,6 +319,17 @@ fn add_check<'a>(alloc: Global, program: Command<'a>) -> Result<Command<'a>, All
         .long_about(CHECK_LONG_ABOUT)
         .after_help(CHECK_AFTER_HELP)
         .arg(flag(alloc, "state", STATE_HELP))?;
+    program.subcommand(subcommand)
+}
+
+/// Adds the subcommand that has no option.
+fn add_compact<'a>(alloc: Global, program: Command<'a>) -> Result<Command<'a>, AllocError>
+    ensures { IfOk result (λ command. app_of command ≡ with_subcommand (app_of program.entry) compacting) }
+{
+    let subcommand = Command::new(alloc, "compact")
+        .about(COMPACT_ABOUT)
+        .long_about(COMPACT_LONG_ABOUT)
+        .after_help(COMPACT_AFTER_HELP);
     program.subcommand(subcommand)
 }
 

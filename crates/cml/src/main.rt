@@ -1,4 +1,5 @@
-//! `cml`: replays or runs the script on standard input, or checks the journal there, and writes to standard output what came of it.
+//! `cml`: replays or runs the script on standard input, or checks or compacts the journal there, and writes to standard output what
+//! came of it.
 #![tactic(auto)]
 
 mod asked;
@@ -7,6 +8,7 @@ mod command_line;
 mod ending;
 
 use asked::Order;
+use check::Wanted;
 use cml_script::{Form, OpenGate, replay, replay_journal, run, run_journal};
 use cml_shell::{NoOrder, end, words};
 use command_line::order;
@@ -38,6 +40,28 @@ fn obey<R: Threads + Wait + Sync>(rt: &HostRuntime, system: &R) -> Result<Ending
         Order::Run(limit, Form::Journal) => {
             Ending::Performed(run_journal(system, alloc, input, output, limit, &OpenGate))
         }
-        Order::Check(state) => Ending::Checked(check::check(system, alloc, input, output, state)),
+        Order::Check(state) => Ending::Checked(check::check(
+            system,
+            alloc,
+            input,
+            output,
+            wanted(state),
+        )),
+        Order::Compact => Ending::Checked(check::check(
+            system,
+            alloc,
+            input,
+            output,
+            Wanted::Compacted,
+        )),
     })
+}
+
+/// What is wanted of a journal that is checked.
+fn wanted(state: bool) -> Wanted {
+    if state {
+        Wanted::State
+    } else {
+        Wanted::Verdict
+    }
 }

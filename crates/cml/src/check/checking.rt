@@ -1,16 +1,20 @@
 //! A journal is read and checked as it comes.
 
-ghost use Rattle.std.specs.Prelude.{◌≡◌, ◌≤◌, ◌-◌, ◌∷◌, ◌++◌, ℕ, List, [], Ok, true, false, length, None, ◌<◌, IfOk, IfErr};
+ghost use Rattle.std.specs.Prelude.{◌≡◌, ◌≢◌, ◌≤◌, ◌-◌, ◌∷◌, ◌++◌, ℕ, List, [], Ok, true, false, length, None, ◌<◌, IfOk, IfErr};
 ghost use Rattle.std.specs.Prelude.{IfSome, OnOk, IsTrue, string_bytes};
 ghost use Rattle.std.specs.Io.KnownBytes.{Consumes, Keeps, IsAtEnd};
-ghost use Rattle.cml_journal.specs.{IsSoFar, Goes};
+ghost use Rattle.cml_board.specs.{count_of};
+ghost use Rattle.cml_journal.specs.{IsSoFar, IsLawfulJournal, Goes};
 ghost use Rattle.cml.specs.declared.check.ending.Ending.TheVariants.{ReadFault, BehindCut};
+ghost use Rattle.cml.specs.declared.check.wanted.Wanted.TheVariants as wants;
 ghost use Rattle.cml.specs.{Tells, EndsIn, EndsInFront, Concludes, ConcludesBy, IsFront, IsVerdict, IsRead, IsSilent, is_of_bytes};
 ghost use Rattle.cml.specs.{is_behind_cut, ending_of, IsStateOf};
 
 use crate::check::answer::ending_of;
+use crate::check::compacted::compacted;
 use crate::check::ending::Ending;
 use crate::check::state::state_lines;
+use crate::check::wanted::Wanted;
 use cml_board::{Bytes, Message};
 use cml_journal::{Check, Written};
 use std::alloc::{AllocError, Global};
@@ -37,12 +41,12 @@ pub fn check_stream<S: Wait, R: Read>(
     system: &S,
     alloc: Global,
     input: &mut R,
-    state: bool,
+    wanted: Wanted,
 ) -> Ending
-    ensures { IsVerdict state (R.remaining input.old) (R.remaining input.new) result }
+    ensures { IsVerdict wanted (R.remaining input.old) (R.remaining input.new) result }
 {
     match read_front(system, alloc, input) {
-        Ok(front) => check_behind(system, alloc, input, &front, state),
+        Ok(front) => check_behind(system, alloc, input, &front, wanted),
         Err(ending) => ending,
     }
 }
@@ -53,15 +57,15 @@ fn check_behind<S: Wait, R: Read>(
     alloc: Global,
     input: &mut R,
     front: &[u8],
-    state: bool,
+    wanted: Wanted,
 ) -> Ending
     requires { IsFront front.now (R.remaining input.old) }
-    ensures { ConcludesBy state front.now (R.remaining input.old) (R.remaining input.new) result }
+    ensures { ConcludesBy wanted front.now (R.remaining input.old) (R.remaining input.new) result }
 {
     if is_of_bytes(front) {
-        return check_rest::<Bytes, S, R>(system, alloc, input, front, state);
+        return check_rest::<Bytes, S, R>(system, alloc, input, front, wanted);
     }
-    check_rest::<u64, S, R>(system, alloc, input, front, state)
+    check_rest::<u64, S, R>(system, alloc, input, front, wanted)
 }
 
 /// Whether a front is that of a journal of bytes.
@@ -149,37 +153,37 @@ fn check_rest<M: Message + Written, S: Wait, R: Read>(
     alloc: Global,
     input: &mut R,
     front: &[u8],
-    state: bool,
+    wanted: Wanted,
 ) -> Ending
     requires { IsFront front.now (R.remaining input.old) }
-    ensures { Concludes M.VERSION M.meaning M.text state front.now (R.remaining input.old) (R.remaining input.new) result }
+    ensures { Concludes M.VERSION M.meaning M.text wanted front.now (R.remaining input.old) (R.remaining input.new) result }
 {
-    match check_all::<M, S, R>(system, alloc, input, front, state) {
-        Ok((count, objects)) => Ending::Lawful(count, objects),
+    match check_all::<M, S, R>(system, alloc, input, front, wanted) {
+        Ok(ending) => ending,
         Err(ending) => ending,
     }
 }
 
-/// How many entries the journal has, all of which are lawful.
+/// What is said of the whole journal, all of whose entries are lawful.
 fn check_all<M: Message + Written, S: Wait, R: Read>(
     system: &S,
     alloc: Global,
     input: &mut R,
     front: &[u8],
-    state: bool,
-) -> Result<(u64, String), Ending>
+    wanted: Wanted,
+) -> Result<Ending, Ending>
     requires { IsFront front.now (R.remaining input.old) }
-    ensures { Concludes M.VERSION M.meaning M.text state front.now (R.remaining input.old) (R.remaining input.new) (ending_of result) }
+    ensures { Concludes M.VERSION M.meaning M.text wanted front.now (R.remaining input.old) (R.remaining input.new) (ending_of result) }
 {
     let mut check = Check::<M>::new(alloc)?;
     go_on(alloc, &mut check, front)?;
     if front.len() < FRONT {
-        return end_of(alloc, &mut check, state);
+        return end_of(alloc, &mut check, wanted);
     }
     let mut room = [0; ROOM];
     for _ in system.forever() {
         if take_some(alloc, &mut check, input, &mut room)? {
-            return end_of(alloc, &mut check, state);
+            return end_of(alloc, &mut check, wanted);
         }
     }
     unreachable!()
@@ -224,35 +228,64 @@ fn go_on<M: Message + Written>(
     }
 }
 
-/// How many entries there were, and the lines of the objects if they are asked for, if the last piece has its end.
+/// What is said of a journal that ended so.
 fn end_of<M: Message + Written>(
     alloc: Global,
     check: &mut Check<M>,
-    state: bool,
-) -> Result<(u64, String), Ending>
+    wanted: Wanted,
+) -> Result<Ending, Ending>
     ensures { (bytes : List ℕ) → IsSoFar M.VERSION M.meaning bytes check.old
-        → Tells M.VERSION M.meaning M.text state bytes (ending_of result) }
+        → Tells M.VERSION M.meaning M.text wanted bytes (ending_of result) }
 {
     if !check.end() {
         return Err(Ending::Torn(check.lines()));
     }
-    let count = check.entries();
-    let objects = state_of(alloc, check, state)?;
-    Ok((count, objects))
+    match wanted {
+        Wanted::Compacted => compact_of(alloc, check),
+        Wanted::Verdict | Wanted::State => verdict_of(alloc, check, wanted),
+    }
 }
 
-/// The lines of the objects, if they are asked for.
+/// A short journal that leaves what a whole and lawful one leaves.
+fn compact_of<M: Message + Written>(alloc: Global, check: &mut Check<M>) -> Result<Ending, Ending>
+    ensures { (bytes : List ℕ) → IsSoFar M.VERSION M.meaning bytes check.old
+        → IsLawfulJournal M.VERSION M.meaning bytes (count_of check.old.checker)
+        → Tells M.VERSION M.meaning M.text wants.Compacted bytes (ending_of result) }
+{
+    match check.restore(1) {
+        Some(restored) => Ok(Ending::Compacted(compacted(alloc, restored)?)),
+        None => Err(Ending::NoMemory),
+    }
+}
+
+/// How many entries a whole and lawful journal has, and the lines of the objects if they are wanted.
+fn verdict_of<M: Message + Written>(
+    alloc: Global,
+    check: &mut Check<M>,
+    wanted: Wanted,
+) -> Result<Ending, Ending>
+    requires { wanted ≢ wants.Compacted }
+    ensures { (bytes : List ℕ) → IsSoFar M.VERSION M.meaning bytes check.old
+        → IsLawfulJournal M.VERSION M.meaning bytes (count_of check.old.checker)
+        → Tells M.VERSION M.meaning M.text wanted bytes (ending_of result) }
+{
+    let count = check.entries();
+    let objects = state_of(alloc, check, wanted)?;
+    Ok(Ending::Lawful(count, objects))
+}
+
+/// The lines of the objects, if they are wanted.
 fn state_of<M: Message + Written>(
     alloc: Global,
     check: &mut Check<M>,
-    state: bool,
+    wanted: Wanted,
 ) -> Result<String, AllocError>
     ensures { IfOk result (λ objects. (bytes : List ℕ)
-        → IsStateOf M.VERSION M.meaning M.text state bytes check.old (string_bytes objects)) }
+        → IsStateOf M.VERSION M.meaning M.text wanted bytes check.old (string_bytes objects)) }
 {
-    if !state {
+    let Wanted::State = wanted else {
         return Ok(String::new(alloc));
-    }
+    };
     match check.restore(1) {
         Some(restored) => state_lines(alloc, restored.board()),
         None => Ok(String::new(alloc)),

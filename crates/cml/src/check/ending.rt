@@ -9,7 +9,7 @@ use std::alloc::{AllocError, AllocFailed};
 use thiserror::Error;
 
 /// How the check of a journal ends. It shows as the line for standard error. Of a lawful or an unlawful journal standard output
-/// says that.
+/// says that, or has the short journal.
 #[derive(Debug, Drop, Error)]
 pub enum Ending {
     /// All entries are lawful. The number says how many they are. The lines of the objects are behind, if they are asked for.
@@ -18,6 +18,9 @@ pub enum Ending {
     /// The entry at this position is the first unlawful one. Behind it are its line, and the right answer to its call.
     #[error("cml: unlawful at {0}: {1}")]
     Unlawful(u64, String, String),
+    /// All entries are lawful, and a short journal was asked for. This is its text.
+    #[error("cml: compacted")]
+    Compacted(String),
     /// This line has a fault.
     #[error("journal: line {0}: {1}")]
     Fault(u64, What),
@@ -27,6 +30,9 @@ pub enum Ending {
     /// The journal begins behind a cut.
     #[error("journal: begins behind a cut")]
     BehindCut,
+    /// The line of this entry of the short journal would be longer than a line may be.
+    #[error("cml: the line of entry {0} of the short journal is too long")]
+    TooLong(u64),
     /// The journal could not be read.
     #[error("cml: read failed")]
     ReadFault,
@@ -52,9 +58,9 @@ impl Ending {
         ensures { result ≡ status_of_check self.now }
     {
         match self {
-            Ending::Lawful(_, _) => 0,
+            Ending::Lawful(_, _) | Ending::Compacted(_) => 0,
             Ending::Unlawful(_, _, _) => 7,
-            Ending::Fault(_, _) | Ending::Torn(_) | Ending::BehindCut => 2,
+            Ending::Fault(_, _) | Ending::Torn(_) | Ending::BehindCut | Ending::TooLong(_) => 2,
             Ending::ReadFault | Ending::WriteFault => 4,
             Ending::NoMemory => 5,
         }
@@ -64,6 +70,9 @@ impl Ending {
     pub(crate) fn is_shown(&self) -> bool
         ensures { result ≡ is_check_shown self.now }
     {
-        !matches!(self, Ending::Lawful(_, _) | Ending::Unlawful(_, _, _))
+        !matches!(
+            self,
+            Ending::Lawful(_, _) | Ending::Compacted(_) | Ending::Unlawful(_, _, _)
+        )
     }
 }

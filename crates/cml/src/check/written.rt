@@ -4,24 +4,25 @@ ghost use Rattle.cml.specs.{IsSilent, IsVerdict, Writes, lines_for};
 
 use crate::check::checking::check_stream;
 use crate::check::ending::Ending;
+use crate::check::wanted::Wanted;
 use cml_grammar::write_whole;
 use std::alloc::{AllocError, Global};
 use std::io::{Read, Write};
 use std::sync::Wait;
 
 /// Checks the journal that the reader gives, and writes that it is lawful, or the first entry that isn't and the right answer to
-/// its call. Behind a lawful journal it writes the lines of the objects, if `state` is set. It waits for the reader.
+/// its call. Of a lawful journal it writes what is wanted. It waits for the reader.
 pub fn check<S: Wait, R: Read, W: Write>(
     system: &S,
     alloc: Global,
     reader: &mut R,
     writer: &mut W,
-    state: bool,
+    wanted: Wanted,
 ) -> Ending
-    ensures verdict { IsVerdict state (R.remaining reader.old) (R.remaining reader.new) result }
+    ensures verdict { IsVerdict wanted (R.remaining reader.old) (R.remaining reader.new) result }
     ensures written { Writes result (W.contents writer.old) (W.contents writer.new) }
 {
-    let ending = check_stream(system, alloc, reader, state);
+    let ending = check_stream(system, alloc, reader, wanted);
     match tell(alloc, writer, &ending) {
         Ok(()) => ending,
         Err(why) => why,
@@ -54,6 +55,7 @@ fn lines_for(alloc: Global, ending: &Ending) -> Result<String, AllocError>
         Ending::Unlawful(at, entry, answer) => {
             write!(lines, "unlawful at {at}: {entry}\nanswer: {answer}\n")?;
         }
+        Ending::Compacted(journal) => lines.push_str(journal)?,
         _ => {}
     }
     Ok(lines)

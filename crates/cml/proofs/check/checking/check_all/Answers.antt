@@ -9,13 +9,13 @@ use Rattle.cml.proofs.check.checking.check_all.Goals as goal
 pub returns-in_err-check : goal.returns-in_err-check
 returns-in_err-check g c =
     let p = err_from_is_err_and c.from_residual.result c.from_residual.ensures.1 in
-    rw (p.1, p.2) (concludes_without g.M.Written.VERSION g.M.Written.meaning g.M.Written.text c.args.state c.args.front.now
+    rw (p.1, p.2) (concludes_without g.M.Written.VERSION g.M.Written.meaning g.M.Written.text c.args.wanted c.args.front.now
     (g.R.Read.remaining c.args.input.now) c.requires)
 
 pub returns-then-front-lt-FRONT : goal.returns-then-front-lt-FRONT
 returns-then-front-lt-FRONT g c =
     let few : length c.args.front.now < 15 = search rules in
-    concludes_short g.M.Written.VERSION g.M.Written.meaning g.M.Written.text c.args.state c.in_ok-check.check c.go_on.new.check
+    concludes_short g.M.Written.VERSION g.M.Written.meaning g.M.Written.text c.args.wanted c.in_ok-check.check c.go_on.new.check
     c.args.front.now (g.R.Read.remaining c.args.input.now)
     (ending_of c.end_of.result) c.requires few c.in_ok-check.ensures c.in_ok-go_on.ensures.taken c.end_of.ensures
 
@@ -23,7 +23,7 @@ pub returns-in_err-go_on : goal.returns-in_err-go_on
 returns-in_err-go_on g c =
     let p = err_from_is_err_and c.from_residual-in_err-go_on.result c.from_residual-in_err-go_on.ensures.1 in
     rw (p.1, p.2)
-    (concludes_in_front g.M.Written.VERSION g.M.Written.meaning g.M.Written.text c.args.state c.in_ok-check.check c.args.front.now
+    (concludes_in_front g.M.Written.VERSION g.M.Written.meaning g.M.Written.text c.args.wanted c.in_ok-check.check c.args.front.now
     (g.R.Read.remaining c.args.input.now) c.in_err-go_on.field-0.0 c.requires c.in_ok-check.ensures c.in_err-go_on.ensures.ended)
 
 pub loop-init : goal.loop-init
@@ -42,7 +42,7 @@ pub returns-in_err-take_some : goal.returns-in_err-take_some
 returns-in_err-take_some g c =
     let p = err_from_is_err_and c.from_residual-in_err-take_some.result c.from_residual-in_err-take_some.ensures.1 in
     let (more, given, ends) = c.in_err-take_some.ensures.ended in
-    rw (p.1, p.2) (concludes_early g.M.Written.VERSION g.M.Written.meaning g.M.Written.text c.args.state c.loop.check
+    rw (p.1, p.2) (concludes_early g.M.Written.VERSION g.M.Written.meaning g.M.Written.text c.args.wanted c.loop.check
     c.args.front.now c.loop.invariant.bytes more
     (g.R.Read.remaining c.args.input.now) (g.R.Read.remaining c.loop.input)
     (g.R.Read.remaining c.take_some.new.input) c.in_err-take_some.field-0.0
@@ -51,7 +51,7 @@ returns-in_err-take_some g c =
 pub returns-then-branch : goal.returns-then-branch
 returns-then-branch g c =
     let (more, given, goes) = c.in_ok-take_some.ensures.taken in
-    concludes_at_end g.M.Written.VERSION g.M.Written.meaning g.M.Written.text c.args.state c.loop.check c.take_some.new.check
+    concludes_at_end g.M.Written.VERSION g.M.Written.meaning g.M.Written.text c.args.wanted c.loop.check c.take_some.new.check
     c.args.front.now c.loop.invariant.bytes more
     (g.R.Read.remaining c.args.input.now) (g.R.Read.remaining c.loop.input) (g.R.Read.remaining c.take_some.new.input)
     (ending_of c.end_of-then-branch.result)

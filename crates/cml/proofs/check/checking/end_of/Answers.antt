@@ -1,11 +1,11 @@
 use Rattle.std.proofs.Common.{rules, subst, sym}
-use Rattle.cml_journal.specs.{IsLawfulJournal}
-use Rattle.cml.proofs.EndingsLemmas.{told_lawful}
+use Rattle.cml.specs.{Tells, ending_of}
 use Rattle.cml.proofs.check.checking.end_of.Goals as goal
 
-pub returns : goal.returns
-returns g c = λ bytes so.
-    told_lawful g.M.Written.VERSION g.M.Written.meaning g.M.Written.text c.args.state bytes c.args.check.now
-    c.entries-count.result c.in_ok-objects.objects
-    (subst (IsLawfulJournal g.M.Written.VERSION g.M.Written.meaning bytes) (sym c.entries-count.ensures)
-    (c.end.ensures.whole bytes so (search rules))) (c.in_ok-objects.ensures bytes) so
+pub returns-in-Compacted : goal.returns-in-Compacted
+returns-in-Compacted g c = λ bytes so.
+    subst (λ asked. Tells g.M.Written.VERSION g.M.Written.meaning g.M.Written.text asked bytes (ending_of c.compact_of.result))
+    (sym c.in-Compacted.is) (c.compact_of.ensures bytes so (c.end.ensures.whole bytes so (search rules)))
+
+pub returns-in-Verdict : goal.returns-in-Verdict
+returns-in-Verdict g c = λ bytes so. c.verdict_of.ensures bytes so (c.end.ensures.whole bytes so (search rules))

@@ -12,9 +12,9 @@ returns-in-Some g c =
     ap (λ (b : Shown g.row.M.Denot). state_lines g.M.Written.text b.history) board in
     IfOk-weaker c.state_lines.result (λ objects. string_bytes objects ≡ state_lines g.M.Written.text c.board.result.now.history)
     (λ objects. (bytes : List ℕ)
-    → IsStateOf g.M.Written.VERSION g.M.Written.meaning g.M.Written.text c.args.state bytes c.args.check.now (string_bytes objects))
+    → IsStateOf g.M.Written.VERSION g.M.Written.meaning g.M.Written.text c.args.wanted bytes c.args.check.now (string_bytes objects))
     (λ objects is bytes. subst (λ asked. IsStateOf g.M.Written.VERSION g.M.Written.meaning g.M.Written.text asked bytes c.args.check.now
-    (string_bytes objects)) (sym c.if-not-state.false)
+    (string_bytes objects)) (sym c.in-State.is)
     (state_restored g.M.Written.VERSION g.M.Written.meaning g.M.Written.text bytes c.args.check.now c.in-Some.restored
     (string_bytes objects) (c.in-Some.ensures.restored bytes) (is ∙ lines)))
     c.state_lines.ensures
