@@ -85,6 +85,7 @@ mod backoff;
 mod bytes;
 mod calls;
 mod checker;
+mod cutting;
 mod entry;
 mod error;
 mod feed;

@@ -2,23 +2,19 @@
 
 use crate::apart::Apart;
 use crate::backoff;
-use crate::entry::{found, Entry};
 use crate::error::Error;
 use crate::feed::Feed;
 use crate::inside::Inside;
-use crate::journal::Journal;
 use crate::lane::Lane;
 use crate::names::{Channel, Name, Named, Target};
 use crate::parker::{Parker, Woken};
 use crate::parkers::Parkers;
-use crate::raw::{self, code, done, written, Handle};
+use crate::raw::{self, code, written, Handle};
 use crate::room::{Bytes, Carries, Numbers, Room};
 use crate::seat::Seat;
 use crate::version;
-use crate::when_full::WhenFull;
 use crate::yields::pass_by_yielding;
 use std::fmt;
-use std::io;
 use std::marker::PhantomData;
 use std::sync::atomic::{AtomicU64, Ordering};
 use std::sync::{Mutex, MutexGuard, PoisonError, TryLockError};
@@ -109,67 +105,6 @@ impl<R: Room> Switchboard<R> {
             number: MADE.fetch_add(1, Ordering::Relaxed),
             kind: PhantomData,
         }
-    }
-
-    /// Says what becomes of a full journal. Until you say it, a call fails with `JournalFull` if the journal has no room for it.
-    ///
-    /// A call that finds the journal full has it cut, and is then made. If nobody takes the entries that it had, the call fails with
-    /// [`NotKept`](Error::NotKept), and the switchboard keeps the entries: the next call has them taken first. A call that was blocked
-    /// before is still answered while the journal has room. [`keep`](Switchboard::keep) hands over what the journal has at the end.
-    ///
-    /// ```
-    /// use seryugo::{Error, Switchboard, WhenFull};
-    ///
-    /// let board = Switchboard::new(1)?.when_full(WhenFull::Drop);
-    /// let mut seat = board.seat()?;
-    /// let mailbox = seat.mailbox::<u64>()?;
-    /// seat.send(mailbox, 5)?;
-    /// assert_eq!(board.cut_at(), 1);
-    ///
-    /// let board = Switchboard::new(1)?.when_full(WhenFull::give(Err));
-    /// let mut seat = board.seat()?;
-    /// let mailbox = seat.mailbox::<u64>()?;
-    /// let refused = seat.send(mailbox, 5).unwrap_err();
-    /// assert_eq!(refused.error, Error::NotKept);
-    /// # Ok::<(), seryugo::Error>(())
-    /// ```
-    pub fn when_full(mut self, when_full: WhenFull<R>) -> Switchboard<R> {
-        self.inside.0.get_mut().unwrap_or_else(PoisonError::into_inner).set_when_full(when_full);
-        self
-    }
-
-    /// Cuts the journal now, and does with its entries what is done with those of a full one. If a full journal refuses calls, this does
-    /// nothing.
-    ///
-    /// ```
-    /// use seryugo::{Switchboard, WhenFull};
-    ///
-    /// let board = Switchboard::new(1_000)?.when_full(WhenFull::Drop);
-    /// board.seat()?.mailbox::<u64>()?;
-    /// assert_eq!(board.cut_at(), 0);
-    /// board.keep()?;
-    /// assert_eq!(board.cut_at(), 1);
-    /// # Ok::<(), seryugo::Error>(())
-    /// ```
-    pub fn keep(&self) -> Result<(), Error> {
-        self.lock().keep()
-    }
-
-    /// Why nobody took the entries of a full journal. It is told once.
-    ///
-    /// ```
-    /// use seryugo::{Error, Switchboard, WhenFull};
-    /// use std::io::ErrorKind;
-    ///
-    /// let board = Switchboard::new(1_000)?.when_full(WhenFull::call(|_| Err(ErrorKind::StorageFull.into())));
-    /// board.seat()?.mailbox::<u64>()?;
-    /// assert_eq!(board.keep(), Err(Error::NotKept));
-    /// assert_eq!(board.keeping_error().map(|error| error.kind()), Some(ErrorKind::StorageFull));
-    /// assert!(board.keeping_error().is_none());
-    /// # Ok::<(), seryugo::Error>(())
-    /// ```
-    pub fn keeping_error(&self) -> Option<io::Error> {
-        self.lock().keeping_error()
     }
 
     /// The number of an object, if this switchboard has it.
@@ -301,138 +236,6 @@ impl<R: Room> Switchboard<R> {
         Ok(Feed::new(self, handle, number, self.name(port)))
     }
 
-    /// Takes memory for so many more entries.
-    ///
-    /// ```
-    /// # let board = seryugo::Switchboard::new(1_000)?;
-    /// board.reserve(1_000)?;
-    /// assert_eq!(board.reserve(usize::MAX), Err(seryugo::Error::NoMemory));
-    /// # Ok::<(), seryugo::Error>(())
-    /// ```
-    pub fn reserve(&self, entries: usize) -> Result<(), Error> {
-        done(unsafe { raw::seryugo_reserve(&mut self.lock().handle, entries) })
-    }
-
-    /// Cuts the journal: what it has is dropped, and it has room for as many entries again. Nothing of what was reserved is lost.
-    ///
-    /// ```
-    /// # let board = seryugo::Switchboard::new(1)?;
-    /// # let mut seat = board.seat()?;
-    /// let mailbox = seat.mailbox::<u64>()?;
-    /// let refused = seat.send(mailbox, 5).unwrap_err();
-    /// assert_eq!(refused.error, seryugo::Error::JournalFull);
-    /// board.cut()?;
-    /// seat.send(mailbox, refused.message)?;
-    /// # Ok::<(), seryugo::Error>(())
-    /// ```
-    pub fn cut(&self) -> Result<(), Error> {
-        done(unsafe { raw::seryugo_cut(&mut self.lock().handle) })
-    }
-
-    /// Cuts the journal, and hands over the entries that it had. What was reserved goes with them.
-    ///
-    /// ```
-    /// # let board = seryugo::Switchboard::new(1_000)?;
-    /// # let mut seat = board.seat()?;
-    /// seat.mailbox::<u64>()?;
-    /// let journal = board.take_journal()?;
-    /// assert_eq!(journal.len(), 1);
-    /// assert_eq!(board.entry(0), None);
-    /// # Ok::<(), seryugo::Error>(())
-    /// ```
-    pub fn take_journal(&self) -> Result<Journal<R>, Error> {
-        self.lock().take_journal(raw::seryugo_take_journal)
-    }
-
-    /// Cuts the journal while lanes and feeds are open, whose rings go on. Nothing of what was reserved is lost. It is never
-    /// refused. What a lane sent is in what was cut away, and then in the journal, in order, each message once.
-    ///
-    /// ```
-    /// # let board = seryugo::Switchboard::new(2)?;
-    /// # let mut seat = board.seat()?;
-    /// let mailbox = seat.mailbox::<u64>()?;
-    /// let mut lane = board.lane(mailbox, 4)?;
-    /// lane.send(5)?;
-    /// lane.drain()?;
-    /// assert_eq!(board.cut(), Err(seryugo::Error::Busy));
-    /// board.cut_open()?;
-    /// lane.send(6)?;
-    /// lane.close()?;
-    /// board.cut()?;
-    /// assert_eq!((seat.recv(mailbox)?, seat.recv(mailbox)?), (5, 6));
-    /// # Ok::<(), seryugo::Error>(())
-    /// ```
-    pub fn cut_open(&self) -> Result<(), Error> {
-        done(unsafe { raw::seryugo_cut_open(&mut self.lock().handle) })
-    }
-
-    /// Cuts the journal as [`cut_open`](Switchboard::cut_open) does, and hands over the entries that it had. What was reserved goes
-    /// with them. Fails only with `NoMemory`, and then nothing is cut.
-    ///
-    /// ```
-    /// # let board = seryugo::Switchboard::new(1_000)?;
-    /// # let mut seat = board.seat()?;
-    /// let mailbox = seat.mailbox::<u64>()?;
-    /// let mut lane = board.lane(mailbox, 4)?;
-    /// lane.send(5)?;
-    /// lane.drain()?;
-    /// assert_eq!(board.take_journal_open()?.len(), 2);
-    /// lane.send(6)?;
-    /// lane.close()?;
-    /// assert_eq!(board.take_journal()?.first(), 2);
-    /// # Ok::<(), seryugo::Error>(())
-    /// ```
-    pub fn take_journal_open(&self) -> Result<Journal<R>, Error> {
-        self.lock().take_journal(raw::seryugo_take_journal_open)
-    }
-
-    /// The journal's entry at this position, counted from 0 since the switchboard was made. It has copies of the messages. If there
-    /// is no memory for them, the program aborts, as if a `Vec` found none.
-    ///
-    /// ```
-    /// # let board = seryugo::Switchboard::new(1_000)?;
-    /// # let mut seat = board.seat()?;
-    /// use seryugo::Call;
-    ///
-    /// let mailbox = seat.mailbox::<String>()?;
-    /// seat.send(mailbox, "hello".to_string())?;
-    /// assert_eq!(board.entry(1).map(|entry| entry.call), Some(Call::Send(0, b"hello".to_vec())));
-    /// assert_eq!(board.entry(2), None);
-    /// # Ok::<(), seryugo::Error>(())
-    /// ```
-    pub fn entry(&self, at: u64) -> Option<Entry<R>> {
-        found(R::entry(&mut self.lock().handle, at))
-    }
-
-    /// How many calls were accepted since the switchboard was made.
-    ///
-    /// ```
-    /// # let board = seryugo::Switchboard::new(1_000)?;
-    /// # let mut seat = board.seat()?;
-    /// seat.mailbox::<u64>()?;
-    /// board.cut()?;
-    /// assert_eq!(board.entries(), 1);
-    /// # Ok::<(), seryugo::Error>(())
-    /// ```
-    pub fn entries(&self) -> u64 {
-        self.count(|room, count| unsafe { raw::seryugo_entries(room, count) })
-    }
-
-    /// How many of them were cut away.
-    ///
-    /// ```
-    /// # let board = seryugo::Switchboard::new(1_000)?;
-    /// # let mut seat = board.seat()?;
-    /// seat.mailbox::<u64>()?;
-    /// assert_eq!(board.cut_at(), 0);
-    /// board.cut()?;
-    /// assert_eq!(board.cut_at(), 1);
-    /// # Ok::<(), seryugo::Error>(())
-    /// ```
-    pub fn cut_at(&self) -> u64 {
-        self.count(|room, count| unsafe { raw::seryugo_cut_at(room, count) })
-    }
-
     /// Makes a call that changes nothing.
     pub(crate) fn with_handle<T>(&self, call: impl FnOnce(&mut Handle) -> T) -> T {
         call(&mut self.lock().handle)
@@ -444,13 +247,18 @@ impl<R: Room> Switchboard<R> {
     }
 
     /// The number that a call writes which no library refuses.
-    fn count(&self, call: impl FnOnce(&mut Handle, &mut u64) -> u32) -> u64 {
+    pub(crate) fn count(&self, call: impl FnOnce(&mut Handle, &mut u64) -> u32) -> u64 {
         self.read(call).unwrap_or_default()
+    }
+
+    /// The room, before any thread has the switchboard.
+    pub(crate) fn inside_mut(&mut self) -> &mut Inside<R> {
+        self.inside.0.get_mut().unwrap_or_else(PoisonError::into_inner)
     }
 
     /// The room. A thread that panicked left it between two calls, where it is whole.
     #[inline]
-    fn lock(&self) -> MutexGuard<'_, Inside<R>> {
+    pub(crate) fn lock(&self) -> MutexGuard<'_, Inside<R>> {
         self.try_lock().unwrap_or_else(|| self.lock_late())
     }
 
