@@ -29,7 +29,7 @@ module _ {M : Type 0} where
     | inr closed ↦ absurd (false≢true (sym isnt ∙ ap (λ k. option_map_or is_port k false) (closed_is_port old name lawful closed)))
   ]
 
-  others_settle : (old : List (Entry M)) (name : ℕ) (value : Option M) → Lawful old → is_a is_port old name ≡ false
+  pub others_settle : (old : List (Entry M)) (name : ℕ) (value : Option M) → Lawful old → is_a is_port old name ≡ false
       → cond (is_a is_variable old name) (held old name) None ≡ value → record (stocked old name) { held = value } ≡ settled old name
   others_settle old name value lawful isnt holds =
       let stream = stock old (source_by name (origin_of old name)) in

@@ -6,3 +6,4 @@ pub mod SettlingLemmas
 pub mod PassingLemmas
 pub mod FillingLemmas
 pub mod StagesLemmas
+pub mod MeasuringLemmas

@@ -195,7 +195,7 @@ module _ {M : Type 0} where
       let next : n + 1 ≡ suc n = omega arith in
       ap (longest_of h source) next ∙ longer_else (longest_of h source n) (owed_of h source n) less
 
-  port_of : (h : List (Entry M)) (n : ℕ) (from : Name) → channel_of h n ≡ Some from
+  pub port_of : (h : List (Entry M)) (n : ℕ) (from : Name) → channel_of h n ≡ Some from
       → (start : ℕ) × (origin_of h n ≡ Some (port from.0 start))
   port_of h n from is = by_origin (origin_of h n) refl
     where
@@ -210,9 +210,9 @@ module _ {M : Type 0} where
       by_origin None e = absurd (none-some from (sym (ap channel_in e) ∙ is))
 
   -- the channel of a port has its place in the list
-  pub channel_within : (h : List (Entry M)) (n : ℕ) (from : Name) (found : List Name) → Lawful h → n < length (made h)
-      → AreSlowest h n found → channel_of h n ≡ Some from → from.0 < length found
-  channel_within h n from found lawful within before is =
+  pub channel_within : (h : List (Entry M)) (n m : ℕ) (from : Name) (found : List Name) → Lawful h → n < length (made h)
+      → AreSlowest h m found → channel_of h n ≡ Some from → from.0 < length found
+  channel_within h n m from found lawful within before is =
       let own = port_of h n from is in
       omega (arith, within, before.all, (port_after h n from.0 own.0 lawful own.1).0)
 

@@ -4,6 +4,7 @@
 mod compacting;
 mod laws;
 mod making;
+mod measuring;
 mod sending;
 mod settling;
 mod slowest;
@@ -11,3 +12,4 @@ mod telling;
 
 pub use compacting::compact;
 pub use laws::same_is_answered_alike;
+pub use measuring::compact_length;
