@@ -3,12 +3,12 @@
 # skips what it has passed on this machine before. Then the built programs are tried from outside, several steps at once: the
 # tables of calls, also with the journal cut behind each line; the guide's code against the sources; each request for memory
 # refused in turn; logs and journals that are cut, which are not to grow; threads that wait for each other; scripts, faults and
-# charts; journals as text; simulated queues; the page of figures, without measuring any; and the libraries for C, which are built,
+# charts; journals as text, also compacted; simulated queues; the page of figures, without measuring any; and the libraries for C, which are built,
 # installed, and used from C, Rust and Python, also by programs that are killed and go on. The last line is `N passed, M failed`.
 cd "$(dirname "$0")/.." || exit 1
 
 # The steps behind `rt ci`, those that take longest first.
-steps='libraries refused program waiting memory cuts calls guide chart journals queueing speed'
+steps='libraries refused program waiting memory compact cuts calls guide chart journals queueing speed'
 
 step() {
     rows=crates/cml_rows/out/cml_rows
@@ -20,7 +20,7 @@ step() {
         refused) sh tests/refused.sh crates/cml_guide/out/cml_guide "$rows" "$cml" "$chart" ;;
         program) sh tests/program.sh "$cml" ;;
         chart) sh tests/chart.sh "$chart" ;;
-        journals) sh tests/journals.sh "$cml" ;;
+        journals | compact) sh "tests/$1.sh" "$cml" ;;
         calls | cuts) sh "tests/$1.sh" "$rows" ;;
         memory) sh tests/memory.sh "$bench" ;;
         waiting) sh tests/waiting.sh "$bench" "$cml" ;;

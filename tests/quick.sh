@@ -30,7 +30,7 @@ step() {
     case $1 in
         cml)
             build_once cml || return
-            sh tests/program.sh "$program" few && sh tests/journals.sh "$program" few
+            sh tests/program.sh "$program" few && sh tests/journals.sh "$program" few && sh tests/compact.sh "$program"
             ;;
         cml_chart) build_once cml_chart && sh tests/chart.sh "$program" ;;
         cml_rows)
