@@ -11,7 +11,8 @@
 #   run      a script by `cml run`: a report of some order of its threads, or the same
 #   threads  the same where threads are refused, and not memory: with no report
 #   chart    a report by `cml_chart`: its chart, or status 5, nothing written and `cml_chart: no memory`
-#   journal  a journal by `cml check`: its verdict, or status 5, nothing written and `cml: no memory`
+#   journal  a journal by `cml check` or `cml compact`: its verdict or its short journal, or status 5, nothing written and
+#            `cml: no memory`
 #
 # The last line is `KIND HOW INPUT: N passed, M failed, K met`: so often a call, or the whole program, told of a refusal.
 work=$1
