@@ -48,7 +48,7 @@ pub struct Seat<'a, R: Room = Bytes> {
     pub(crate) board: &'a Switchboard<R>,
     number: u64,
     pub(crate) parker: &'a Parker,
-    /// Whether a future waits by it, or was forgotten while it waited.
+    /// Whether a future waits by it, or was forgotten while it waited. Or a call that waited is made again, or a sink panicked in it.
     pub(crate) is_parked: bool,
 }
 
@@ -392,7 +392,7 @@ impl<'a, R: Room> Seat<'a, R> {
         self.board.enter_by(self.parker, |room| call(room, seat))
     }
 
-    /// The seat's number, once it may call: a future that was forgotten left it waiting.
+    /// The seat's number, once it may call: a future that was forgotten left it waiting, or a call in which a sink panicked.
     #[inline]
     pub(crate) fn ready(&mut self) -> u64 {
         if self.is_parked {
@@ -401,7 +401,7 @@ impl<'a, R: Room> Seat<'a, R> {
         self.number
     }
 
-    /// Ends the wait of a future.
+    /// Ends the wait of a call or a future.
     #[cold]
     pub(crate) fn withdraw(&mut self) {
         self.is_parked = false;

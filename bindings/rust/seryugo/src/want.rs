@@ -90,7 +90,10 @@ impl<'a, R: Room> Seat<'a, R> {
         let mut code = self.board.ask_by(self.parker, false, |room| want.ask(room, seat, false, &mut slot));
         while code == code::PARKED {
             self.parker.park();
+            // If a sink panics in this call, the seat's next one withdraws it, or the seat's end.
+            self.is_parked = true;
             code = self.board.ask_by(self.parker, true, |room| want.ask(room, seat, true, &mut slot));
+            self.is_parked = false;
         }
         answer::<R>(code, &mut slot)
     }
@@ -112,11 +115,14 @@ impl<'a, R: Room> Seat<'a, R> {
         let mut is_last = deadline <= Instant::now();
         loop {
             let ask = |room: &mut Handle| want.ask(room, seat, is_again, &mut slot);
+            // As in `wait`.
+            self.is_parked = is_again;
             let code = if is_last {
                 self.board.ask_at_last_by(self.parker, seat, is_again, ask)
             } else {
                 self.board.ask_by(self.parker, is_again, ask)
             };
+            self.is_parked = false;
             if code != code::PARKED {
                 return answer::<R>(code, &mut slot);
             }

@@ -4,11 +4,13 @@ use seryugo::{Bytes, Error, Numbers, Room, Switchboard, WhenFull};
 use std::fs::File;
 use std::future::Future;
 use std::io::{self, ErrorKind, Read, Seek};
+use std::panic::{self, AssertUnwindSafe};
 use std::pin::pin;
 use std::sync::atomic::{AtomicU64, Ordering};
 use std::sync::{mpsc, Arc, Mutex};
 use std::task::{Context, Poll, Waker};
 use std::thread;
+use std::time::Duration;
 
 type Text = Arc<Mutex<Vec<u8>>>;
 
@@ -156,6 +158,53 @@ fn a_sink_that_panics_loses_nothing() {
     seat.send(mailbox, 5).unwrap();
     board.keep().unwrap();
     assert_eq!(entries_of::<Numbers>(&text.lock().unwrap()), 2);
+}
+
+#[test]
+fn a_sink_that_panics_in_a_call_that_waits_hands_on_its_wake() {
+    let board = Switchboard::of_numbers(4).unwrap().when_full(WhenFull::call(|_| {
+        assert_ne!(thread::current().name(), Some("ben"), "the sink panics in one thread");
+        Err(ErrorKind::StorageFull.into())
+    }));
+    let (mut ann, mut ben, mut carl) = (board.seat().unwrap(), board.seat().unwrap(), board.seat().unwrap());
+    let mailbox = ann.mailbox::<u64>().unwrap();
+    assert_eq!(board.keep(), Err(Error::NotKept));
+    let mut context = Context::from_waker(Waker::noop());
+    thread::scope(|scope| {
+        let waits = thread::Builder::new().name("ben".to_string());
+        let waits = waits.spawn_scoped(scope, || {
+            let panicked = panic::catch_unwind(AssertUnwindSafe(|| ben.recv(mailbox))).is_err();
+            assert!(panicked);
+            drop(ben);
+        });
+        thread::sleep(Duration::from_millis(200));
+        let mut received = pin!(carl.recv_async(mailbox));
+        assert_eq!(received.as_mut().poll(&mut context), Poll::Pending);
+        ann.send(mailbox, 5).unwrap();
+        waits.unwrap().join().unwrap();
+        assert_eq!(received.as_mut().poll(&mut context), Poll::Ready(Ok(5)));
+    });
+}
+
+#[test]
+fn a_seat_goes_on_behind_a_call_that_waited_and_whose_sink_panicked() {
+    let calls = AtomicU64::new(0);
+    let board = Switchboard::of_numbers(1).unwrap().when_full(WhenFull::call(move |_| {
+        assert_ne!(calls.fetch_add(1, Ordering::Relaxed), 1, "the second time it panics");
+        Ok(())
+    }));
+    let (mut ann, mut ben) = (board.seat().unwrap(), board.seat().unwrap());
+    let mailbox = ann.mailbox::<u64>().unwrap();
+    board.keep().unwrap();
+    thread::scope(|scope| {
+        let waits = scope.spawn(move || {
+            let panicked = panic::catch_unwind(AssertUnwindSafe(|| ben.recv(mailbox))).is_err();
+            (panicked, ben.recv(mailbox))
+        });
+        thread::sleep(Duration::from_millis(50));
+        ann.send(mailbox, 5).unwrap();
+        assert_eq!(waits.join().unwrap(), (true, Ok(5)));
+    });
 }
 
 #[test]
