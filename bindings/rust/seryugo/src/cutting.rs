@@ -149,6 +149,8 @@ impl<R: Room> Switchboard<R> {
     /// [`NotKept`](Error::NotKept), and the switchboard keeps the entries: the next call has them taken first. A call that was blocked
     /// before is still answered while the journal has room. [`keep`](Switchboard::keep) hands over what the journal has at the end.
     ///
+    /// If the switchboard keeps entries as you say it anew, they go to the new sink. [`Refuse`](WhenFull::Refuse) drops them.
+    ///
     /// ```
     /// use seryugo::{Error, Switchboard, WhenFull};
     ///

@@ -70,7 +70,8 @@ impl<R: Room> Inside<R> {
 
     /// From now on this is what becomes of a full journal.
     pub fn set_when_full(&mut self, when_full: WhenFull<R>) {
-        self.keeper = Keeper::new(when_full);
+        let kept = self.keeper.take().and_then(Keeper::into_kept);
+        self.keeper = Keeper::new(when_full, kept);
         self.spare = if self.keeper.is_some() { 0 } else { u64::MAX };
     }
 

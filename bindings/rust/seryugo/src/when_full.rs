@@ -127,13 +127,18 @@ pub(crate) struct Keeper<R: Room> {
 }
 
 impl<R: Room> Keeper<R> {
-    /// `None` if a full journal refuses calls.
-    pub fn new(when_full: WhenFull<R>) -> Option<Keeper<R>> {
-        (!matches!(when_full, WhenFull::Refuse)).then(|| Keeper {
+    /// It hands over first what another has kept. `None` if a full journal refuses calls.
+    pub fn new(when_full: WhenFull<R>, kept: Option<Journal<R>>) -> Option<Keeper<R>> {
+        (!matches!(when_full, WhenFull::Refuse)).then_some(Keeper {
             when_full,
-            kept: None,
+            kept,
             error: None,
         })
+    }
+
+    /// The entries that it keeps.
+    pub fn into_kept(self) -> Option<Journal<R>> {
+        self.kept
     }
 
     /// Cuts the journal of a room, and does with its entries what is to be done with them. If that fails, it keeps them.

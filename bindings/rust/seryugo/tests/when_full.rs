@@ -144,6 +144,18 @@ fn a_call_that_waits_is_answered_while_nobody_takes_the_entries() {
 }
 
 #[test]
+fn what_one_sink_refused_goes_to_the_next() {
+    let board = Switchboard::of_numbers(5).unwrap().when_full(WhenFull::call(|_| Err(ErrorKind::StorageFull.into())));
+    board.seat().unwrap().mailbox::<u64>().unwrap();
+    assert_eq!(board.keep(), Err(Error::NotKept));
+    let (sink, text) = text_sink();
+    let board = board.when_full(sink);
+    board.seat().unwrap().mailbox::<u64>().unwrap();
+    board.keep().unwrap();
+    assert_eq!(entries_of::<Numbers>(&text.lock().unwrap()), 2);
+}
+
+#[test]
 fn a_sink_that_panics_loses_nothing() {
     let text = Text::default();
     let (kept, calls) = (text.clone(), AtomicU64::new(0));
