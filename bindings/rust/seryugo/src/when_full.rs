@@ -112,7 +112,8 @@ fn append<R: Room>(file: &mut File, journal: &Journal<R>) -> io::Result<()> {
     let end = file.seek(SeekFrom::End(0))?;
     let written = journal.write_to(file).and_then(|()| file.sync_data());
     if written.is_err() {
-        file.set_len(end)?;
+        // The caller is told why the entries weren't written, also if this fails.
+        let _ = file.set_len(end);
     }
     written
 }

@@ -262,6 +262,16 @@ fn a_journal_is_written_to_a_file_and_goes_on_from_it() {
     assert_eq!(board.owed(board.mailbox::<u64>(0).unwrap()), Ok(10));
 }
 
+#[cfg(target_os = "linux")]
+#[test]
+fn a_full_disk_is_told_as_such() {
+    let file = File::options().write(true).open("/dev/full").unwrap();
+    let board = Switchboard::of_numbers(1).unwrap().when_full(WhenFull::file(file));
+    board.seat().unwrap().mailbox::<u64>().unwrap();
+    assert_eq!(board.keep(), Err(Error::NotKept));
+    assert_eq!(board.keeping_error().map(|error| error.kind()), Some(ErrorKind::StorageFull));
+}
+
 #[test]
 fn a_switchboard_refuses_again_if_it_is_to() {
     let board = Switchboard::of_numbers(1).unwrap().when_full(WhenFull::Drop).when_full(WhenFull::Refuse);
