@@ -147,7 +147,8 @@ impl<R: Room> Switchboard<R> {
     ///
     /// A call that finds the journal full has it cut, and is then made. If nobody takes the entries that it had, the call fails with
     /// [`NotKept`](Error::NotKept), and the switchboard keeps the entries: the next call has them taken first. A call that was blocked
-    /// before is still answered while the journal has room. [`keep`](Switchboard::keep) hands over what the journal has at the end.
+    /// before is still answered while the journal has room, and then fails with `NotKept` too. [`keep`](Switchboard::keep) hands over
+    /// what the journal has at the end.
     ///
     /// If the switchboard keeps entries as you say it anew, they go to the new sink. [`Refuse`](WhenFull::Refuse) drops them.
     ///

@@ -77,7 +77,7 @@ impl Error {
             6 => Error::Busy,
             7 => Error::NoSuch,
             8 => Error::WrongKind,
-            9 => Error::JournalFull,
+            code::JOURNAL_FULL => Error::JournalFull,
             10 => Error::Stalled,
             11 => Error::NoMemory,
             12 => Error::Unseen,

@@ -197,16 +197,20 @@ impl<R: Room> Inside<R> {
     }
 
     /// Makes a call that may park its seat, or that of a parked seat again. A parked seat's call was taken before, so it is made even if
-    /// the entries of the last full journal were not.
+    /// the entries of the last full journal were not, while the journal has room.
     #[inline]
     pub fn ask(&mut self, is_again: bool, call: impl FnOnce(&mut Handle) -> u32) -> u32 {
-        if !self.makes_room() && !is_again {
+        let has_room = self.makes_room();
+        if !has_room && !is_again {
             return code::NOT_KEPT;
         }
         self.calls += 1;
         let code = call(&mut self.handle);
         self.parked = (self.parked + u64::from(code == code::PARKED)).saturating_sub(u64::from(is_again));
-        code
+        match code {
+            code::JOURNAL_FULL if !has_room => code::NOT_KEPT,
+            _ => code,
+        }
     }
 
     /// Withdraws the call of a seat, if it is parked.

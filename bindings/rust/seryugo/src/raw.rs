@@ -13,6 +13,7 @@ pub mod code {
     pub const PUT: u32 = 2;
     pub const CLOSED: u32 = 3;
     pub const PARKED: u32 = 4;
+    pub const JOURNAL_FULL: u32 = 9;
     pub const NO_MEMORY: u32 = 11;
     pub const UNLAWFUL: u32 = 17;
     pub const FAULT: u32 = 18;

@@ -6,7 +6,7 @@ use std::future::Future;
 use std::io::{self, ErrorKind, Read, Seek};
 use std::panic::{self, AssertUnwindSafe};
 use std::pin::pin;
-use std::sync::atomic::{AtomicU64, Ordering};
+use std::sync::atomic::{AtomicBool, AtomicU64, Ordering};
 use std::sync::{mpsc, Arc, Mutex};
 use std::task::{Context, Poll, Waker};
 use std::thread;
@@ -19,6 +19,14 @@ fn text_sink<R: Room>() -> (WhenFull<R>, Text) {
     let text = Text::default();
     let kept = text.clone();
     (WhenFull::call(move |journal| journal.write_to(&mut *kept.lock().unwrap())), text)
+}
+
+/// Fails while the disk is full.
+fn disk(is_full: &AtomicBool) -> io::Result<()> {
+    match is_full.load(Ordering::Relaxed) {
+        true => Err(ErrorKind::StorageFull.into()),
+        false => Ok(()),
+    }
 }
 
 /// How many entries a whole, lawful journal has.
@@ -153,6 +161,24 @@ fn what_one_sink_refused_goes_to_the_next() {
     board.seat().unwrap().mailbox::<u64>().unwrap();
     board.keep().unwrap();
     assert_eq!(entries_of::<Numbers>(&text.lock().unwrap()), 2);
+}
+
+#[test]
+fn a_call_that_waits_fails_with_not_kept_once_the_journal_has_no_room() {
+    let fills = Arc::new(AtomicBool::new(false));
+    let is_full = fills.clone();
+    let board = Switchboard::of_numbers(1).unwrap().when_full(WhenFull::call(move |_| disk(&is_full)));
+    let (mut ann, mut ben, mut carl) = (board.seat().unwrap(), board.seat().unwrap(), board.seat().unwrap());
+    let (mailbox, other) = (ann.mailbox::<u64>().unwrap(), ann.mailbox::<u64>().unwrap());
+    board.keep().unwrap();
+    fills.store(true, Ordering::Relaxed);
+    let mut context = Context::from_waker(Waker::noop());
+    let (mut received, mut refused) = (pin!(ben.recv_async(mailbox)), pin!(carl.recv_async(other)));
+    assert_eq!(received.as_mut().poll(&mut context), Poll::Pending);
+    assert_eq!(refused.as_mut().poll(&mut context), Poll::Pending);
+    ann.send(mailbox, 5).unwrap();
+    assert_eq!(received.as_mut().poll(&mut context), Poll::Ready(Ok(5)));
+    assert_eq!(refused.as_mut().poll(&mut context), Poll::Ready(Err(Error::NotKept)));
 }
 
 #[test]
