@@ -222,9 +222,20 @@ impl<R: Room> Inside<R> {
     /// Moves what is seen of an open lane into the journal, up to the first message that is refused.
     pub fn drain(&mut self, lane: u64) -> Result<u64, Error> {
         let count = self.move_seen(|room, count| unsafe { raw::seryugo_lane_drain(room, lane, count) })?;
+        self.note_moved(lane, count);
+        Ok(count)
+    }
+
+    /// The same while nobody takes the entries of the last full journal. The next call still has them taken first.
+    fn drain_unkept(&mut self, lane: u64) -> Result<u64, Error> {
+        let count = written(|count| unsafe { raw::seryugo_lane_drain(&mut self.handle, lane, count) })?;
+        self.note_moved(lane, count);
+        Ok(count)
+    }
+
+    fn note_moved(&mut self, lane: u64, count: u64) {
         let moved = self.moved.entry(lane).or_default();
         *moved = moved.saturating_add(count);
-        Ok(count)
     }
 
     /// Receives what a feed is owed, up to the first message that is refused.
@@ -277,7 +288,9 @@ impl<R: Room> Inside<R> {
     /// Moves what it can of an open lane on which so many messages were sent, and closes the lane: how many are lost.
     pub fn end_lane(&mut self, lane: u64, sent: u64) -> u64 {
         // Messages that are refused are lost.
-        let _ = self.drain_all(lane);
+        if self.drain_all(lane) == Err(Error::NotKept) {
+            while self.drain_unkept(lane).is_ok_and(|count| count != 0) {}
+        }
         unsafe { raw::seryugo_lane_abandon(&mut self.handle, lane) };
         let lost = sent.saturating_sub(self.moved.remove(&lane).unwrap_or_default());
         self.lost = self.lost.saturating_add(lost);

@@ -101,6 +101,30 @@ fn a_drain_goes_on_behind_a_full_journal() {
 }
 
 #[test]
+fn a_dropped_lane_moves_what_the_journal_has_room_for_while_nobody_takes_the_entries() {
+    let (fills, text) = (Arc::new(AtomicBool::new(false)), Text::default());
+    let (is_full, kept) = (fills.clone(), text.clone());
+    let board = Switchboard::of_numbers(3).unwrap().when_full(WhenFull::call(move |journal| {
+        disk(&is_full)?;
+        journal.write_to(&mut *kept.lock().unwrap())
+    }));
+    let mailbox = board.seat().unwrap().mailbox::<u64>().unwrap();
+    let mut lane = board.lane(mailbox, 8).unwrap();
+    lane.send(5).unwrap();
+    assert_eq!(lane.drain(), Ok(1));
+    fills.store(true, Ordering::Relaxed);
+    assert_eq!(board.keep(), Err(Error::NotKept));
+    for number in 6..10 {
+        lane.send(number).unwrap();
+    }
+    drop(lane);
+    assert_eq!((board.lost(), board.owed(mailbox)), (1, Ok(4)));
+    fills.store(false, Ordering::Relaxed);
+    board.keep().unwrap();
+    assert_eq!(entries_of::<Numbers>(&text.lock().unwrap()), 5);
+}
+
+#[test]
 fn a_sink_that_fails_refuses_calls_and_loses_nothing() {
     let text = Text::default();
     let (kept, calls) = (text.clone(), AtomicU64::new(0));
