@@ -3,9 +3,13 @@
 from __future__ import annotations
 
 import os
-from typing import BinaryIO, Callable, Optional
+from typing import TYPE_CHECKING, BinaryIO, Callable, Optional
 
+from . import _library as library
 from .journal import Journal
+
+if TYPE_CHECKING:
+    from ._room import Room
 
 # What is called with the entries of a full journal. If it raises an exception, they are kept.
 Sink = Callable[[Journal], object]
@@ -17,21 +21,23 @@ class Keeper:
     Its caller has the room's lock.
     """
 
-    def __init__(self, sink: Sink, take: Callable[[], Journal]) -> None:
+    def __init__(self, sink: Sink) -> None:
         self._sink = sink
-        self._take = take
         self._kept: Optional[Journal] = None
 
-    def cut(self) -> None:
-        """Cut the journal, and hand its entries over, behind those that are kept."""
+    def cut(self, room: Room) -> None:
+        """Cut a room's journal, and hand its entries over, behind those that are kept."""
         self.hand_over()
-        self._kept = self._take()
+        # A signal's handler may raise an exception as soon as they are taken. Then they are here.
+        self._kept = Journal(room.codecs)
+        self._kept._take(room.handle, library.take_journal_open)
         self.hand_over()
 
     def hand_over(self) -> None:
-        """Hand over the entries that are kept."""
+        """Hand over the entries that are kept, if there are any."""
         if self._kept is not None:
-            self._sink(self._kept)
+            if len(self._kept) > 0:
+                self._sink(self._kept)
             self._kept = None
 
 

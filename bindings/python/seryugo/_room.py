@@ -102,7 +102,7 @@ class Room:
                     self.keeper.hand_over()
                 code = call(self.handle, *arguments)
                 if code == _FULL and self.keeper:
-                    self.keeper.cut()
+                    self.keeper.cut(self)
                     code = call(self.handle, *arguments)
                 if self._parked:
                     self._wake_next()
@@ -122,7 +122,7 @@ class Room:
                     self.keeper.hand_over()
                 code = call(self.handle, *arguments, byref(name))
                 if code == _FULL and self.keeper:
-                    self.keeper.cut()
+                    self.keeper.cut(self)
                     code = call(self.handle, *arguments, byref(name))
                 if code == DONE:
                     self.codecs[name.value] = codec
@@ -145,7 +145,7 @@ class Room:
                     self.keeper.hand_over()
                 code = call(self.handle, *arguments, self._at_message)
                 if code == _FULL and self.keeper:
-                    self.keeper.cut()
+                    self.keeper.cut(self)
                     code = call(self.handle, *arguments, self._at_message)
                 data = library.taken_over(self._message) if code == DONE else b""
                 if self._parked:
@@ -169,7 +169,7 @@ class Room:
                 self.keeper.hand_over()
             code = call(self.handle, *arguments, is_again, self._at_message)
             if code == _FULL and self.keeper:
-                self.keeper.cut()
+                self.keeper.cut(self)
                 # The refusal has ended the seat's wait.
                 code = call(self.handle, *arguments, FIRST, self._at_message)
             data = library.taken_over(self._message) if code == DONE else b""

@@ -7,7 +7,7 @@ import threading
 import weakref
 from ctypes import byref, c_uint64
 from dataclasses import dataclass
-from typing import Any, Dict, Iterator, Optional
+from typing import Any, Callable, Dict, Iterator, Optional
 
 from . import _library as library
 from . import errors
@@ -98,21 +98,25 @@ class Journal:
     its first entry, counted since the switchboard was made.
     """
 
-    def __init__(
-        self, handle: library.Handle, start: int, count: int, codecs: Dict[int, Codec[Any]]
-    ) -> None:
-        weakref.finalize(self, library.close, handle).atexit = False
-        self.start = start
+    def __init__(self, codecs: Dict[int, Codec[Any]]) -> None:
+        """Make one without entries. `_take` gives it some."""
+        handle = library.Handle()
+        weakref.finalize(self, _close, handle).atexit = False
         self._handle = byref(handle)
-        self._count = count
+        self._start = c_uint64()
+        self._count = c_uint64()
         self._codecs = codecs
         self._lock = threading.Lock()
 
+    @property
+    def start(self) -> int:
+        return self._start.value
+
     def __len__(self) -> int:
-        return self._count
+        return self._count.value
 
     def __iter__(self) -> Iterator[Entry]:
-        return (self._entry(place) for place in range(self._count))
+        return (self._entry(place) for place in range(len(self)))
 
     def text(self) -> bytes:
         """Return the entries as text: one piece of a journal, which `cml check` reads.
@@ -128,6 +132,16 @@ class Journal:
             raise errors.of_code(code)
         return library.taken_over(text)
 
+    def _take(self, room: Any, take: Callable[..., int]) -> None:
+        """Take the entries of a room's journal by this call, with the room's lock.
+
+        The library writes here what it takes, before any signal's handler can run.
+        """
+        library.cut_at(room, byref(self._start))
+        code = take(room, self._handle, byref(self._count))
+        if code != DONE:
+            raise errors.of_code(code)
+
     def _entry(self, place: int) -> Entry:
         found = library.Entry()
         with self._lock:
@@ -135,6 +149,12 @@ class Journal:
         if code != DONE:
             raise errors.of_code(code)
         return entry_of(found, self._codecs)
+
+
+def _close(handle: library.Handle) -> None:
+    """Close a handle, if it was opened."""
+    if handle.at:
+        library.close(handle)
 
 
 class Checker:

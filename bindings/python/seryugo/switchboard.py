@@ -104,7 +104,7 @@ class Switchboard:
         """Cut the journal now, and hand its entries to `when_full`. Without one do nothing."""
         keeper = self._room.keeper
         if keeper:
-            self._room.within(keeper.cut)
+            self._room.within(lambda: keeper.cut(self._room))
 
     def cut(self) -> None:
         """Cut the journal: drop its entries, so that it takes as many again.
@@ -203,9 +203,8 @@ class Switchboard:
         return code == DONE
 
     def _keep_by(self, sink: Optional[Sink]) -> None:
-        room = self._room
         if sink is not None:
-            room.keeper = Keeper(sink, lambda: _taken(room, library.take_journal_open))
+            self._room.keeper = Keeper(sink)
 
     def _taken(self, take: Callable[..., int]) -> Journal:
         room = self._room
@@ -213,7 +212,9 @@ class Switchboard:
         def taken() -> Journal:
             if room.keeper:
                 room.keeper.hand_over()
-            return _taken(room, take)
+            journal = Journal(room.codecs)
+            journal._take(room.handle, take)
+            return journal
 
         return room.within(taken)
 
@@ -231,16 +232,6 @@ class Switchboard:
 
     def _name(self, named: Object[Any]) -> c_uint64:
         return name_in(self._room, named)
-
-
-def _taken(room: Room, take: Callable[..., int]) -> Journal:
-    """Cut the journal of a room whose lock the caller has, and return its entries."""
-    handle, start, count = library.Handle(), c_uint64(), c_uint64()
-    library.cut_at(room.handle, byref(start))
-    code = take(room.handle, byref(handle), byref(count))
-    if code != DONE:
-        raise errors.of_code(code)
-    return Journal(handle, start.value, count.value, room.codecs)
 
 
 def _bounded(limit: int) -> int:

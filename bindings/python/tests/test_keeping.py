@@ -3,8 +3,10 @@
 import tempfile
 import threading
 import unittest
+import weakref
+from unittest import mock
 
-from seryugo import JournalFull, Switchboard, append_to, drop_entries
+from seryugo import JournalFull, Switchboard, _library, append_to, drop_entries
 
 
 class Sink:
@@ -102,6 +104,39 @@ class Keeping(unittest.TestCase):
         journal = board.take_journal()
         self.assertEqual((journal.start, len(journal)), (1, 1))
         self.assertEqual(self.sink.entries(), 1)
+
+    def test_ctrl_c_as_entries_are_taken_loses_none(self):
+        board = Switchboard(1, when_full=self.sink)
+        take = _library.take_journal_open
+
+        def interrupted(*arguments):
+            take(*arguments)
+            raise KeyboardInterrupt
+
+        with board.seat() as seat:
+            mailbox = seat.mailbox(int)
+            with mock.patch.object(_library, "take_journal_open", interrupted):
+                with self.assertRaises(KeyboardInterrupt):
+                    seat.send(mailbox, 5)
+            seat.send(mailbox, 6)
+        board.keep()
+        self.assertEqual(self.sink.entries(), 2)
+
+    def test_no_empty_journal_is_handed_over(self):
+        lengths = []
+        board = Switchboard(3, when_full=lambda journal: lengths.append(len(journal)))
+        board.keep()
+        with board.seat() as seat:
+            seat.mailbox(int)
+        board.keep()
+        board.keep()
+        self.assertEqual(lengths, [1])
+
+    def test_a_switchboard_that_is_dropped_is_freed_at_once(self):
+        board = Switchboard(3, when_full=drop_entries)
+        room = weakref.ref(board._room)
+        del board
+        self.assertIsNone(room())
 
     def test_a_file_is_gone_on_from(self):
         with tempfile.TemporaryFile() as file:
