@@ -157,6 +157,15 @@ class Room:
             self._let_dropped_leave()
         return code, data
 
+    def look(self, call: Callable[..., int], *arguments: Any) -> Tuple[int, bytes]:
+        """Make a call that changes nothing, and if it is done hands a message over."""
+
+        def looked() -> Tuple[int, bytes]:
+            code = call(self.handle, *arguments, self._at_message)
+            return code, library.taken_over(self._message) if code == DONE else b""
+
+        return self.within(looked)
+
     def ask(
         self, seat: int, is_again: c_bool, call: Callable[..., int], arguments: Tuple[Any, ...]
     ) -> Tuple[int, bytes]:
@@ -182,6 +191,20 @@ class Room:
         if self._dropped:
             self._let_dropped_leave()
         return code, data
+
+    def leave(self, seat: c_uint64) -> int:
+        """Let a seat leave. This has no entry in the journal, so that it hands none over."""
+
+        def left() -> int:
+            code = calls.leave(self.handle, seat)
+            if self._parked:
+                self._wake_next()
+            return code
+
+        code = self.within(left)
+        if self._dropped:
+            self._let_dropped_leave()
+        return code
 
     def give_up(self, seat: int) -> None:
         """Withdraw a seat's call, and hand on what the seat was woken for."""

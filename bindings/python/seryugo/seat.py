@@ -60,7 +60,7 @@ class Seat:
         if self._has_left:
             return
         try:
-            code = self._room.call(calls.leave, self._seat)
+            code = self._room.leave(self._seat)
         except BaseException:
             # Ctrl-C may have come before the seat left.
             self._has_left = True

@@ -188,7 +188,7 @@ class Switchboard:
 
     def held(self, variable: Variable[T]) -> Optional[T]:
         """Return what a variable holds, or `None` if it is empty."""
-        code, data = self._room.poll(library.held, self._name(variable))
+        code, data = self._room.look(library.held, self._name(variable))
         if code == NOTHING:
             return None
         if code != DONE:

@@ -91,6 +91,16 @@ class Keeping(unittest.TestCase):
         board.keep()
         self.assertEqual(self.sink.entries(), 5)
 
+    def test_calls_without_an_entry_hand_nothing_over(self):
+        board = Switchboard(1, when_full=self.sink)
+        with board.seat() as seat:
+            variable = seat.mvar(int, 5)
+            self.sink.failures = 3
+            with self.assertRaises(OSError):
+                seat.put(variable, 6)
+            self.assertEqual(board.held(variable), 5)
+        self.assertEqual(self.sink.failures, 2)
+
     def test_what_is_kept_goes_before_what_is_taken(self):
         board = Switchboard(1, when_full=self.sink)
         with board.seat() as seat:
