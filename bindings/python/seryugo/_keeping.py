@@ -2,6 +2,7 @@
 
 from __future__ import annotations
 
+import contextlib
 import os
 from typing import TYPE_CHECKING, BinaryIO, Callable, Optional
 
@@ -58,7 +59,9 @@ def append_to(file: BinaryIO) -> Sink:
             _write_all(number, journal.text())
             os.fsync(number)
         except BaseException:
-            os.ftruncate(number, end)
+            # The caller is told why the entries weren't written, also if this fails.
+            with contextlib.suppress(OSError):
+                os.ftruncate(number, end)
             raise
 
     return append

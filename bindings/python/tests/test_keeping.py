@@ -1,5 +1,7 @@
 """Full journals that a switchboard cuts by itself."""
 
+import errno
+import os
 import tempfile
 import threading
 import unittest
@@ -100,6 +102,16 @@ class Keeping(unittest.TestCase):
                 seat.put(variable, 6)
             self.assertEqual(board.held(variable), 5)
         self.assertEqual(self.sink.failures, 2)
+
+    @unittest.skipUnless(os.path.exists("/dev/full"), "there is no full device")
+    def test_a_full_disk_is_told_as_such(self):
+        with open("/dev/full", "wb", buffering=0) as file:
+            board = Switchboard(1, when_full=append_to(file))
+            with board.seat() as seat:
+                seat.mailbox(int)
+            with self.assertRaises(OSError) as refused:
+                board.keep()
+        self.assertEqual(refused.exception.errno, errno.ENOSPC)
 
     def test_what_is_kept_goes_before_what_is_taken(self):
         board = Switchboard(1, when_full=self.sink)
