@@ -49,7 +49,8 @@ def drop_entries(journal: Journal) -> None:
 def append_to(file: BinaryIO) -> Sink:
     """Return a sink that appends entries to a file as text, and syncs the file.
 
-    If that fails, the file ends where it ended before.
+    If that fails, the file ends where it ended before. A message of 371,000 bytes or more may be
+    `TooLong` to be written: then each call from there on fails.
     """
 
     def append(journal: Journal) -> None:

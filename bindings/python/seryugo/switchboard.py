@@ -32,6 +32,9 @@ class Switchboard:
     `when_full` with the entries that it had, under the lock, and is then made. If that raises an
     exception, the call fails with it. The switchboard keeps the entries, and the next call hands
     them over first.
+
+    `when_full` must not call the switchboard: it would wait for ever. If Ctrl-C comes just as it
+    returns, it may be called with the same journal once more, which has the same `start`.
     """
 
     def __init__(self, limit: int = 65_536, when_full: Optional[Sink] = None) -> None:

@@ -77,7 +77,10 @@ impl<R: Room> Switchboard<R> {
     }
 
     /// Cuts the journal as [`cut_open`](Switchboard::cut_open) does, and hands over the entries that it had. What was reserved goes
-    /// with them. Fails only with `NoMemory`, and then nothing is cut.
+    /// with them.
+    ///
+    /// Errors: `NoMemory`. `NotKept`: the switchboard has older entries, which nobody takes ([`when_full`](Switchboard::when_full)).
+    /// Then nothing is cut.
     ///
     /// ```
     /// # let board = seryugo::Switchboard::new(1_000)?;

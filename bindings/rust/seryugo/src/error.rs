@@ -38,8 +38,8 @@ pub enum Error {
     WrongKind,
     /// The journal has as many entries since the last cut as its limit says.
     JournalFull,
-    /// The journal was full, and nobody took the entries that it had: [`Switchboard::keeping_error`](crate::Switchboard::keeping_error)
-    /// says why. The switchboard keeps them.
+    /// Nobody took entries that were cut from the journal: [`Switchboard::keeping_error`](crate::Switchboard::keeping_error) says why.
+    /// The switchboard keeps them.
     NotKept,
     /// The call would wait, and no present seat or open lane could ever answer it: a deadlock.
     Stalled,
@@ -118,7 +118,7 @@ impl fmt::Display for Error {
             Error::NoSuch => "this switchboard has nothing of this name or number",
             Error::WrongKind => "the object can't take this call: its kind is another, or a feed receives from it",
             Error::JournalFull => "the journal is full until it is cut or taken",
-            Error::NotKept => "the journal is full, and nobody took its entries",
+            Error::NotKept => "nobody took the entries that were cut from the journal",
             Error::Stalled => "no seat and no lane is left that could answer this call",
             Error::NoMemory => "there is no memory for this call",
             Error::Unseen => "not all messages that were sent on the lane were seen",

@@ -196,8 +196,8 @@ impl<R: Room> Inside<R> {
         }
     }
 
-    /// Makes a call that may park its seat, or that of a parked seat again. A parked seat's call was taken before, so it is made even if
-    /// the entries of the last full journal were not, while the journal has room.
+    /// Makes a call that may park its seat, or that of a parked seat again. A parked seat's call was taken before. So while the journal
+    /// has room it is made, even if nobody took the entries of the last full one.
     #[inline]
     pub fn ask(&mut self, is_again: bool, call: impl FnOnce(&mut Handle) -> u32) -> u32 {
         let has_room = self.makes_room();

@@ -119,7 +119,8 @@ impl<'a, R: Room, T> Lane<'a, R, T> {
     /// Moves all that was sent into the journal, and closes the lane. If a message is refused, the lane comes back to be closed
     /// again or abandoned. The messages before it have moved.
     ///
-    /// Errors: `NoMemory`, or `JournalFull`. Cut a full journal by [`cut_open`](Switchboard::cut_open), and close the lane again.
+    /// Errors: `NoMemory`, `NotKept`, or `JournalFull`. Cut a full journal by [`cut_open`](Switchboard::cut_open), and close the lane
+    /// again.
     ///
     /// ```
     /// use seryugo::{Error, Switchboard};

@@ -60,7 +60,8 @@ impl<R: Room> WhenFull<R> {
         WhenFull::Call(Box::new(sink))
     }
 
-    /// Gives the entries away, such as to a thread that writes them meanwhile. `Err` gives them back.
+    /// Gives the entries away, such as to a thread that writes them meanwhile. `Err` gives them back. If the taker panics, they are
+    /// lost. It runs under the lock, so it must not call the switchboard.
     ///
     /// ```
     /// use seryugo::{Switchboard, WhenFull};
@@ -81,6 +82,9 @@ impl<R: Room> WhenFull<R> {
     }
 
     /// Writes the entries to a file, and syncs it before the call is made. If that fails, it cuts the file to what it had.
+    ///
+    /// Send no message of 371,000 bytes or more. It may be [`TooLong`](Error::TooLong) to be written: then each call from there on fails
+    /// with [`NotKept`](Error::NotKept). At the end call [`keep`](crate::Switchboard::keep): a switchboard that is dropped writes nothing.
     ///
     /// ```no_run
     /// use seryugo::{Switchboard, WhenFull};
