@@ -7,6 +7,7 @@ use crate::room::Room;
 use crate::when_full::{taken, Keeper, Take, WhenFull};
 use std::collections::BTreeMap;
 use std::io;
+use std::panic::{self, AssertUnwindSafe};
 
 /// A drain or a pump moves at most so many messages: no ring has room for more.
 const MOST_MOVED: u64 = 1024;
@@ -287,8 +288,10 @@ impl<R: Room> Inside<R> {
 
     /// Moves what it can of an open lane on which so many messages were sent, and closes the lane: how many are lost.
     pub fn end_lane(&mut self, lane: u64, sent: u64) -> u64 {
+        // A lane may end as its thread panics, so that no panic of a sink may leave this: the sink has failed.
+        let drained = panic::catch_unwind(AssertUnwindSafe(|| self.drain_all(lane)));
         // Messages that are refused are lost.
-        if self.drain_all(lane) == Err(Error::NotKept) {
+        if !matches!(drained, Ok(Ok(()))) {
             while self.drain_unkept(lane).is_ok_and(|count| count != 0) {}
         }
         unsafe { raw::seryugo_lane_abandon(&mut self.handle, lane) };

@@ -223,6 +223,20 @@ fn a_sink_that_panics_loses_nothing() {
 }
 
 #[test]
+fn a_dropped_lane_is_closed_if_the_sink_panics() {
+    let calls = AtomicU64::new(0);
+    let board = Switchboard::of_numbers(1).unwrap().when_full(WhenFull::call(move |_| {
+        assert_ne!(calls.fetch_add(1, Ordering::Relaxed), 0, "the first time it panics");
+        Ok(())
+    }));
+    let mailbox = board.seat().unwrap().mailbox::<u64>().unwrap();
+    let mut lane = board.lane(mailbox, 4).unwrap();
+    lane.send(5).unwrap();
+    drop(lane);
+    assert_eq!((board.lost(), board.owed(mailbox), board.cut()), (0, Ok(1), Ok(())));
+}
+
+#[test]
 fn a_sink_that_panics_in_a_call_that_waits_hands_on_its_wake() {
     let board = Switchboard::of_numbers(4).unwrap().when_full(WhenFull::call(|_| {
         assert_ne!(thread::current().name(), Some("ben"), "the sink panics in one thread");
