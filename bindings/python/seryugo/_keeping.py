@@ -34,6 +34,10 @@ class Keeper:
         self._kept._take(room.handle, library.take_journal_open)
         self.hand_over()
 
+    def forget(self) -> None:
+        """Drop the entries that are kept."""
+        self._kept = None
+
     def hand_over(self) -> None:
         """Hand over the entries that are kept, if there are any."""
         if self._kept is not None:

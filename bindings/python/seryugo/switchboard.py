@@ -112,20 +112,16 @@ class Switchboard:
     def cut(self) -> None:
         """Cut the journal: drop its entries, so that it takes as many again.
 
-        The objects keep what they have.
+        The objects keep what they have. Entries that `when_full` didn't take are dropped too.
         """
-        code = self._room.do(library.cut)
-        if code != DONE:
-            raise errors.of_code(code)
+        self._room.within(lambda: self._cut(library.cut))
 
     def cut_open(self) -> None:
         """Cut the journal also while lanes and feeds are open, which go on.
 
         This package opens none, so that here it does what `cut` does.
         """
-        code = self._room.do(library.cut_open)
-        if code != DONE:
-            raise errors.of_code(code)
+        self._room.within(lambda: self._cut(library.cut_open))
 
     def reserve(self, entries: int) -> None:
         """Allocate memory for so many more entries."""
@@ -220,6 +216,13 @@ class Switchboard:
             return journal
 
         return room.within(taken)
+
+    def _cut(self, cut: Callable[..., int]) -> None:
+        code = cut(self._room.handle)
+        if code != DONE:
+            raise errors.of_code(code)
+        if self._room.keeper:
+            self._room.keeper.forget()
 
     def _codec(self, number: int, kind: int, of: Type[T]) -> Codec[T]:
         """Return the codec of an object of this kind."""

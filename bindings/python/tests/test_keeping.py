@@ -8,7 +8,7 @@ import unittest
 import weakref
 from unittest import mock
 
-from seryugo import JournalFull, Switchboard, _library, append_to, drop_entries
+from seryugo import JournalFull, Switchboard, TooLong, _library, append_to, drop_entries
 
 
 class Sink:
@@ -176,6 +176,19 @@ class Keeping(unittest.TestCase):
             board.keep()
             file.seek(0)
             self.assertEqual(Switchboard.restore(file).entries, 21)
+
+    def test_a_cut_drops_entries_that_no_sink_can_take(self):
+        board = Switchboard(2, when_full=self.sink)
+        with board.seat() as seat:
+            mailbox = seat.mailbox(bytes)
+            seat.send(mailbox, bytes(2_000_000))
+            for _ in range(3):
+                with self.assertRaises(TooLong):
+                    seat.send(mailbox, b"x")
+            board.cut()
+            seat.send(mailbox, b"x")
+            self.assertEqual(board.owed(mailbox), 2)
+        self.assertEqual(self.sink.text, b"")
 
 
 if __name__ == "__main__":

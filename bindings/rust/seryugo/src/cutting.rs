@@ -24,6 +24,7 @@ impl<R: Room> Switchboard<R> {
     }
 
     /// Cuts the journal: what it has is dropped, and it has room for as many entries again. Nothing of what was reserved is lost.
+    /// Entries that a sink didn't take ([`when_full`](Switchboard::when_full)) are dropped too.
     ///
     /// ```
     /// # let board = seryugo::Switchboard::new(1)?;
@@ -36,7 +37,7 @@ impl<R: Room> Switchboard<R> {
     /// # Ok::<(), seryugo::Error>(())
     /// ```
     pub fn cut(&self) -> Result<(), Error> {
-        done(unsafe { raw::seryugo_cut(&mut self.lock().handle) })
+        self.lock().cut(raw::seryugo_cut)
     }
 
     /// Cuts the journal, and hands over the entries that it had. What was reserved goes with them.
@@ -54,8 +55,7 @@ impl<R: Room> Switchboard<R> {
         self.lock().take_journal(raw::seryugo_take_journal)
     }
 
-    /// Cuts the journal while lanes and feeds are open, whose rings go on. Nothing of what was reserved is lost. It is never
-    /// refused. What a lane sent is in what was cut away, and then in the journal, in order, each message once.
+    /// Cuts the journal as `cut` does, also while lanes and feeds are open, whose rings go on. It is never refused. What a lane sent is in what was cut away, and then in the journal, in order, each message once.
     ///
     /// ```
     /// # let board = seryugo::Switchboard::new(2)?;
@@ -73,7 +73,7 @@ impl<R: Room> Switchboard<R> {
     /// # Ok::<(), seryugo::Error>(())
     /// ```
     pub fn cut_open(&self) -> Result<(), Error> {
-        done(unsafe { raw::seryugo_cut_open(&mut self.lock().handle) })
+        self.lock().cut(raw::seryugo_cut_open)
     }
 
     /// Cuts the journal as [`cut_open`](Switchboard::cut_open) does, and hands over the entries that it had. What was reserved goes

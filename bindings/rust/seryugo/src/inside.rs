@@ -119,6 +119,15 @@ impl<R: Room> Inside<R> {
         }
     }
 
+    /// Cuts the journal by this call, and drops its entries, and those that nobody took.
+    pub fn cut(&mut self, cut: unsafe extern "C" fn(*mut Handle) -> u32) -> Result<(), Error> {
+        done(unsafe { cut(&mut self.handle) })?;
+        if let Some(keeper) = &mut self.keeper {
+            keeper.forget();
+        }
+        Ok(())
+    }
+
     /// Cuts the journal by this call, and returns its entries. If some were cut away before and nobody took them, they go first.
     pub fn take_journal(&mut self, take: Take) -> Result<Journal<R>, Error> {
         if let Some(keeper) = &mut self.keeper {

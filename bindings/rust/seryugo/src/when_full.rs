@@ -182,6 +182,12 @@ impl<R: Room> Keeper<R> {
         Err(Error::NotKept)
     }
 
+    /// Drops the entries that it keeps.
+    pub fn forget(&mut self) {
+        self.kept = None;
+        self.error = None;
+    }
+
     /// Why the entries were not taken last. It is told once.
     pub fn error(&mut self) -> Option<io::Error> {
         mem::take(&mut self.error)

@@ -345,3 +345,20 @@ fn a_switchboard_refuses_again_if_it_is_to() {
     assert_eq!(board.keep(), Ok(()));
     assert_eq!(board.cut_at(), 0);
 }
+
+#[test]
+fn a_cut_drops_entries_that_no_sink_can_take() {
+    let (sink, text) = text_sink::<Bytes>();
+    let board = Switchboard::new(2).unwrap().when_full(sink);
+    let mut seat = board.seat().unwrap();
+    let mailbox = seat.mailbox::<Vec<u8>>().unwrap();
+    seat.send(mailbox, vec![0; 2_000_000]).unwrap();
+    for _ in 0..3 {
+        assert_eq!(seat.send(mailbox, vec![1]).unwrap_err().error, Error::NotKept);
+    }
+    assert_eq!(board.keeping_error().unwrap().kind(), ErrorKind::InvalidData);
+    board.cut().unwrap();
+    seat.send(mailbox, vec![1]).unwrap();
+    assert_eq!((board.owed(mailbox), board.cut_at()), (Ok(2), 2));
+    assert!(text.lock().unwrap().is_empty());
+}
