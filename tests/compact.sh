@@ -1,8 +1,8 @@
 #!/bin/sh
-# `cml compact` from outside: `sh tests/compact.sh CML`. Short journals that were worked out by hand. Then examples and random
-# journals: the short journal of each front leaves the objects that the front leaves, and is followed by the rest, with the same
+# `cml compact` from outside: `sh tests/compact.sh CML`. Short journals that were worked out by hand. Then many fronts of examples
+# and random journals: a front's short journal leaves the objects that the front leaves, and is followed by the rest, with the same
 # replies; a short journal's is itself; and a rest that is wrong is refused at the same entry, with the same answer. Last, journals
-# that aren't whole or lawful, and a long one. The last line is `N passed, M failed`.
+# that aren't whole or lawful, and long ones. The last line is `N passed, M failed`.
 LC_ALL=C
 export LC_ALL
 . "$(dirname "$0")/lib/cases.sh"
@@ -43,6 +43,12 @@ by_hand() {
  / lane 4 multicast 0 5: done / feed 9 recv 1: 4 / lane 8 send 2 6: done / end 7' | tr -d '\n')"
     short 'several pieces' 'journal 1 / seat 1 mailbox: made 0 / seat 1 send 0 5: done / end 2' \
         'journal 1 / seat 0 mailbox: made 0 / end 1 / journal 1 / from 1 / end 1 / journal 1 / from 1 / seat 1 send 0 5: done / end 2'
+    short 'a port that was made late, whose short journal is longer' \
+        "$(printf '%s' 'journal 1 / seat 0 channel: made 0 / seat 0 port 0: made 1 / seat 0 port 0: made 2 / seat 0 multicast 0 5: done
+ / seat 0 multicast 0 6: done / seat 0 recv 2: 5 / seat 0 recv 2: 6 / end 7' | tr -d '\n')" \
+        "$(printf '%s' 'journal 1 / seat 0 channel: made 0 / seat 0 port 0: made 1 / seat 0 multicast 0 5: done
+ / seat 0 multicast 0 6: done / seat 0 port 0: made 2 / end 5' | tr -d '\n')"
+    short 'no seat' 'journal 1 / seat 0 mailbox: made 0 / end 1' 'journal 1 / feed 3 mailbox: made 0 / end 1'
     short 'the seat with the highest number' "journal 1 / seat 18446744073709551614 mailbox: made 0 / end 1" \
         'journal 1 / seat 18446744073709551615 mailbox: made 0 / end 1'
 }
