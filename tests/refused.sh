@@ -82,7 +82,7 @@ sweeps() {
         done
         for name in letters requests; do
             echo "journal $how examples/$name.journal $cml check"
-            echo "journal $how examples/$name.journal $cml compact"
+            echo "compact $how examples/$name.journal $cml compact"
         done
     done
 }

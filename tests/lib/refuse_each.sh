@@ -11,8 +11,8 @@
 #   run      a script by `cml run`: a report of some order of its threads, or the same
 #   threads  the same where threads are refused, and not memory: with no report
 #   chart    a report by `cml_chart`: its chart, or status 5, nothing written and `cml_chart: no memory`
-#   journal  a journal by `cml check` or `cml compact`: its verdict or its short journal, or status 5, nothing written and
-#            `cml: no memory`
+#   journal  a journal by `cml check`: its verdict, or status 5, nothing written and `cml: no memory`
+#   compact  a journal by `cml compact`: its short journal, or the same
 #
 # The last line is `KIND HOW INPUT: N passed, M failed, K met`: so often a call, or the whole program, told of a refusal.
 work=$1
@@ -86,7 +86,7 @@ in_order_or_short() {
 # none: so only the last run, in which all were, has one. A chart or a verdict is that of a run without refusals too, with status 0.
 report_stands() {
     case $kind in
-        chart | journal | written) cmp -s "$room/report" "$1" && [ "$status" = 0 ]; return ;;
+        chart | journal | compact | written) cmp -s "$room/report" "$1" && [ "$status" = 0 ]; return ;;
         replay) cmp -s "$room/report" "$1" ;;
         run) in_order_or_short "$1" ;;
         threads) [ "$number" -eq "$last" ] && in_some_order 65536 "$input" "$1" ;;
@@ -114,7 +114,7 @@ judge_script() {
     echo "$kind $how $input: $passed passed, $failed failed, $met met"
 }
 
-case $kind in replay | chart | journal | written) "$@" < "$input" > "$room/report" ;; esac
+case $kind in replay | chart | journal | compact | written) "$@" < "$input" > "$room/report" ;; esac
 number=1
 while refuse "$number" "$@" && [ "$number" -lt 100000 ]; do
     number=$((number + 1))
