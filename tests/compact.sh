@@ -63,7 +63,7 @@ of_front() {
     awk -v most="$2" 'FNR == 1; /^(seat|lane|feed) / && seen < most { print; seen++ } END { print "end " seen + 0 }' "$1" > "$3"
 }
 
-# followed FILE K SHORT TO: a short journal, and behind it all but the first K entries.
+# followed FILE K SHORT TO: a short journal, and after it all but the first K entries.
 followed() {
     awk -v after="$2" '
         FNR == NR { print; if (/^end /) first = $2; next }
