@@ -224,7 +224,7 @@ endings() {
 # with_words ROW: runs the program with the words of a row of tests/tables/words, on a script of five entries or on a journal of two.
 with_words() {
     case $1 in
-        check*) script 'journal 1 / seat 0 mailbox: made 0 / seat 1 send 0 5: done / end 2' > "$work/in" ;;
+        check* | compact*) script 'journal 1 / seat 0 mailbox: made 0 / seat 1 send 0 5: done / end 2' > "$work/in" ;;
         *) script 'cml 1 / mailbox m / thread A / A send m 1 / A send m 2 / A recv m / A recv m' > "$work/in" ;;
     esac
     row=$1
