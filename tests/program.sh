@@ -322,7 +322,7 @@ troubles() {
     status=$(cat "$work/status")
     expect "a closed pipe, by $1" 4 none 'cml: write failed'
     awk 'BEGIN { print "cml 1\nmailbox m\nthread A"; for (i = 0; i < 80000; i++) print "A send m 5" }' > "$work/in"
-    (ulimit -v 8000 && "$program" "$1" < "$work/in" > "$work/out" 2> "$work/err")
+    (ulimit -v 12000 && "$program" "$1" < "$work/in" > "$work/out" 2> "$work/err")
     status=$?
     expect "little memory, by $1" 5 none 'cml: no memory'
 }
