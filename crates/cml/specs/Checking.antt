@@ -56,6 +56,11 @@ is_of_bytes front = starts_with nat_eq front (codes "journal 2")
 abbrev pub is_behind_cut : List ℕ → Bool
 is_behind_cut front = starts_with nat_eq front (codes "journal 1\nfrom ") || starts_with nat_eq front (codes "journal 2\nfrom ")
 
+-- what is asked for by `check`, with `--state` or without
+abbrev pub wanted_by : Bool → Wanted
+wanted_by true = wanted.State
+wanted_by false = wanted.Verdict
+
 -- the first bytes that a reader gave, with this left: they are 15, unless it is at its end
 pub record IsFront (front : List ℕ) (left : Option (List ℕ)) : Type 0 where
   pub most : length front ≤ 15

@@ -4,21 +4,25 @@ use Rattle.cml_board.specs.{Entry, RestoredShown}
 use Rattle.cml_board.specs.Shown.{Shown}
 use Rattle.cml_board.specs.declared.entry.Who.TheVariants.{Seat}
 use Rattle.cml_compact.specs.{AllBy, Compacts}
-use Rattle.cml_journal.specs.{IsTooLong, piece_lines, text_of}
+use Rattle.cml_journal.specs.{AreShort, IsTooLong, piece_lines, text_of}
 use Rattle.cml.specs.declared.check.ending.Ending.{Ending}
 use Rattle.cml.specs.declared.check.ending.Ending.TheVariants.{NoMemory, TooLong}
 
 module _ {M : Type 0} where
-  -- a board that leaves the same, all of whose entries the seat with the highest number made
+  -- a board that leaves the same, all of whose entries one seat made: the last before the seats that are made next
   pub record IsShortened (restored : RestoredShown M) (new : Shown M) : Type 0 where
     pub compacts : Compacts restored.board new
     pub by : AllBy (Seat (restored.makers.seats - 1)) new.history
+
+  -- the text is a piece of these entries from position 0 on, and a reader takes each line
+  abbrev pub IsTextOf : ℕ → (M → List ℕ) → List (Entry M) → List ℕ → Type 0
+  IsTextOf version text entries written = (written ≡ text_of (piece_lines version text 0 entries)) × AreShort text entries
 
   -- the text has just the entries of such a board
   pub record IsCompactOf (version : ℕ) (text : M → List ℕ) (restored : RestoredShown M) (written : List ℕ) : Type 0 where
     pub new : Shown M
     pub is : IsShortened restored new
-    pub told : written ≡ text_of (piece_lines version text 0 (reverse new.history))
+    pub told : IsTextOf version text (reverse new.history) written
 
   -- these entries were not written: a line is too long for a reader, or there was no memory
   abbrev pub IsUnwritten : (M → List ℕ) → List (Entry M) → Ending → Type 0

@@ -80,8 +80,9 @@ The short journal makes the same objects, with the same numbers. Then mailboxes 
 owed the same messages, and variables hold the same. So whatever may follow the one journal may
 follow the other, and each later call has the same answer.
 
-It begins at nothing, and has a few entries for each object and for each message that is still kept.
-All of them are made by one seat. It is written only if the journal that was read is whole and lawful.";
+It begins at nothing. It has an entry for each object and for each message that is still to be
+received, and one for each of these that a faster port has received. One seat makes all of them. It
+is written only if the journal that was read is whole and lawful.";
 
 const JOURNAL_HELP: &str = "Writes the journal as text in place of the report";
 

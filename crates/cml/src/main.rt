@@ -2,6 +2,9 @@
 //! came of it.
 #![tactic(auto)]
 
+ghost use Rattle.std.specs.Prelude.{◌≡◌};
+ghost use Rattle.cml.specs.{wanted_by};
+
 mod asked;
 mod check;
 mod command_line;
@@ -58,7 +61,9 @@ fn obey<R: Threads + Wait + Sync>(rt: &HostRuntime, system: &R) -> Result<Ending
 }
 
 /// What is wanted of a journal that is checked.
-fn wanted(state: bool) -> Wanted {
+fn wanted(state: bool) -> Wanted
+    ensures { result ≡ wanted_by state }
+{
     if state {
         Wanted::State
     } else {

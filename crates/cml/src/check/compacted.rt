@@ -1,8 +1,7 @@
 //! A short journal that leaves what a journal leaves.
 ghost use Rattle.std.specs.Prelude.{◌≡◌, ◌≤◌, IfOk, IfErr, length, reverse, string_bytes};
 ghost use Rattle.cml_board.specs.{no_entries};
-ghost use Rattle.cml_journal.specs.{text_of, piece_lines};
-ghost use Rattle.cml.specs.{IsCompactOf, IsNoneOf, IsUnwritten};
+ghost use Rattle.cml.specs.{IsCompactOf, IsNoneOf, IsTextOf, IsUnwritten};
 
 use crate::check::ending::Ending;
 use cml_board::{Board, BoardLog, Entry, Message, Refusal, Restored, Who};
@@ -10,11 +9,11 @@ use cml_compact::compact;
 use cml_journal::{Unwritten, Written, add_piece};
 use std::alloc::Global;
 
-/// The most entries that a journal takes. Memory ends before.
+/// The most entries that a journal takes. The memory of most machines has room for fewer.
 const MOST: u64 = 4_294_967_296;
 
-/// The text of a short journal that leaves what a board leaves. It is made by the seat with the highest number, so that who goes on
-/// from it numbers new seats as who goes on from the long one.
+/// The text of a short journal that leaves what a board leaves. The seat with the highest number makes it, so a switchboard that goes
+/// on from it numbers new seats as one that goes on from the long journal. If no seat made an entry, seat 0 makes it.
 pub(crate) fn compacted<M: Message + Written>(
     alloc: Global,
     restored: Restored<M, BoardLog<M>>,
@@ -36,7 +35,7 @@ fn text_of<M: Message + Written>(
     board: &Board<M, BoardLog<M>>,
 ) -> Result<String, Ending>
     requires { board.now.past ≡ no_entries }
-    ensures text { IfOk result (λ text. string_bytes text ≡ text_of (piece_lines M.VERSION M.text 0 (reverse board.now.history))) }
+    ensures text { IfOk result (λ text. IsTextOf M.VERSION M.text (reverse board.now.history) (string_bytes text)) }
     ensures long { IfErr result (IsUnwritten M.text (reverse board.now.history)) }
 {
     let _limit = board.limit();
