@@ -635,6 +635,22 @@ uint32_t seryugo_reading_end(struct seryugo *reading);
  * again. */
 uint32_t seryugo_room_restore(struct seryugo *reading, uint64_t limit, struct seryugo *room);
 
+/* Makes a short journal of what was read: it leaves the same to later calls. Each object has its name and kind, each port its
+ * channel and whether it is open, and each variable what it holds. What waits in a mailbox or at an open port waits, in order.
+ * Whatever may follow the long journal may follow the short one, with the same replies, and nothing else.
+ *
+ * The call writes a handle to the short journal, and how many entries it has. It is a taken journal like any other, and its first
+ * entry is at position 0: pass 0 to seryugo_journal_text. The seat with the highest number of the long journal made all of its
+ * entries, or seat 0 if no seat made any. What was counted begins anew: positions of entries, and how many messages an object
+ * sent and received.
+ *
+ * The call spends the reading, as seryugo_room_restore does. Close it. If the text was torn, the short journal leaves what the
+ * whole lines leave. The call doesn't say so: call seryugo_reading_end before it.
+ *
+ * SERYUGO_FAULT or SERYUGO_UNLAWFUL: the reading has stopped by this, and stays as it was. SERYUGO_NO_MEMORY: there is no memory,
+ * and the reading is spent. After these *journal and *count are as they were. */
+uint32_t seryugo_reading_compact(struct seryugo *reading, struct seryugo *journal, uint64_t *count);
+
 /*
  * ---- readers ----
  *

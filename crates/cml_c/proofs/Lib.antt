@@ -1,6 +1,7 @@
 mod HandleBoxLemmas
 mod KeeperBoxLemmas
 mod GoingOnLemmas
+mod ShorteningLemmas
 mod TakingLemmas
 mod NeedingLemmas
 mod RefusingLemmas

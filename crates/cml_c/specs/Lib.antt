@@ -20,6 +20,7 @@ pub mod Checkers
 pub mod Texts
 pub mod ReadJournals
 pub mod Restoring
+pub mod Compacting
 -- the names that others import from here
 pub use Version.{number_of_version}
 pub use Owning.{kept_coded, slot_coded}
@@ -49,6 +50,7 @@ pub use Texts.{HandsJournal, HandsText, IsUnwritten}
 pub use ReadJournals.{EndsSo, IsReadTo, OpensBytes, OpensNumbers, TakesPart, Tells, TellsEnd, entries_read, lines_read, told_halt}
 pub use ReadJournals.{told_so_far}
 pub use Restoring.{IsRoomOn, OpensOn, Restores, RestoresBy, RestoresKept, left_halted, left_stopped, told_stopped}
+pub use Compacting.{IsCompacted, Shortens, ShortensBy, ShortensKept, WritesShort, WritesTaken}
 pub use declared.handle.Slot.{Slot}
 pub use declared.keeper.Held.{Held}
 pub use declared.kept.Kept.{Kept}

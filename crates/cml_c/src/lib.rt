@@ -11,6 +11,7 @@ mod bytes_sending;
 mod checked_entries;
 mod checkers;
 mod code;
+mod compacting;
 mod due;
 mod entries;
 mod feeds;

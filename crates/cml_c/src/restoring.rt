@@ -64,7 +64,7 @@ fn restore_by<M: Sort + Written>(
 }
 
 /// What is left of a reading that stopped so: nothing, if there was no memory.
-fn left_of<M: Sort>(reading: Box<Check<M>>, halt: Halt) -> Resource<M>
+pub(crate) fn left_of<M: Sort>(reading: Box<Check<M>>, halt: Halt) -> Resource<M>
     ensures { result ≡ left_halted reading halt }
 {
     match halt {

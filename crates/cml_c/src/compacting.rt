@@ -1,0 +1,116 @@
+//! A journal that was read is made short.
+ghost use Rattle.std.specs.Prelude.{◌≡◌, IfOk};
+ghost use Rattle.cml_c.specs.{IsCompacted, Shortens, ShortensBy, ShortensKept, WritesShort};
+
+use crate::code::Code;
+use crate::handle::{Handle, Slot};
+use crate::kept::{Kept, Resource, Sort, for_both};
+use crate::read_journals::code_of_halt;
+use crate::restoring::left_of;
+use crate::rooms::MOST;
+use cml_board::{BoardLog, Entry, Message, Refusal, Restored, Who};
+use cml_compact::compact;
+use cml_journal::{Check, Written};
+use std::alloc::Global;
+use std::mem;
+
+/// Makes a short journal that leaves what the journal leaves which a reading read. Writes a handle to it, and how many entries it
+/// has. The reading is spent then.
+#[unsafe(no_mangle)]
+pub extern "C" fn seryugo_reading_compact(
+    alloc: Global,
+    reading: &mut Handle,
+    journal: &mut Slot,
+    count: &mut u64,
+) -> u32
+    ensures { ShortensKept journal.old journal.new count.old count.new result reading.old.kept reading.new.kept }
+{
+    for_both!(reading.as_mut(), resource => shorten(alloc, resource, journal, count))
+}
+
+fn shorten<M: Sort + Written>(
+    alloc: Global,
+    resource: &mut Resource<M>,
+    journal: &mut Slot,
+    count: &mut u64,
+) -> u32
+    ensures { Shortens M.VERSION M.meaning M.KEPT journal.old journal.new count.old count.new result resource.old resource.new }
+{
+    let (left, code) = match mem::replace(resource, Resource::Spent) {
+        Resource::Reading(reading) => shorten_by(alloc, reading, journal, count),
+        other => (other, Code::WrongHandle.number()),
+    };
+    *resource = left;
+    code
+}
+
+/// What a reading's handle leads to then, and the code that tells it.
+fn shorten_by<M: Sort + Written>(
+    alloc: Global,
+    mut reading: Box<Check<M>>,
+    journal: &mut Slot,
+    count: &mut u64,
+) -> (Resource<M>, u32)
+    ensures { ShortensBy M.VERSION M.meaning M.KEPT journal.old journal.new count.old count.new reading result.0 result.1 }
+{
+    if let Some(halt) = reading.halt() {
+        return (left_of(reading, halt), code_of_halt(halt).number());
+    }
+    match reading.restore(1) {
+        Some(restored) => (
+            Resource::Spent,
+            write_short(alloc, restored, journal, count),
+        ),
+        None => (Resource::Reading(reading), Code::Unlawful.number()),
+    }
+}
+
+/// Writes a handle to the short journal of this board, and how many entries it has.
+fn write_short<M: Sort>(
+    alloc: Global,
+    restored: Restored<M, BoardLog<M>>,
+    journal: &mut Slot,
+    count: &mut u64,
+) -> u32
+    ensures { WritesShort (IsCompacted restored) M.KEPT journal.old journal.new count.old count.new result }
+{
+    match compacted(alloc, restored) {
+        Ok(entries) => write_journal(alloc, entries, journal, count),
+        // The limit is the largest one. Memory ends before a journal is as long.
+        Err(_) => Code::NoMemory.number(),
+    }
+}
+
+/// All entries of a board that leaves what this one leaves. The seat with the highest number made them, so that who goes on from
+/// them numbers new seats as who goes on from the long journal.
+fn compacted<M: Message>(
+    alloc: Global,
+    restored: Restored<M, BoardLog<M>>,
+) -> Result<Vec<Entry<M>>, Refusal>
+    ensures { IfOk result (λ entries. IsCompacted restored entries.items) }
+{
+    let (mut board, makers) = restored.into_parts();
+    let seat = Who::Seat(makers.seats.saturating_sub(1));
+    let mut new = compact(alloc, &mut board, seat, MOST)?;
+    Ok(new.take_journal())
+}
+
+/// Writes a handle to these entries, and how many they are.
+fn write_journal<M: Sort>(
+    alloc: Global,
+    entries: Vec<Entry<M>>,
+    journal: &mut Slot,
+    count: &mut u64,
+) -> u32
+    ensures { WritesShort (λ taken. taken ≡ entries.items) M.KEPT journal.old journal.new count.old count.new result }
+{
+    let length = entries.len() as u64;
+    match Handle::new(alloc, M::keep_journal(entries)) {
+        Ok(handle) => {
+            *count = length;
+            *journal = handle.into_slot();
+            Code::Done.number()
+        }
+        Err(_) => Code::NoMemory.number(),
+    }
+}
