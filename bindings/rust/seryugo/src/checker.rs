@@ -1,6 +1,7 @@
 //! A journal's text, checked as it is read.
 
 use crate::error::Error;
+use crate::journal::Journal;
 use crate::raw::{self, code, written, Handle};
 use crate::room::{Bytes, Numbers, Room};
 use crate::version;
@@ -160,13 +161,20 @@ impl<R: Room> Checker<R> {
     fn take(&mut self, part: &[u8]) -> Result<(), CheckError> {
         // The part is good for the call, which keeps nothing of it.
         match unsafe { raw::seryugo_reading_take_from(self.handle.get_mut(), part.as_ptr().cast(), part.len()) } {
-            code::UNLAWFUL => Err(CheckError::Unlawful(self.entries())),
-            code::FAULT => Err(CheckError::Fault(self.whole_lines().saturating_add(1))),
             code::DONE => {
                 self.lines.note(part);
                 Ok(())
             }
-            code => Err(Error::of_code(code).into()),
+            code => Err(self.stopped(code)),
+        }
+    }
+
+    /// Why the reading has stopped, by the code of a call that isn't done.
+    fn stopped(&self, code: u32) -> CheckError {
+        match code {
+            code::UNLAWFUL => CheckError::Unlawful(self.entries()),
+            code::FAULT => CheckError::Fault(self.whole_lines().saturating_add(1)),
+            code => Error::of_code(code).into(),
         }
     }
 
@@ -194,6 +202,42 @@ impl<R: Room> Checker<R> {
     /// ```
     pub fn is_whole(&self) -> bool {
         unsafe { raw::seryugo_reading_end(&mut *self.handle.borrow_mut()) == code::DONE }
+    }
+
+    /// A short journal that leaves what the journal leaves which was read: the same objects, with the same messages still to be
+    /// received. Whatever may follow the long journal may follow the short one, with the same replies, and nothing else.
+    ///
+    /// It begins at position 0. The seat with the highest number of the long journal made all of its entries. A text that ends in
+    /// the middle is taken up to its last whole line: ask [`is_whole`](Checker::is_whole) before.
+    ///
+    /// Errors: what stopped the reading, if it has stopped, and `NoMemory`.
+    ///
+    /// ```
+    /// use seryugo::Checker;
+    ///
+    /// # fn main() -> Result<(), Box<dyn std::error::Error>> {
+    /// let mut checker = Checker::of_numbers()?;
+    /// checker.read(&b"journal 1\nseat 0 mailbox: made 0\nseat 1 send 0 5: done\n"[..])?;
+    /// checker.read(&b"seat 1 send 0 6: done\nseat 0 recv 0: 5\nend 4\n"[..])?;
+    /// let short = checker.compact()?;
+    /// assert_eq!((short.first(), short.len()), (0, 2));
+    /// let mut text = Vec::new();
+    /// short.write_to(&mut text)?;
+    /// assert_eq!(text, b"journal 1\nseat 1 mailbox: made 0\nseat 1 send 0 6: done\nend 2\n");
+    /// # Ok(())
+    /// # }
+    /// ```
+    pub fn compact(self) -> Result<Journal<R>, CheckError> {
+        let (mut code, mut count) = (code::DONE, 0);
+        let opened = Handle::opened(|journal| {
+            code = unsafe { raw::seryugo_reading_compact(&mut *self.handle.borrow_mut(), journal, &mut count) };
+            code
+        });
+        match opened {
+            // The entries are in memory, so that a `usize` counts them.
+            Ok(handle) => Ok(Journal::new(handle, 0, count as usize)),
+            Err(_) => Err(self.stopped(code)),
+        }
     }
 
     fn whole_lines(&self) -> u64 {

@@ -86,6 +86,7 @@ extern "C" {
     pub fn seryugo_reading_lines(reading: *mut Handle, lines: *mut u64) -> u32;
     pub fn seryugo_reading_end(reading: *mut Handle) -> u32;
     pub fn seryugo_room_restore(reading: *mut Handle, limit: u64, room: *mut Handle) -> u32;
+    pub fn seryugo_reading_compact(reading: *mut Handle, journal: *mut Handle, count: *mut u64) -> u32;
     pub fn seryugo_new_seat(room: *mut Handle, seat: *mut u64) -> u32;
     pub fn seryugo_leave(room: *mut Handle, seat: u64) -> u32;
     pub fn seryugo_withdraw(room: *mut Handle, seat: u64) -> u32;

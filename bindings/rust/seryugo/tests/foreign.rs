@@ -191,12 +191,17 @@ fn blocking_calls<R: Carries<u64>>(board: &Switchboard<R>, code: u32) {
 
 fn checks(code: u32) {
     let mut checker = Checker::new().unwrap();
-    let read = checker.read(&b"journal 2\n"[..]).unwrap_err();
-    match code {
-        17 => assert!(matches!(read, CheckError::Unlawful(0))),
-        18 => assert!(matches!(read, CheckError::Fault(1))),
-        11 => assert!(matches!(read, CheckError::NoMemory)),
-        code => assert!(matches!(read, CheckError::Library(error) if error == error_of(code))),
-    }
+    stopped(checker.read(&b"journal 2\n"[..]), code);
     assert_eq!((checker.entries(), checker.is_whole()), (0, false));
+    stopped(checker.compact(), code);
+}
+
+fn stopped<T>(told: Result<T, CheckError>, code: u32) {
+    let error = told.err().unwrap();
+    match code {
+        17 => assert!(matches!(error, CheckError::Unlawful(0))),
+        18 => assert!(matches!(error, CheckError::Fault(1))),
+        11 => assert!(matches!(error, CheckError::NoMemory)),
+        code => assert!(matches!(error, CheckError::Library(error) if error == error_of(code))),
+    }
 }

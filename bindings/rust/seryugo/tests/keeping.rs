@@ -81,6 +81,62 @@ fn a_board_goes_on_where_another_ended() {
     assert_eq!((checker.entries(), checker.is_whole()), (16 + journal.len() as u64, true));
 }
 
+/// What a board has that a later call sees, of each object of `three_pieces`.
+fn left(board: &Board) -> String {
+    let (mailbox, channel, port) = (board.mailbox(0).unwrap(), board.channel(1).unwrap(), board.port(2).unwrap());
+    let (ivar, mvar, copy) = (board.ivar(3).unwrap(), board.mvar(4).unwrap(), board.port(5).unwrap());
+    let fed = board.port(6).unwrap();
+    let owed = [board.owed(mailbox), board.owed(port), board.owed(fed), board.owed(copy)];
+    let open = [board.is_open(port), board.is_open(fed), board.is_open(copy)];
+    let channels = [board.channel_of(port), board.channel_of(fed), board.channel_of(copy)];
+    assert!(channels.iter().all(|of| *of == Ok(channel)));
+    assert_eq!(board.mailbox(7), Err(Error::NoSuch));
+    let mut seat = board.seat().unwrap();
+    let waiting: Vec<u64> = seat.try_iter(mailbox).collect();
+    format!("{owed:?} {open:?} {:?} {:?} {waiting:?} {}", board.held(ivar), board.held(mvar), seat.number())
+}
+
+/// A short journal leaves what the long one leaves, and the piece that goes on behind the long one follows it.
+#[test]
+fn a_short_journal_stands_for_a_long_one() {
+    let long = three_pieces();
+    let journal = checked(&long).unwrap().compact().unwrap();
+    assert_eq!(journal.first(), 0);
+    assert!(journal.iter().all(|entry| entry.who == Who::Seat(1)));
+    let mut short = Vec::new();
+    journal.write_to(&mut short).unwrap();
+    let (short_board, long_board) = (Board::restore(&short[..], LIMIT).unwrap(), Board::restore(&long[..], LIMIT).unwrap());
+    assert_eq!(short_board.entries(), journal.len() as u64);
+    assert_eq!(left(&short_board), left(&long_board));
+
+    // Both boards made the same calls since. Only the positions of their entries differ.
+    let (mut after_short, mut after_long) = (short.clone(), long.clone());
+    let (since_short, since_long) = (short_board.take_journal().unwrap(), long_board.take_journal().unwrap());
+    assert!(since_short.iter().eq(since_long.iter()));
+    since_short.write_to(&mut after_short).unwrap();
+    since_long.write_to(&mut after_long).unwrap();
+    let (mut once, mut again) = (Vec::new(), Vec::new());
+    checked(&after_short).unwrap().compact().unwrap().write_to(&mut once).unwrap();
+    checked(&after_long).unwrap().compact().unwrap().write_to(&mut again).unwrap();
+    assert_eq!(once, again);
+}
+
+#[test]
+fn a_reading_that_has_stopped_is_not_compacted() {
+    let mut checker = Checker::of_numbers().unwrap();
+    checker.read(&b"journal 1\nseat 0 mailbox: made 0\nseat 0 recv 0: 5\n"[..]).unwrap_err();
+    assert!(matches!(checker.compact(), Err(CheckError::Unlawful(1))));
+    let mut checker = Checker::of_numbers().unwrap();
+    checker.read(&b"journal 1\nwhat\n"[..]).unwrap_err();
+    assert!(matches!(checker.compact(), Err(CheckError::Fault(2))));
+    // Up to the last whole line.
+    let mut torn = Checker::of_numbers().unwrap();
+    torn.read(&b"journal 1\nseat 7 mailbox: made 0\nseat 0 se"[..]).unwrap();
+    let journal = torn.compact().unwrap();
+    assert_eq!(journal.iter().map(|entry| entry.who).collect::<Vec<_>>(), [Who::Seat(7)]);
+    assert_eq!(Checker::new().unwrap().compact().unwrap().len(), 0);
+}
+
 /// Each text that ends early is taken up to its last whole line. With its ending behind these it is a whole journal.
 #[test]
 fn a_text_may_end_anywhere() {
