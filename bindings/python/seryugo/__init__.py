@@ -16,6 +16,7 @@ lock go meanwhile.
 """
 
 from ._keeping import append_to, drop_entries
+from ._restoring import compacted
 from ._version import __version__
 from .errors import (
     Busy,
@@ -86,5 +87,6 @@ __all__ = [
     "__version__",
     "append_to",
     "check",
+    "compacted",
     "drop_entries",
 ]

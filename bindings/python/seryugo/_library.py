@@ -215,6 +215,7 @@ reading_entries = _short("reading_entries", _HANDLE, _NUMBER)
 reading_lines = _short("reading_lines", _HANDLE, _NUMBER)
 reading_end = _short("reading_end", _HANDLE)
 room_restore = _long("room_restore", _HANDLE, c_uint64, _HANDLE)
+reading_compact = _long("reading_compact", _HANDLE, _HANDLE, _NUMBER)
 
 
 def taken_over(message: Bytes) -> bytes:

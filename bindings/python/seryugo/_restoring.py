@@ -1,18 +1,49 @@
-"""Reads the text of a journal, and opens a room behind its last entry."""
+"""Reads the text of a journal, and opens a room behind its last entry, or makes a short one."""
 
 from __future__ import annotations
 
+from contextlib import contextmanager
 from ctypes import byref, c_uint64
-from typing import Iterable
+from typing import Iterable, Iterator
 
 from . import _library as library
 from . import errors
 from ._library import DONE
+from .journal import Journal
 
 
 def restored(parts: Iterable[bytes], limit: int, is_torn_fine: bool) -> library.Handle:
     """Open a room on a text of these parts, one behind the other."""
-    reading, room = library.Handle(), library.Handle()
+    room = library.Handle()
+    with _read_from(parts, is_torn_fine) as reading:
+        code = library.room_restore(byref(reading), limit, byref(room))
+        if code != DONE:
+            raise errors.of_code(code)
+    return room
+
+
+def compacted(parts: Iterable[bytes], is_torn_fine: bool = False) -> Journal:
+    """Return a short journal that leaves what the journal leaves whose text has these parts.
+
+    It leaves the same objects, with the same messages still to be received. Whatever may follow
+    the long journal may follow the short one, with the same replies. The seat with the highest
+    number of the long journal made all its entries. Their messages are `bytes`.
+
+    Fails with `Fault`, `Unlawful` or `Torn`. If `is_torn_fine`, a text that ends too early is read
+    up to its last whole line.
+    """
+    journal, count = library.Handle(), c_uint64()
+    with _read_from(parts, is_torn_fine) as reading:
+        code = library.reading_compact(byref(reading), byref(journal), byref(count))
+        if code != DONE:
+            raise errors.of_code(code)
+    return Journal(journal, 0, count.value, {})
+
+
+@contextmanager
+def _read_from(parts: Iterable[bytes], is_torn_fine: bool) -> Iterator[library.Handle]:
+    """Read these parts to their end, and close the reading behind the block."""
+    reading = library.Handle()
     code = library.reading_open(byref(reading))
     if code != DONE:
         raise errors.of_code(code)
@@ -21,10 +52,7 @@ def restored(parts: Iterable[bytes], limit: int, is_torn_fine: bool) -> library.
         code = library.reading_end(byref(reading))
         if code == errors.Torn.code and not is_torn_fine:
             raise errors.Torn
-        code = library.room_restore(byref(reading), limit, byref(room))
-        if code != DONE:
-            raise errors.of_code(code)
-        return room
+        yield reading
     finally:
         library.close(reading)
 

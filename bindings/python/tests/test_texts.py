@@ -84,6 +84,38 @@ class Texts(unittest.TestCase):
         board = Switchboard.restore([text[:-4]], is_torn_fine=True)
         self.assertEqual(board.entries, 4)
 
+    def test_compacted(self):
+        text = self.history()
+        short = seryugo.compacted(text)
+        self.assertEqual((short.start, len(short)), (0, 4))
+        self.assertEqual(
+            short.text(),
+            b"journal 2\n"
+            b"seat 0 mailbox: made 0\n"
+            b"seat 0 mvar: made 1\n"
+            b"seat 0 send 0 =a%20b: done\n"
+            b"seat 0 put 1 =%05: done\n"
+            b"end 4\n",
+        )
+        self.assertEqual([entry.call.message for entry in short], [None, None, b"a b", b"\x05"])
+        board = Switchboard.restore([short.text()])
+        with board.seat() as seat:
+            self.assertEqual(seat.number, 1)
+            self.assertEqual(seat.recv(board.mailbox(0, str)), "a b")
+            self.assertEqual(seat.take(board.mvar(1, int)), 5)
+        # The short journal of a short one is the same.
+        self.assertEqual(seryugo.compacted([short.text()]).text(), short.text())
+
+    def test_not_compacted(self):
+        first, second = self.history()
+        with self.assertRaises(seryugo.Torn):
+            seryugo.compacted([first, second[:-6]])
+        self.assertEqual(len(seryugo.compacted([first[:-6]], is_torn_fine=True)), 3)
+        with self.assertRaises(seryugo.Unlawful):
+            seryugo.compacted([second.replace(b"from 3\n", b"")])
+        with self.assertRaises(TypeError):
+            seryugo.compacted("text")
+
     def test_fault(self):
         first, second = self.history()
         with self.assertRaises(seryugo.Fault) as told:
