@@ -641,8 +641,8 @@ uint32_t seryugo_room_restore(struct seryugo *reading, uint64_t limit, struct se
  *
  * The call writes a handle to the short journal, and how many entries it has. It is a taken journal like any other, and its first
  * entry is at position 0: pass 0 to seryugo_journal_text. The seat with the highest number of the long journal made all of its
- * entries, or seat 0 if no seat made any. What was counted begins anew: positions of entries, and how many messages an object
- * sent and received.
+ * entries, so new seats have the numbers that they would have behind the long one. If no seat made any, it is seat 0. What was
+ * counted begins anew: positions of entries, numbers of lanes and feeds, and how many messages an object sent and received.
  *
  * The call spends the reading, as seryugo_room_restore does. Close it. If the text was torn, the short journal leaves what the
  * whole lines leave. The call doesn't say so: call seryugo_reading_end before it.

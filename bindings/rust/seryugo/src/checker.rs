@@ -207,8 +207,9 @@ impl<R: Room> Checker<R> {
     /// A short journal that leaves what the journal leaves which was read: the same objects, with the same messages still to be
     /// received. Whatever may follow the long journal may follow the short one, with the same replies, and nothing else.
     ///
-    /// It begins at position 0. The seat with the highest number of the long journal made all of its entries. A text that ends in
-    /// the middle is taken up to its last whole line: ask [`is_whole`](Checker::is_whole) before.
+    /// It begins at position 0. The seat with the highest number of the long journal made all of its entries, so new seats have the
+    /// numbers that they would have behind the long one. Lanes and feeds begin at 0 again. A text that ends in the middle is taken
+    /// up to its last whole line: ask [`is_whole`](Checker::is_whole) before.
     ///
     /// Errors: what stopped the reading, if it has stopped, and `NoMemory`.
     ///
