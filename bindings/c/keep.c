@@ -25,18 +25,6 @@ static void free_all(void)
     close_one(&has_room, room);
 }
 
-/* Appends the text of the journal to the file, and closes the journal. */
-static void append_text(uint64_t from)
-{
-    RETURNS(DONE, seryugo_journal_text(&journal, from, &text));
-    has_text = true;
-    /* The text outlives the journal. */
-    close_one(&has_journal, journal);
-    memcpy(file + kept, seryugo_bytes_at(&text), text.length);
-    kept += text.length;
-    free_one(&has_text, text);
-}
-
 /* Takes the journal, and appends its text to the file. */
 static void append(void)
 {
@@ -45,7 +33,13 @@ static void append(void)
     RETURNS(DONE, seryugo_cut_at(&room, &from));
     RETURNS(DONE, seryugo_take_journal(&room, &journal, &count));
     has_journal = true;
-    append_text(from);
+    RETURNS(DONE, seryugo_journal_text(&journal, from, &text));
+    has_text = true;
+    /* The text outlives the journal. */
+    close_one(&has_journal, journal);
+    memcpy(file + kept, seryugo_bytes_at(&text), text.length);
+    kept += text.length;
+    free_one(&has_text, text);
 }
 
 /* The file has just this. */
@@ -271,43 +265,6 @@ static void try_wrong_calls(void)
     close_one(&has_reading, reading);
 }
 
-/* What both pieces leave, by entries of the seat with the highest number. */
-static const char short_piece[] = "journal 1\n"
-                                  "seat 1 mailbox: made 0\n"
-                                  "seat 1 channel: made 1\n"
-                                  "seat 1 port 1: made 2\n"
-                                  "seat 1 port 1: made 3\n"
-                                  "seat 1 mvar: made 4\n"
-                                  "seat 1 send 0 7: done\n"
-                                  "seat 1 send 0 11: done\n"
-                                  "seat 1 multicast 1 9: done\n"
-                                  "seat 1 recv 3: 9\n"
-                                  "seat 1 put 4 8: done\n"
-                                  "end 10\n";
-
-/* Reads the first bytes of the file, and puts the text of a short journal of them in place of the file. */
-static void compact(size_t end, uint32_t code, uint64_t entries)
-{
-    uint64_t count = 77;
-
-    open_reading();
-    returns(take_parts(end, 7), code, __LINE__);
-    RETURNS(DONE, seryugo_reading_compact(&reading, &journal, &count));
-    has_journal = true;
-    IS(entries, count);
-    RETURNS(WRONG_HANDLE, seryugo_reading_compact(&reading, &journal, &count));
-    RETURNS(WRONG_HANDLE, seryugo_reading_end(&reading));
-    close_one(&has_reading, reading);
-    kept = 0;
-    append_text(0);
-}
-
-static void put_back(const char *pieces)
-{
-    kept = strlen(pieces);
-    memcpy(file, pieces, kept);
-}
-
 /* Reads the file, and opens a room on it. */
 static void restore(uint64_t limit)
 {
@@ -367,31 +324,6 @@ static void try_what_waited(void)
     IS(8, found);
     RETURNS(DONE, seryugo_new_mailbox(&room, 2, &found));
     IS(5, found);
-}
-
-/* A short journal leaves what the long one leaves. It is its own short journal. A torn text is taken up to its last whole line. */
-static void try_a_short_journal(void)
-{
-    uint64_t found = 77;
-
-    compact(kept, SERYUGO_DONE, 10);
-    HAS_KEPT(short_piece);
-    compact(kept, SERYUGO_DONE, 10);
-    HAS_KEPT(short_piece);
-    open_reading();
-    restore(50);
-    RETURNS(DONE, seryugo_entries(&room, &found));
-    IS(10, found);
-    RETURNS(DONE, seryugo_new_seat(&room, &found));
-    IS(2, found);
-    try_what_waited();
-    close_one(&has_room, room);
-    put_back(first_piece);
-    compact(strlen(first_piece) - 3, SERYUGO_TORN, 2);
-    HAS_KEPT("journal 1\nseat 1 mailbox: made 0\nseat 1 send 0 7: done\nend 2\n");
-    compact(0, SERYUGO_TORN, 0);
-    HAS_KEPT("journal 1\nend 0\n");
-    put_back(both_pieces);
 }
 
 /* New lanes and feeds have numbers behind those of the journal, and the next piece is behind the others. */
@@ -507,7 +439,6 @@ int main(void)
     try_torn_texts();
     try_wrong_texts();
     try_wrong_calls();
-    try_a_short_journal();
     try_a_restored_room();
     try_what_waited();
     try_to_go_on();

@@ -24,7 +24,8 @@ pub record IsCompacted {M : Type 0} (restored : RestoredShown M) (entries : List
   pub all : reverse entries ≡ new.history
 
 -- a handle to a journal of such entries is written, with how many they are
-pub record WritesTaken {M : Type 0} (IsSuch : List (Entry M) → Type 0) (wrap : Resource M → Kept) (to : Slot) (after told : ℕ) : Type 0 where
+pub record WritesTaken {M : Type 0} (IsSuch : List (Entry M) → Type 0) (wrap : Resource M → Kept) (to : Slot)
+    (after told : ℕ) : Type 0 where
   pub done : told ≡ number Done
   pub taken : Vec (Entry M) Global
   pub such : IsSuch taken.items

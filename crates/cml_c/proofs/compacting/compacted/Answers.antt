@@ -6,6 +6,7 @@ pub returns : goal.returns
 returns g c = record {
   new = c.in_ok-new.new;
   compacts = search rules;
-  by = by_this_seat c.in_ok-new.new.history c.saturating_sub.result (c.args.restored.makers.seats - 1) (search rules) c.in_ok-new.ensures.whose;
+  by = by_this_seat c.in_ok-new.new.history c.saturating_sub.result (c.args.restored.makers.seats - 1) (search rules)
+      c.in_ok-new.ensures.whose;
   all = search rules;
 }
