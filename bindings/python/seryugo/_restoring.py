@@ -32,12 +32,10 @@ def compacted(parts: Iterable[bytes], is_torn_fine: bool = False) -> Journal:
     Fails with `Fault`, `Unlawful` or `Torn`. If `is_torn_fine`, a text that ends too early is read
     up to its last whole line.
     """
-    journal, count = library.Handle(), c_uint64()
+    journal = Journal({})
     with _read_from(parts, is_torn_fine) as reading:
-        code = library.reading_compact(byref(reading), byref(journal), byref(count))
-        if code != DONE:
-            raise errors.of_code(code)
-    return Journal(journal, 0, count.value, {})
+        journal._compact(byref(reading))
+    return journal
 
 
 @contextmanager

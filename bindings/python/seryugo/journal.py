@@ -132,6 +132,12 @@ class Journal:
             raise errors.of_code(code)
         return library.taken_over(text)
 
+    def _compact(self, reading: Any) -> None:
+        """Take the entries of a short journal that leaves what a reading has read."""
+        code = library.reading_compact(reading, self._handle, byref(self._count))
+        if code != DONE:
+            raise errors.of_code(code)
+
     def _take(self, room: Any, take: Callable[..., int]) -> None:
         """Take the entries of a room's journal by this call, with the room's lock.
 
