@@ -55,7 +55,8 @@ impl<R: Room> Switchboard<R> {
         self.lock().take_journal(raw::seryugo_take_journal)
     }
 
-    /// Cuts the journal as `cut` does, also while lanes and feeds are open, whose rings go on. It is never refused. What a lane sent is in what was cut away, and then in the journal, in order, each message once.
+    /// Cuts the journal as `cut` does, also while lanes and feeds are open, whose rings go on. It is never refused. What a lane sent
+    /// is in what was cut away, and then in the journal, in order, each message once.
     ///
     /// ```
     /// # let board = seryugo::Switchboard::new(2)?;
