@@ -64,7 +64,7 @@ def append_to(file: BinaryIO) -> Sink:
             _write_all(number, journal.text())
             os.fsync(number)
         except BaseException:
-            # The caller is told why the entries weren't written, also if this fails.
+            # If this fails too, the exception still says why the entries weren't written.
             with contextlib.suppress(OSError):
                 os.ftruncate(number, end)
             raise

@@ -194,7 +194,7 @@ impl<R: Room> Switchboard<R> {
         self.lock().keep()
     }
 
-    /// Why nobody took the entries of a full journal. It is told once.
+    /// Returns why nobody took the entries of a full journal. Returns it once.
     ///
     /// ```
     /// use seryugo::{Error, Switchboard, WhenFull};

@@ -136,7 +136,7 @@ impl<R: Room> Inside<R> {
         taken(&mut self.handle, take)
     }
 
-    /// Why entries were not taken last. It is told once.
+    /// Returns why the sink refused entries last. Returns it once.
     pub fn keeping_error(&mut self) -> Option<io::Error> {
         self.keeper.as_mut().and_then(Keeper::error)
     }

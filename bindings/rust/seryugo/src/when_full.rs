@@ -116,7 +116,7 @@ fn append<R: Room>(file: &mut File, journal: &Journal<R>) -> io::Result<()> {
     let end = file.seek(SeekFrom::End(0))?;
     let written = journal.write_to(file).and_then(|()| file.sync_data());
     if written.is_err() {
-        // The caller is told why the entries weren't written, also if this fails.
+        // If this fails too, the error still says why the entries weren't written.
         let _ = file.set_len(end);
     }
     written
@@ -188,7 +188,7 @@ impl<R: Room> Keeper<R> {
         self.error = None;
     }
 
-    /// Why the entries were not taken last. It is told once.
+    /// Returns why the sink refused the entries last. Returns it once.
     pub fn error(&mut self) -> Option<io::Error> {
         mem::take(&mut self.error)
     }
