@@ -513,6 +513,22 @@ uint32_t seryugo_take_journal(struct seryugo *room, struct seryugo *journal, uin
  * *journal is as it was. */
 uint32_t seryugo_take_journal_open(struct seryugo *room, struct seryugo *journal, uint64_t *count);
 
+/*
+ * Writes a handle to a short journal, and how many entries it has. It leaves what all calls of the room leave: the same objects, with
+ * the same messages still to be received. Whatever may follow these calls may follow it, with the same replies. The room's last seat
+ * makes all its entries. The room stays as it was. It takes time for each object and each message that is kept, under the room's lock.
+ *
+ * SERYUGO_NO_MEMORY: *journal and *count are as they were.
+ */
+uint32_t seryugo_compact(struct seryugo *room, struct seryugo *journal, uint64_t *count);
+
+/*
+ * The same, and cuts the room's journal as seryugo_cut_open does. So the short journal stands for all entries before. Its text begins
+ * at position 0. The text of a later journal follows it from position seryugo_cut_at - cut + *count, where `cut` is what
+ * seryugo_cut_at wrote after this call, under the same lock. SERYUGO_NO_MEMORY: nothing is cut.
+ */
+uint32_t seryugo_compact_and_cut(struct seryugo *room, struct seryugo *journal, uint64_t *count);
+
 /* Writes the entry at this place, from 0, of a taken journal. SERYUGO_NO_SUCH: the place is behind the last entry. */
 uint32_t seryugo_taken_entry(struct seryugo *journal, uint64_t place, struct seryugo_entry *entry);
 

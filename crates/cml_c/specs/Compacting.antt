@@ -1,12 +1,13 @@
--- What C gets of a journal that was read and is made short.
-use Rattle.std.specs.Prelude.{ℕ, ◌≡◌, ◌-◌, ◌⊎◌, List, length, reverse, Option, Some, Box, Vec}
+-- What C gets of a journal that is made short: of one that was read, or of a room's.
+use Rattle.std.specs.Prelude.{ℕ, ◌≡◌, ◌⊎◌, ◌^◌, List, length, Bool, true, false, Option, Some, Box, Vec}
 use Rattle.std.specs.declared.alloc.Global.{Global}
 use Rattle.cml_board.specs.{Entry, RestoredShown}
-use Rattle.cml_board.specs.Shown.{Shown}
-use Rattle.cml_board.specs.declared.entry.Who.TheVariants.{Seat}
-use Rattle.cml_compact.specs.{AllBy, Compacts}
+use Rattle.cml_board.specs.declared.outcome.Refusal.TheVariants.{JournalFull}
+use Rattle.cml_compact.specs.{IsShortJournal, Stops, compact_size, last_seat}
+use Rattle.cml_lanes.specs.{CutsOpenFloor, KeepsRings}
+use Rattle.cml_room.specs.{RoomShown, floor_of, KeepsSeats}
 use Rattle.cml_journal.specs.{Progress, IsSoFar, IsRestored, message_of_word, number_of}
-use Rattle.cml_c.specs.declared.code.Code.TheVariants.{Done, NoMemory}
+use Rattle.cml_c.specs.declared.code.Code.TheVariants.{Done, NoMemory, JournalFull as full}
 use Rattle.cml_c.specs.declared.handle.Slot.{Slot}
 use Rattle.cml_c.specs.declared.kept.Kept.{Kept}
 use Rattle.cml_c.specs.declared.kept.Kept.TheVariants.{Numbers, Bytes}
@@ -14,14 +15,8 @@ use Rattle.cml_c.specs.declared.kept.Resource.{Resource}
 use Rattle.cml_c.specs.declared.kept.Resource.TheVariants.{Journal, Reading, Spent}
 use Rattle.cml_c.specs.Codes.{number}
 use Rattle.cml_c.specs.Handles.{IsWrong}
+use Rattle.cml_c.specs.Lanes.{NotOpened}
 use Rattle.cml_c.specs.Restoring.{HasStopped, OpensNone}
-
--- these entries, oldest first, are all those of a board that leaves the same, and the seat with the highest number made them
-pub record IsCompacted {M : Type 0} (restored : RestoredShown M) (entries : List (Entry M)) : Type 0 where
-  pub new : Shown M
-  pub compacts : Compacts restored.board new
-  pub by : AllBy (Seat (restored.makers.seats - 1)) new.history
-  pub all : reverse entries ≡ new.history
 
 -- a handle to a journal of such entries is written, with how many they are
 pub record WritesTaken {M : Type 0} (IsSuch : List (Entry M) → Type 0) (wrap : Resource M → Kept) (to : Slot)
@@ -42,7 +37,7 @@ module _ {M : Type 0} (version : ℕ) (meaning : List ℕ → Option M) where
   pub record ShortensRead (reading : Progress M) (entries : List (Entry M)) : Type 0 where
     pub restored : RestoredShown M
     pub read : (bytes : List ℕ) → IsSoFar version meaning bytes reading → IsRestored version meaning bytes 1 restored
-    pub compacted : IsCompacted restored entries
+    pub short : IsShortJournal restored.board (last_seat restored.makers.seats) entries
 
   -- a handle to such a journal is written, and the reading is spent
   pub record GivesShort (wrap : Resource M → Kept) (to : Slot) (after : ℕ) (reading : Progress M) (left : Resource M)
@@ -67,3 +62,30 @@ ShortensKept from to before after told (Numbers old) new = (left : Resource ℕ)
     × Shortens 1 number_of Numbers from to before after told old left
 ShortensKept from to before after told (Bytes old) new = (left : Resource (List ℕ)) × (new ≡ Bytes left)
     × Shortens 2 message_of_word Bytes from to before after told old left
+
+module _ {M : Type 0} where
+  -- the room's journal is cut while lanes and feeds go on, and no seat is changed; or, without a cut, nothing is changed
+  pub record CutsShort (old new : RoomShown M) : Type 0 where
+    pub cut : CutsOpenFloor (floor_of old) (floor_of new)
+    pub rings : KeepsRings (floor_of old) (floor_of new)
+    pub kept : KeepsSeats old new
+
+  abbrev pub Leaves : Bool → RoomShown M → RoomShown M → Type 0
+  Leaves true old new = CutsShort old new
+  Leaves false old new = new ≡ old
+
+  -- the entries leave what all calls of the room leave, and the last seat made all of them
+  abbrev pub IsShortOf : RoomShown M → List (Entry M) → Type 0
+  IsShortOf room entries = IsShortJournal room.board (last_seat (length room.seats)) entries
+
+  -- a handle to such entries is written, with how many they are
+  pub record CompactsRoom (cuts : Bool) (wrap : Resource M → Kept) (to : Slot) (code after : ℕ) (old new : RoomShown M) : Type 0 where
+    pub gives : WritesTaken (IsShortOf old) wrap to after code
+    pub leaves : Leaves cuts old new
+
+  -- it is; or the entries would be more than 2^32, or there is no memory, and nothing is changed
+  abbrev pub MakesShort : Bool → (Resource M → Kept) → Slot → Slot → ℕ → ℕ → ℕ → RoomShown M → RoomShown M → Type 0
+  MakesShort cuts wrap from to code before after old new =
+      CompactsRoom cuts wrap to code after old new
+      ⊎ (Stops (2 ^ 32) (compact_size old.board.history) JournalFull × NotOpened full from to code before after old new)
+      ⊎ NotOpened NoMemory from to code before after old new

@@ -1,6 +1,7 @@
 //! A journal that was read is made short.
-ghost use Rattle.std.specs.Prelude.{◌≡◌, IfOk};
-ghost use Rattle.cml_c.specs.{IsCompacted, Shortens, ShortensBy, ShortensKept, WritesShort};
+ghost use Rattle.std.specs.Prelude.{◌≡◌};
+ghost use Rattle.cml_compact.specs.{IsShortJournal, last_seat};
+ghost use Rattle.cml_c.specs.{Shortens, ShortensBy, ShortensKept, WritesShort};
 
 use crate::code::Code;
 use crate::handle::{Handle, Slot};
@@ -8,8 +9,8 @@ use crate::kept::{Kept, Resource, Sort, for_both};
 use crate::read_journals::code_of_halt;
 use crate::restoring::left_of;
 use crate::rooms::MOST;
-use cml_board::{BoardLog, Entry, Message, Refusal, Restored, Who};
-use cml_compact::compact;
+use cml_board::{BoardLog, Entry, Restored};
+use cml_compact::shorten;
 use cml_journal::{Check, Written};
 use std::alloc::Global;
 use std::mem;
@@ -72,27 +73,14 @@ fn write_short<M: Sort>(
     journal: &mut Slot,
     count: &mut u64,
 ) -> u32
-    ensures { WritesShort (IsCompacted restored) M.KEPT journal.old journal.new count.old count.new result }
+    ensures { WritesShort (IsShortJournal restored.board (last_seat restored.makers.seats)) M.KEPT
+        journal.old journal.new count.old count.new result }
 {
-    match compacted(alloc, restored) {
+    match shorten(alloc, restored, MOST) {
         Ok(entries) => write_journal(alloc, entries, journal, count),
         // The limit is the largest one. Memory ends before a journal is as long.
         Err(_) => Code::NoMemory.number(),
     }
-}
-
-/// All entries of a board that leaves what this one leaves. The seat with the highest number made them, so that who goes on from
-/// them numbers new seats as who goes on from the long journal.
-fn compacted<M: Message>(
-    alloc: Global,
-    restored: Restored<M, BoardLog<M>>,
-) -> Result<Vec<Entry<M>>, Refusal>
-    ensures { IfOk result (λ entries. IsCompacted restored entries.items) }
-{
-    let (mut board, makers) = restored.into_parts();
-    let seat = Who::Seat(makers.seats.saturating_sub(1));
-    let mut new = compact(alloc, &mut board, seat, MOST)?;
-    Ok(new.take_journal())
 }
 
 /// Writes a handle to these entries, and how many they are.

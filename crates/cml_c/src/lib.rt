@@ -28,6 +28,7 @@ mod raw;
 mod read_journals;
 mod readers;
 mod restoring;
+mod room_compacting;
 mod rooms;
 mod sending;
 mod telling;

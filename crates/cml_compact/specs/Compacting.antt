@@ -1,6 +1,7 @@
 -- What a compaction makes of a board.
-use Rattle.std.specs.Prelude.{ℕ, ◌≡◌, ◌<◌, List, All, length, ⊤}
+use Rattle.std.specs.Prelude.{ℕ, ◌≡◌, ◌-◌, ◌<◌, List, All, length, reverse, ⊤}
 use Rattle.cml_board.specs.{Entry, Who, Lawful, Refusal, no_entries, entries_in, made}
+use Rattle.cml_board.specs.declared.entry.Who.TheVariants.{Seat}
 use Rattle.cml_board.specs.declared.outcome.Refusal.TheVariants.{JournalFull, NoMemory}
 use Rattle.cml_board.specs.Shown.{Shown}
 use Rattle.cml_compact.specs.Leaving.{LeavesTheSame, FollowedAlike}
@@ -30,3 +31,14 @@ module _ {M : Type 0} where
     pub leaves : LeavesTheSame old.history new.history
     pub later : FollowedAlike old.history new.history
     pub size : entries_in new.history ≡ compact_size old.history
+
+  -- these entries, oldest first, are all those of a board that leaves the same, and all are of this seat, lane or feed
+  pub record IsShortJournal (old : Shown M) (who : Who) (entries : List (Entry M)) : Type 0 where
+    pub new : Shown M
+    pub compacts : Compacts old new
+    pub by : AllBy who new.history
+    pub all : reverse entries ≡ new.history
+
+-- the last of so many seats; seat 0 if there is none
+abbrev pub last_seat : ℕ → Who
+last_seat seats = Seat (seats - 1)

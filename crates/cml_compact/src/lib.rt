@@ -7,9 +7,11 @@ mod making;
 mod measuring;
 mod sending;
 mod settling;
+mod shortening;
 mod slowest;
 mod telling;
 
 pub use compacting::compact;
 pub use laws::same_is_answered_alike;
 pub use measuring::compact_length;
+pub use shortening::{last_seat, short_journal, shorten};

@@ -4,6 +4,7 @@ ghost use Rattle.cml_board.specs.{want_in, entries_in, rings_in};
 ghost use Rattle.cml_threads.specs.{HaveLeft, Sitting, raised, answers_in, share_at, suits, MayRefuse, Tells};
 
 mod channels;
+mod compacting;
 mod feeds;
 mod lanes;
 mod mailboxes;

@@ -100,6 +100,62 @@ impl<R: Room> Switchboard<R> {
         self.lock().take_journal(raw::seryugo_take_journal_open)
     }
 
+    /// Returns a short journal that leaves what all calls leave: the same objects, with the same messages still to be received. Whatever
+    /// may follow these calls may follow it, with the same replies. Its length depends only on what is left. The journal stays as it is.
+    ///
+    /// The last seat that was made makes all its entries. Its positions and counts begin at 0. The messages in the rings of lanes aren't
+    /// in it, and those in the rings of feeds count as received. Other threads wait for the lock meanwhile.
+    ///
+    /// Errors: `NoMemory`.
+    ///
+    /// ```
+    /// # let board = seryugo::Switchboard::of_numbers(1_000)?;
+    /// # let mut seat = board.seat()?;
+    /// let mailbox = seat.mailbox::<u64>()?;
+    /// for number in 0..100 {
+    ///     seat.send(mailbox, number)?;
+    ///     assert_eq!(seat.recv(mailbox)?, number);
+    /// }
+    /// seat.send(mailbox, 7)?;
+    /// let short = board.compact()?;
+    /// assert_eq!((short.first(), short.len(), board.entries()), (0, 2, 202));
+    /// # Ok::<(), seryugo::Error>(())
+    /// ```
+    pub fn compact(&self) -> Result<Journal<R>, Error> {
+        self.lock().compact()
+    }
+
+    /// Returns a short journal as [`compact`](Switchboard::compact) does, and cuts the journal at the same moment, as
+    /// [`cut_open`](Switchboard::cut_open) does. So write it in place of all that was written before, and write what is taken next
+    /// after it: [`Journal::first`] counts from its beginning. [`cut_at`](Switchboard::cut_at) and [`entry`](Switchboard::entry) go on
+    /// to count since the switchboard was made.
+    ///
+    /// It also stands for entries that no sink took ([`when_full`](Switchboard::when_full)): they are dropped.
+    ///
+    /// Errors: `NoMemory`. Then nothing is cut.
+    ///
+    /// ```
+    /// # fn main() -> Result<(), Box<dyn std::error::Error>> {
+    /// # let board = seryugo::Switchboard::of_numbers(1_000)?;
+    /// # let mut seat = board.seat()?;
+    /// let mailbox = seat.mailbox::<u64>()?;
+    /// seat.send(mailbox, 5)?;
+    /// seat.send(mailbox, 6)?;
+    /// seat.recv(mailbox)?;
+    /// let mut text = Vec::new();
+    /// board.compact_and_cut()?.write_to(&mut text)?;
+    /// seat.recv(mailbox)?;
+    /// board.take_journal()?.write_to(&mut text)?;
+    /// let short = "journal 1\nseat 0 mailbox: made 0\nseat 0 send 0 6: done\nend 2\n";
+    /// let next = "journal 1\nfrom 2\nseat 0 recv 0: 6\nend 3\n";
+    /// assert_eq!(text, [short, next].concat().as_bytes());
+    /// # Ok(())
+    /// # }
+    /// ```
+    pub fn compact_and_cut(&self) -> Result<Journal<R>, Error> {
+        self.lock().compact_and_cut()
+    }
+
     /// The journal's entry at this position, counted from 0 since the switchboard was made. It has copies of the messages. If there
     /// is no memory for them, the program aborts, as if a `Vec` found none.
     ///

@@ -4,7 +4,7 @@ use crate::error::Error;
 use crate::journal::Journal;
 use crate::raw::{self, code, done, written, Handle};
 use crate::room::Room;
-use crate::when_full::{taken, Keeper, Take, WhenFull};
+use crate::when_full::{cut_short, journal_by, taken, Keeper, Start, Take, WhenFull};
 use std::collections::BTreeMap;
 use std::io;
 use std::panic::{self, AssertUnwindSafe};
@@ -38,6 +38,8 @@ pub(crate) struct Inside<R: Room> {
     spare: u64,
     /// What cuts a full journal.
     keeper: Option<Keeper<R>>,
+    /// Where the text begins to which the next piece is added.
+    start: Start,
     /// The number of the first seat that was made here. Those of a journal from which the switchboard goes on have lesser ones.
     first_seat: u64,
     /// How many seats were made here.
@@ -60,6 +62,7 @@ impl<R: Room> Inside<R> {
             limit,
             spare: u64::MAX,
             keeper: None,
+            start: Start::default(),
             first_seat: 0,
             seats: 0,
             parked: 0,
@@ -114,7 +117,7 @@ impl<R: Room> Inside<R> {
         let is_empty = self.spare_now()? == self.limit;
         match &mut self.keeper {
             Some(keeper) if is_empty => keeper.hand_over(),
-            Some(keeper) => keeper.cut(&mut self.handle),
+            Some(keeper) => keeper.cut(&mut self.handle, self.start),
             None => Ok(()),
         }
     }
@@ -133,7 +136,22 @@ impl<R: Room> Inside<R> {
         if let Some(keeper) = &mut self.keeper {
             keeper.hand_over()?;
         }
-        taken(&mut self.handle, take)
+        taken(&mut self.handle, self.start, take)
+    }
+
+    /// Returns a short journal that leaves what all calls leave.
+    pub fn compact(&mut self) -> Result<Journal<R>, Error> {
+        journal_by(&mut self.handle, 0, raw::seryugo_compact)
+    }
+
+    /// Returns a short journal, and cuts the journal. The short one stands for the entries that nobody took, too.
+    pub fn compact_and_cut(&mut self) -> Result<Journal<R>, Error> {
+        let (journal, start) = cut_short(&mut self.handle)?;
+        self.start = start;
+        if let Some(keeper) = &mut self.keeper {
+            keeper.forget();
+        }
+        Ok(journal)
     }
 
     /// Returns why the sink refused entries last. Returns it once.

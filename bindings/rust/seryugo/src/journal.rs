@@ -54,7 +54,8 @@ impl<R: Room> Journal<R> {
         }
     }
 
-    /// The position of its first entry: how many entries the switchboard had before.
+    /// The position of its first entry: how many entries the switchboard had before, since it was made or made short by
+    /// [`compact_and_cut`](crate::Switchboard::compact_and_cut).
     ///
     /// ```
     /// # fn main() -> Result<(), seryugo::Error> {

@@ -112,6 +112,8 @@ extern "C" {
     pub fn seryugo_cut_open(room: *mut Handle) -> u32;
     pub fn seryugo_take_journal(room: *mut Handle, journal: *mut Handle, count: *mut u64) -> u32;
     pub fn seryugo_take_journal_open(room: *mut Handle, journal: *mut Handle, count: *mut u64) -> u32;
+    pub fn seryugo_compact(room: *mut Handle, journal: *mut Handle, count: *mut u64) -> u32;
+    pub fn seryugo_compact_and_cut(room: *mut Handle, journal: *mut Handle, count: *mut u64) -> u32;
     pub fn seryugo_kind(room: *mut Handle, object: u64, kind: *mut u64) -> u32;
     pub fn seryugo_channel_of(room: *mut Handle, port: u64, channel: *mut u64) -> u32;
     pub fn seryugo_start_of(room: *mut Handle, port: u64, start: *mut u64) -> u32;

@@ -147,12 +147,12 @@ impl<R: Room> Keeper<R> {
     }
 
     /// Cuts the journal of a room, and does with its entries what is to be done with them. If that fails, it keeps them.
-    pub fn cut(&mut self, room: &mut Handle) -> Result<(), Error> {
+    pub fn cut(&mut self, room: &mut Handle, start: Start) -> Result<(), Error> {
         self.hand_over()?;
         if let WhenFull::Drop = self.when_full {
             return done(unsafe { raw::seryugo_cut_open(room) });
         }
-        self.kept = Some(taken(room, raw::seryugo_take_journal_open)?);
+        self.kept = Some(taken(room, start, raw::seryugo_take_journal_open)?);
         self.hand_over()
     }
 
@@ -194,13 +194,43 @@ impl<R: Room> Keeper<R> {
     }
 }
 
-/// A call that cuts a room's journal, and writes a handle to its entries and how many they are.
+/// A call that writes a handle to entries of a room, and how many they are.
 pub(crate) type Take = unsafe extern "C" fn(*mut Handle, *mut Handle, *mut u64) -> u32;
 
+/// Where the text begins to which a switchboard adds its pieces. A compaction begins it anew.
+#[derive(Clone, Copy, Default)]
+pub(crate) struct Start {
+    /// How many entries the short journal stands for with which the text begins.
+    cut: u64,
+    /// How many entries it has.
+    short: u64,
+}
+
+impl Start {
+    /// Where this entry is in the text. `at` counts since the room was made.
+    fn place(self, at: u64) -> u64 {
+        at - self.cut + self.short
+    }
+}
+
 /// The entries of a room's journal, which this call cuts.
-pub(crate) fn taken<R: Room>(room: &mut Handle, take: Take) -> Result<Journal<R>, Error> {
+pub(crate) fn taken<R: Room>(room: &mut Handle, start: Start, take: Take) -> Result<Journal<R>, Error> {
     let first = written(|count| unsafe { raw::seryugo_cut_at(room, count) })?;
+    journal_by(room, start.place(first), take)
+}
+
+/// The short journal of a room, and where the text begins that it begins. The room's journal is cut then.
+pub(crate) fn cut_short<R: Room>(room: &mut Handle) -> Result<(Journal<R>, Start), Error> {
+    let journal = journal_by(room, 0, raw::seryugo_compact_and_cut)?;
+    let cut = written(|count| unsafe { raw::seryugo_cut_at(room, count) })?;
+    let short = journal.len() as u64;
+    Ok((journal, Start { cut, short }))
+}
+
+/// The entries that this call takes, of which the first has this position.
+pub(crate) fn journal_by<R: Room>(room: &mut Handle, first: u64, take: Take) -> Result<Journal<R>, Error> {
     let mut count = 0;
     let handle = Handle::opened(|journal| unsafe { take(room, journal, &mut count) })?;
+    // The entries are in memory, so that a `usize` counts them.
     Ok(Journal::new(handle, first, count as usize))
 }
