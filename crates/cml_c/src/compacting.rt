@@ -10,7 +10,7 @@ use crate::read_journals::code_of_halt;
 use crate::restoring::left_of;
 use crate::rooms::MOST;
 use cml_board::{BoardLog, Entry, Restored};
-use cml_compact::shorten;
+use cml_compact::short_journal_of;
 use cml_journal::{Check, Written};
 use std::alloc::Global;
 use std::mem;
@@ -76,7 +76,7 @@ fn write_short<M: Sort>(
     ensures { WritesShort (IsShortJournal restored.board (last_seat restored.makers.seats)) M.KEPT
         journal.old journal.new count.old count.new result }
 {
-    match shorten(alloc, restored, MOST) {
+    match short_journal_of(alloc, restored, MOST) {
         Ok(entries) => write_journal(alloc, entries, journal, count),
         // The limit is the largest one. Memory ends before a journal is as long.
         Err(_) => Code::NoMemory.number(),

@@ -14,4 +14,4 @@ mod telling;
 pub use compacting::compact;
 pub use laws::same_is_answered_alike;
 pub use measuring::compact_length;
-pub use shortening::{last_seat, short_journal, shorten};
+pub use shortening::{last_seat, short_journal, short_journal_of};

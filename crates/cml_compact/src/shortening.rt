@@ -27,7 +27,7 @@ pub fn short_journal<M: Message, L: MessageLog<M>>(
 
 /// Returns the short journal of a board that goes on from a journal. The seat with the highest number made all its entries. So
 /// a switchboard that goes on from the short journal numbers its seats as one that goes on from the long journal.
-pub fn shorten<M: Message, L: MessageLog<M>>(
+pub fn short_journal_of<M: Message, L: MessageLog<M>>(
     alloc: Global,
     restored: Restored<M, L>,
     limit: u64,
