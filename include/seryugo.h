@@ -719,6 +719,82 @@ uint32_t seryugo_limit(struct seryugo *room, uint64_t *count);
 /* Returns SERYUGO_DONE if the journal takes more entries, and else SERYUGO_JOURNAL_FULL. */
 uint32_t seryugo_is_full(struct seryugo *room);
 
+/*
+ * ---- a journal that is cut by itself ----
+ *
+ * A keeper cuts the full journal of one room, and hands its entries to a sink of yours. Fill it so, with a sink or, to drop the entries,
+ * with a null pointer:
+ *
+ *     struct seryugo_keeper keeper = { .sink = append, .context = file };
+ *
+ * Make each call that may find the journal full in a loop, under the room's lock:
+ *
+ *     do {
+ *         code = seryugo_send(&room, seat, mailbox, message);
+ *     } while (seryugo_makes_room(&keeper, &room, &code));
+ *
+ * Lanes and feeds may be open. A parked seat that is refused with SERYUGO_JOURNAL_FULL is free: its call is made again without is_again.
+ */
+
+/* Takes the entries of a taken journal. The first is at position `from`, which is what seryugo_journal_text wants. Returns true if it has
+ * them. If it returns false, the keeper keeps them, and hands them over again before any later ones. The journal's handle is the
+ * keeper's. */
+typedef bool seryugo_sink(void *context, struct seryugo *journal, uint64_t from, uint64_t count);
+
+struct seryugo_keeper {
+    seryugo_sink *sink;
+    void *context;
+    /* Entries that the sink hasn't taken yet, if is_kept. Fill these with 0. */
+    struct seryugo journal;
+    uint64_t from;
+    uint64_t count;
+    bool is_kept;
+};
+
+/* Hands over the entries that the keeper keeps. Returns true if it keeps none then. */
+static inline bool seryugo_hand_over(struct seryugo_keeper *keeper)
+{
+    if (keeper->is_kept && keeper->sink(keeper->context, &keeper->journal, keeper->from, keeper->count)) {
+        keeper->is_kept = false;
+        seryugo_close(keeper->journal);
+    }
+    return !keeper->is_kept;
+}
+
+/* Cuts the journal, and hands its entries over. Call it at the end too: the last entries are only in the room. SERYUGO_JOURNAL_FULL: the
+ * sink has refused entries, which the keeper keeps; if it kept some before, nothing is cut. SERYUGO_NO_MEMORY: nothing is cut. */
+static inline uint32_t seryugo_keep(struct seryugo_keeper *keeper, struct seryugo *room)
+{
+    uint32_t code;
+
+    if (keeper->sink == NULL) {
+        return seryugo_cut_open(room);
+    }
+    if (!seryugo_hand_over(keeper)) {
+        return SERYUGO_JOURNAL_FULL;
+    }
+    code = seryugo_cut_at(room, &keeper->from);
+    if (code == SERYUGO_DONE) {
+        code = seryugo_take_journal_open(room, &keeper->journal, &keeper->count);
+    }
+    if (code != SERYUGO_DONE) {
+        return code;
+    }
+    keeper->is_kept = true;
+    return seryugo_hand_over(keeper) ? (uint32_t)SERYUGO_DONE : (uint32_t)SERYUGO_JOURNAL_FULL;
+}
+
+/* Says whether a call that returned this code is to be made again: the journal was full, and has room now. If it has none, *code is what
+ * seryugo_keep returned. */
+static inline bool seryugo_makes_room(struct seryugo_keeper *keeper, struct seryugo *room, uint32_t *code)
+{
+    if (*code != SERYUGO_JOURNAL_FULL) {
+        return false;
+    }
+    *code = seryugo_keep(keeper, room);
+    return *code == SERYUGO_DONE;
+}
+
 #ifdef __cplusplus
 }
 #endif

@@ -1,19 +1,20 @@
-/* A journal is read and made short: each call for that, with what it is to return. Another room goes on from the short journal. If
- * there is no memory for a call, the program frees all that it has, and ends with status 5. */
+/* A journal is read and made short, or that of a room in use: each call for that, with what it is to return. Another room goes on from
+ * the short journal. If there is no memory for a call, the program frees all that it has, and ends with status 5. */
 #include "checks.h"
 
 #include <string.h>
 
 /* What is to be freed: at most one of each kind at a time. */
-static struct seryugo room, journal, reading;
+static struct seryugo room, lane, journal, reading;
 static struct seryugo_bytes text;
-static bool has_room, has_journal, has_reading, has_text;
+static bool has_room, has_lane, has_journal, has_reading, has_text;
 
 static void free_all(void)
 {
     free_one(&has_text, text);
     close_one(&has_journal, journal);
     close_one(&has_reading, reading);
+    close_one(&has_lane, lane);
     close_one(&has_room, room);
 }
 
@@ -69,6 +70,18 @@ static void read_text(const char *given, bool is_bytes, uint32_t code, int line)
     returns(seryugo_reading_end(&reading), code, line);
 }
 
+/* The journal, from this position on, has just this text. It isn't closed. */
+static void is_written(uint64_t from, const char *expected, int line)
+{
+    returns(seryugo_journal_text(&journal, from, &text), SERYUGO_DONE, line);
+    has_text = true;
+    if (text.length != strlen(expected) || memcmp(seryugo_bytes_at(&text), expected, text.length) != 0) {
+        fprintf(stderr, "line %d: the text is\n%.*s", line, (int)text.length, (const char *)seryugo_bytes_at(&text));
+        exit(1);
+    }
+    free_one(&has_text, text);
+}
+
 /* The short journal of what was read has just this text, and so many entries. The reading is spent then. */
 static void shortens(const char *expected, uint64_t entries, int line)
 {
@@ -80,13 +93,7 @@ static void shortens(const char *expected, uint64_t entries, int line)
     returns(seryugo_reading_compact(&reading, &journal, &count), SERYUGO_WRONG_HANDLE, line);
     returns(seryugo_reading_end(&reading), SERYUGO_WRONG_HANDLE, line);
     close_one(&has_reading, reading);
-    returns(seryugo_journal_text(&journal, 0, &text), SERYUGO_DONE, line);
-    has_text = true;
-    if (text.length != strlen(expected) || memcmp(seryugo_bytes_at(&text), expected, text.length) != 0) {
-        fprintf(stderr, "line %d: the text is\n%.*s", line, (int)text.length, (const char *)seryugo_bytes_at(&text));
-        exit(1);
-    }
-    free_one(&has_text, text);
+    is_written(0, expected, line);
 }
 
 static void try_numbers(void)
@@ -178,6 +185,65 @@ static void try_a_room_of(const char *given, uint64_t entries)
     close_one(&has_room, room);
 }
 
+/* A room in use, whose lane is open: two seats, of which the second leaves, and three messages, of which two are received. */
+static void use_a_room(void)
+{
+    uint64_t found;
+
+    RETURNS(DONE, seryugo_room_open(6, &room));
+    has_room = true;
+    RETURNS(DONE, seryugo_new_seat(&room, &found));
+    RETURNS(DONE, seryugo_new_seat(&room, &found));
+    RETURNS(DONE, seryugo_new_mailbox(&room, 0, &found));
+    RETURNS(DONE, seryugo_leave(&room, 1));
+    RETURNS(DONE, seryugo_lane_open(&room, 0, 4, &lane, &found));
+    has_lane = true;
+    RETURNS(DONE, seryugo_send(&room, 0, 0, 5));
+    RETURNS(DONE, seryugo_send(&room, 0, 0, 6));
+    RETURNS(DONE, seryugo_lane_send(&lane, 7));
+    RETURNS(DONE, seryugo_lane_drain(&room, 0, &found));
+    RETURNS(DONE, seryugo_recv(&room, 0, 0, false, &found));
+    RETURNS(DONE, seryugo_recv(&room, 0, 0, false, &found));
+    RETURNS(JOURNAL_FULL, seryugo_is_full(&room));
+}
+
+/* Its last seat makes the short journal. The message that is still in the lane's ring isn't in it. */
+static void try_a_room_in_use(void)
+{
+    static const char expected[] = "journal 1\nseat 1 mailbox: made 0\nseat 1 send 0 7: done\nend 2\n";
+    uint64_t count = 77, cut, found;
+
+    use_a_room();
+    RETURNS(DONE, seryugo_lane_send(&lane, 8));
+    RETURNS(WRONG_HANDLE, seryugo_compact(&lane, &journal, &count));
+    RETURNS(WRONG_HANDLE, seryugo_compact_and_cut(&lane, &journal, &count));
+    IS(77, count);
+    RETURNS(DONE, seryugo_compact(&room, &journal, &count));
+    has_journal = true;
+    IS(2, count);
+    is_written(0, expected, __LINE__);
+    close_one(&has_journal, journal);
+    RETURNS(DONE, seryugo_cut_at(&room, &found));
+    IS(0, found);
+    RETURNS(DONE, seryugo_compact_and_cut(&room, &journal, &count));
+    has_journal = true;
+    IS(2, count);
+    is_written(0, expected, __LINE__);
+    close_one(&has_journal, journal);
+    RETURNS(DONE, seryugo_cut_at(&room, &cut));
+    IS(6, cut);
+    /* What comes now follows it. */
+    RETURNS(DONE, seryugo_lane_drain(&room, 0, &found));
+    RETURNS(DONE, seryugo_recv(&room, 0, 0, false, &found));
+    IS(7, found);
+    RETURNS(DONE, seryugo_take_journal_open(&room, &journal, &found));
+    has_journal = true;
+    is_written(count, "journal 1\nfrom 2\nlane 0 send 0 8: done\nseat 0 recv 0: 7\nend 4\n", __LINE__);
+    close_one(&has_journal, journal);
+    close_one(&has_lane, lane);
+    close_one(&has_room, room);
+}
+
 int main(void)
 {
     try_numbers();
@@ -186,6 +252,7 @@ int main(void)
     try_wrong_calls();
     try_a_room_of(long_journal, 13);
     try_a_room_of(short_journal, 12);
+    try_a_room_in_use();
     free_all();
     puts("each journal is made short");
     return 0;

@@ -4,17 +4,11 @@ use Rattle.std.specs.Prelude.{Box}
 use Rattle.std.specs.declared.alloc.Global.{Global}
 use Rattle.std_alloc.specs.Box.{with_value}
 use Rattle.cml_board.specs.{Entry, RestoredShown}
-use Rattle.cml_board.specs.declared.entry.Who.TheVariants.{Seat}
-use Rattle.cml_compact.specs.{AllBy}
+use Rattle.cml_compact.specs.{IsShortJournal, last_seat}
 use Rattle.cml_journal.specs.{Halt, Progress, IsSoFar, IsRestored}
 use Rattle.cml_c.specs.declared.code.Code.TheVariants.{Unlawful}
-use Rattle.cml_c.specs.{Slot, Kept, Resource, number, IsCompacted, ShortensBy, WritesShort, left_stopped, told_stopped}
+use Rattle.cml_c.specs.{Slot, Kept, Resource, number, ShortensBy, WritesShort, left_stopped, told_stopped}
 use Rattle.cml_c.specs.declared.kept.Resource.TheVariants.{Reading, Spent}
-
--- entries of a seat are those of whichever number is its own
-pub by_this_seat : {M : Type 0} (history : List (Entry M)) (seat number : ℕ) → seat ≡ number → AllBy (Seat seat) history
-    → AllBy (Seat number) history
-by_this_seat history seat number same by = subst (λ (n : ℕ). AllBy (Seat n) history) same by
 
 -- what is written of some entries is written of such entries
 pub such_are_written : {M : Type 0} (IsSuch IsThis : List (Entry M) → Type 0) (wrap : Resource M → Kept) (from to : Slot)
@@ -34,7 +28,7 @@ module _ {M : Type 0} (version : ℕ) (meaning : List ℕ → Option M) (wrap : 
   -- a reading gave a board, and its short journal is written
   pub is_shortened : (now : Progress M) (restored : RestoredShown M) (to : Slot) (after told : ℕ) → now ≡ reading.value
       → ((bytes : List ℕ) → IsSoFar version meaning bytes now → IsRestored version meaning bytes 1 restored)
-      → WritesShort (IsCompacted restored) wrap from to before after told
+      → WritesShort (IsShortJournal restored.board (last_seat restored.makers.seats)) wrap from to before after told
       → ShortensBy version meaning wrap from to before after reading Spent told
   is_shortened now restored to after told same read (inl written) =
       inl (record {
@@ -45,7 +39,7 @@ module _ {M : Type 0} (version : ℕ) (meaning : List ℕ → Option M) (wrap : 
             restored = restored;
             read = subst (λ (p : Progress M). (bytes : List ℕ) → IsSoFar version meaning bytes p
                 → IsRestored version meaning bytes 1 restored) same read;
-            compacted = written.such;
+            short = written.such;
           };
           written = written.written;
           count = written.count;

@@ -35,6 +35,7 @@ const SCENES: &[(u64, Scene, &str)] = &[
     (2, Scene::Alone(refusing::STEPS), refusing::TOLD),
     (2, Scene::Alone(cutting::STEPS), cutting::TOLD),
     (2, Scene::Alone(cutting::OPEN), cutting::TOLD_OPEN),
+    (5, Scene::Alone(cutting::SHORT), cutting::TOLD_SHORT),
     (
         MANY,
         Scene::InTurn(settling::SENDS, settling::POLLS),

@@ -6,7 +6,7 @@ pub mod Settling
 pub mod Telling
 pub mod Unparking
 -- the names that others import from here
-pub use Seating.{Sitting, answers_in, raised, share_at}
+pub use Seating.{Sitting, answers_in, raised, seats_in}
 pub use Hosting.{Hosted, IsCounted, MayAsk, MayAskAgain, WasCounted, floor_of, room_of, with_state}
 pub use Asking.{Asks, Tallies}
 pub use Running.{AreMade, Ask, AskAgain, HallCall, IsMade, Leave, NewSeat, NextDue, OnFloor, hands_over, keeps_entries}

@@ -156,7 +156,7 @@ impl<M: Message, L: MessageLog<M>, Led: Ledger> Hall<M, L, Led> {
 
     /// Makes a new seat, which is free and has the next number. Fails only with `NoMemory`.
     pub fn new_seat(&mut self) -> Result<Seat<Led>, Refusal>
-        ensures seat { IfOk result (λ seat. seat ≡ record { number = length self.old.seats; share = 0 }) }
+        ensures seat { IfOk result (λ seat. seat ≡ record { number = length self.old.seats; seats = 1; share = 0 }) }
         ensures seats { OnOk result (self.new.seats ≡ self.old.seats ++ State.Free ∷ []) }
         ensures board { self.new.board ≡ self.old.board }
         ensures lanes { self.new.lanes ≡ self.old.lanes }

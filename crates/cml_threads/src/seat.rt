@@ -13,10 +13,12 @@ pub struct Seat<Led: Ledger> {
     share: Share<Led>,
 }
 
-/// A seat that makes no more calls. `settle` counts it. One of another switchboard has another ledger, and so another type.
+/// A seat that makes no more calls, or all seats that made the entries of a journal. `settle` counts them. One of another switchboard
+/// has another ledger, and so another type.
 #[derive(Drop)]
 pub struct Left<Led: Ledger> {
     number: u64,
+    seats: u64,
     answers: u64,
     share: Share<Led>,
 }
@@ -27,7 +29,7 @@ impl<Led: Ledger> Model for Seat<Led> {
 
     ghost Value = { Sitting };
 
-    ghost view = { λ s. record { number = s.number; share = s.share.amount } };
+    ghost view = { λ s. record { number = s.number; seats = 1; share = s.share.amount } };
 
     ghost invariant = { λ s. (s.share.parts ≡ 1) × (s.answers ≡ s.share.amount) };
 }
@@ -38,16 +40,16 @@ impl<Led: Ledger> Model for Left<Led> {
 
     ghost Value = { Sitting };
 
-    ghost view = { λ s. record { number = s.number; share = s.share.amount } };
+    ghost view = { λ s. record { number = s.number; seats = s.seats; share = s.share.amount } };
 
-    ghost invariant = { λ s. (s.share.parts ≡ 1) × (s.answers ≡ s.share.amount) };
+    ghost invariant = { λ s. (s.share.parts ≡ s.seats) × (s.answers ≡ s.share.amount) };
 }
 
 impl<Led: Ledger> Seat<Led> {
     pub(crate) fn new(number: u64, share: Share<Led>) -> Seat<Led>
         requires parts { share.parts ≡ 1 }
         requires amount { share.amount ≡ 0 }
-        ensures { result ≡ record { number = number; share = 0 } }
+        ensures { result ≡ record { number = number; seats = 1; share = 0 } }
     {
         Seat {
             number,
@@ -75,6 +77,7 @@ impl<Led: Ledger> Seat<Led> {
         } = self;
         Left {
             number,
+            seats: 1,
             answers,
             share,
         }
@@ -93,26 +96,35 @@ impl<Led: Ledger> Seat<Led> {
 }
 
 impl<Led: Ledger> Left<Led> {
-    pub(crate) fn new(number: u64, answers: u64, share: Share<Led>) -> Left<Led>
-        requires parts { share.parts ≡ 1 }
+    /// That of so many seats, which had these answers together.
+    pub(crate) fn of_many(seats: u64, answers: u64, share: Share<Led>) -> Left<Led>
+        requires parts { share.parts ≡ seats }
         requires amount { share.amount ≡ answers }
-        ensures { result ≡ record { number = number; share = answers } }
+        ensures { result ≡ record { number = 0; seats = seats; share = answers } }
     {
         Left {
-            number,
+            number: 0,
+            seats,
             answers,
             share,
         }
     }
 
-    /// Returns the number of its seat.
+    /// Returns the number of its seat; 0 if it stands for the seats of a journal.
     pub fn seat(&self) -> u64
         ensures { result ≡ self.now.number }
     {
         self.number
     }
 
-    /// Returns how many calls of its seat were answered, which is its share of what `settle` counts.
+    /// Returns how many seats it stands for. `settle` needs as many as were made.
+    pub fn seats(&self) -> u64
+        ensures { result ≡ self.now.seats }
+    {
+        self.seats
+    }
+
+    /// Returns how many calls of its seats were answered, which is its share of what `settle` counts.
     pub fn answers(&self) -> u64
         ensures { result ≡ self.now.share }
     {
@@ -124,11 +136,12 @@ impl<Led: Ledger> Left<Led> {
         ensures answers { result ≡ self.share }
         ensures total { book.new.total ≡ book.old.total }
         ensures amount { rest.new.amount ≡ rest.old.amount + self.share }
-        ensures parts { rest.new.parts ≡ rest.old.parts + 1 }
+        ensures parts { rest.new.parts ≡ rest.old.parts + self.seats }
         ensures bound { rest.new.amount ≤ book.new.total }
     {
         let Left {
             number: _,
+            seats: _,
             answers,
             share,
         } = self;

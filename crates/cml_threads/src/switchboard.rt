@@ -1,7 +1,7 @@
-ghost use Rattle.std.specs.Prelude.{ℕ, ◌≡◌, ◌+◌, ◌-◌, ◌^◌, ◌≤◌, true, slice_get, Some, vec_len, IfOk, IfErr, OnOk};
+ghost use Rattle.std.specs.Prelude.{◌≡◌, ◌+◌, ◌^◌, ◌≤◌, true, IfOk, IfErr, OnOk};
 ghost use Rattle.cml_board.specs.declared.outcome.Refusal.TheVariants.{Busy, NoMemory};
 ghost use Rattle.cml_board.specs.{want_in, entries_in, rings_in};
-ghost use Rattle.cml_threads.specs.{HaveLeft, Sitting, raised, answers_in, share_at, suits, MayRefuse, Tells};
+ghost use Rattle.cml_threads.specs.{HaveLeft, raised, answers_in, suits, MayRefuse, Tells};
 
 mod channels;
 mod compacting;
@@ -63,26 +63,22 @@ impl<M: Message, L: MessageLog<M>, Led: Ledger> Switchboard<M, L, Led> {
         Switchboard::of(alloc, Hall::new(alloc, limit, blank)?)
     }
 
-    /// Makes a switchboard that goes on from a journal, of a hall that `Hall::restore` makes, and the lefts of the seats that made
-    /// its entries. New seats are numbered behind these. Keep the lefts for `settle`.
+    /// Makes a switchboard that goes on from a journal, of a hall that `Hall::restore` makes, and the left of the seats that made
+    /// its entries. New seats are numbered after these. Keep the left for `settle`.
     pub fn restore(
         alloc: Global,
         restored: Restored<M, L>,
         blank: Blank,
-    ) -> Result<(Switchboard<M, L, Led>, Vec<Left<Led>>), AllocError>
+    ) -> Result<(Switchboard<M, L, Led>, Left<Led>), AllocError>
         requires name { blank.name ≡ Led.name }
         requires parts { blank.parts ≡ Led.parts }
         requires enough { blank.parts ≡ 2 ^ 63 }
-        ensures lefts { IfOk result (λ made. vec_len made.1 ≡ restored.makers.seats) }
-        ensures numbers { IfOk result (λ made. (number : ℕ) (left : Sitting)
-            → slice_get made.1.items number ≡ Some left → left.number ≡ number) }
-        ensures shares { IfOk result (λ made. (number : ℕ) (left : Sitting) → slice_get made.1.items number ≡ Some left
-            → left.share ≡ share_at number (entries_in restored.board.history - rings_in restored.board.history)) }
-        ensures answers { IfOk result
-            (λ made. answers_in made.1.items + rings_in restored.board.history ≡ entries_in restored.board.history) }
+        ensures number { IfOk result (λ made. made.1.number ≡ 0) }
+        ensures left { IfOk result (λ made. made.1.seats ≡ restored.makers.seats) }
+        ensures answers { IfOk result (λ made. made.1.share + rings_in restored.board.history ≡ entries_in restored.board.history) }
     {
-        let (hall, lefts) = Hall::restore(alloc, restored, blank)?;
-        Ok((Switchboard::of(alloc, hall)?, lefts))
+        let (hall, left) = Hall::restore(alloc, restored, blank)?;
+        Ok((Switchboard::of(alloc, hall)?, left))
     }
 
     /// Measures how long a yield takes now, with nothing else to do. If it is short, and there is more than one processor, threads

@@ -1,5 +1,6 @@
 //! Cuts of a switchboard's journal. They fail while a lane is open, and else drop or return the entries. What waits is
-//! received after a cut, and there is room for as many entries again. Open cuts are made while a lane or a feed is open.
+//! received after a cut, and there is room for as many entries again. Open cuts are made while a lane or a feed is open. So are short
+//! journals.
 use super::forms::Form;
 use super::steps::Step;
 use cml_board::Name;
@@ -84,4 +85,41 @@ Ok(true)
 Ok(Got(5))
 Count { seats: 6, rings: 3, total: 9 }
 (Seat(0), Recv(Name(0)), Got(5))
+";
+
+/// Of three messages one waits, and a lane is open.
+pub const SHORT: &[Step] = &[
+    Step::Form(Form::Mailbox),
+    Step::OpenLane(MAILBOX),
+    Step::Form(Form::Send(MAILBOX, 4)),
+    Step::Form(Form::Recv(MAILBOX)),
+    Step::Form(Form::Send(MAILBOX, 5)),
+    Step::Compact(1),
+    Step::Compact(2),
+    Step::CompactAndCut(1),
+    Step::CompactAndCut(2),
+    Step::Push(6),
+    Step::CloseLane,
+    Step::Form(Form::Recv(MAILBOX)),
+    Step::CompactAndCut(2),
+    Step::Form(Form::Recv(MAILBOX)),
+];
+
+/// The result of each step. The counts are of all entries, and the journal has the last alone.
+pub const TOLD_SHORT: &str = "Ok(Made(Name(0)))
+0
+Ok(Done)
+Ok(Got(4))
+Ok(Done)
+Err(JournalFull)
+Ok(2)
+Err(JournalFull)
+Ok(2)
+Ok(())
+Ok(())
+Ok(Got(5))
+Ok(2)
+Ok(Got(6))
+Count { seats: 6, rings: 1, total: 7 }
+(Seat(0), Recv(Name(0)), Got(6))
 ";

@@ -1,7 +1,7 @@
 //! A switchboard that goes on from a journal: its new seats are numbered behind the old ones, and their threads wake each other.
 ghost use Rattle.std.specs.Prelude.{◌≡◌, ◌^◌};
 
-use super::scene::{Numbers, tell};
+use super::scene::{Numbers, alone, tell};
 use cml_board::{Board, BoardLog, Call, Checker, Name, Restored, Who};
 use cml_threads::{Left, PARTS, Seat};
 use std::alloc::Global;
@@ -10,14 +10,11 @@ use std::sync::Wait;
 use std::sync::ledger::{Blank, Ledger};
 use std::thread::{self, Threads};
 
-/// The journal has three entries of seats, the last of which has number 4, and one of a lane. Two new seats make 400 calls each.
-pub const TOLD: &str = "(0, 3)
-(1, 0)
-(2, 0)
-(3, 0)
-(4, 0)
-(5, 400)
-(6, 400)
+/// The journal has three entries of seats, the last of which has number 4, and one of a lane. Two new seats make 400 calls each. Each
+/// line has a left: the number of its seat, for how many seats it is, and how many answers these had.
+pub const TOLD: &str = "(0, 5, 3)
+(5, 1, 400)
+(6, 1, 400)
 Count { seats: 803, rings: 1, total: 804 }
 ";
 
@@ -46,8 +43,8 @@ fn go_on<Led: Ledger + Send + Sync, R: Threads + Wait + Sync>(
     let Some(restored) = board_of_journal(alloc) else {
         return;
     };
-    if let Ok((board, lefts)) = Numbers::<Led>::restore(alloc, restored, blank) {
-        let mut lefts = lefts;
+    if let Ok((board, left)) = Numbers::<Led>::restore(alloc, restored, blank) {
+        let mut lefts = alone(alloc, left);
         add_new(rt, alloc, &board, &mut lefts);
         tell_lefts(text, &lefts);
         if let Ok(settled) = board.settle(lefts) {
@@ -110,6 +107,6 @@ fn call_all<Led: Ledger, R: Wait>(rt: &R, board: &Numbers<Led>, seat: Seat<Led>)
 
 fn tell_lefts<Led: Ledger>(text: &mut String, lefts: &Vec<Left<Led>>) {
     for left in lefts {
-        tell(text, &(left.seat(), left.answers()));
+        tell(text, &(left.seat(), left.seats(), left.answers()));
     }
 }

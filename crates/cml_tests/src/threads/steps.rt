@@ -1,7 +1,7 @@
 //! Steps of one seat, with a lane and a feed that it has at hand. The result of each step is a line of a text.
 use super::forms::Form;
 use super::scene::{Numbers, tell};
-use cml_board::{Call, Name, Refusal};
+use cml_board::{Call, Entry, Name, Refusal};
 use cml_lanes::{Feed, Lane};
 use cml_threads::{Left, Seat};
 use std::sync::Wait;
@@ -9,6 +9,9 @@ use std::sync::ledger::Ledger;
 
 /// How many messages a lane or a feed has room for.
 const ROOM: usize = 2;
+
+/// The most entries of a short journal.
+const MOST: u64 = 4_294_967_296;
 
 /// The number of the first lane, and of the first feed: a scene has one of each.
 const FIRST: u64 = 0;
@@ -27,6 +30,10 @@ pub enum Step {
     /// The same two while the lane or the feed is open.
     CutOpen,
     TakeJournalOpen,
+    /// A short journal of at most so many entries: how many it has.
+    Compact(u64),
+    /// The same with a cut.
+    CompactAndCut(u64),
     OpenLane(Name),
     Push(u64),
     /// The lane is closed by its end.
@@ -81,6 +88,8 @@ impl<Led: Ledger, R: Wait> Hands<'_, Led, R> {
             Step::TakeJournal => tell(text, &journal_taken(self.rt, self.board)),
             Step::CutOpen => self.cut_open(text),
             Step::TakeJournalOpen => self.take_journal_open(text),
+            Step::Compact(limit) => self.compact(text, limit),
+            Step::CompactAndCut(limit) => self.compact_and_cut(text, limit),
             Step::OpenLane(target) => self.open_lane(text, target),
             Step::Push(message) => self.push(text, message),
             Step::CloseLane => self.close_lane(text),
@@ -103,6 +112,16 @@ impl<Led: Ledger, R: Wait> Hands<'_, Led, R> {
 
     fn take_journal_open(&self, text: &mut String) {
         tell(text, &self.board.take_journal_open(self.rt).len());
+    }
+
+    fn compact(&self, text: &mut String, limit: u64) {
+        let limit = limit.max(1).min(MOST);
+        tell(text, &counted(self.board.compact(self.rt, limit)));
+    }
+
+    fn compact_and_cut(&self, text: &mut String, limit: u64) {
+        let limit = limit.max(1).min(MOST);
+        tell(text, &counted(self.board.compact_and_cut(self.rt, limit)));
     }
 
     fn open_lane(&mut self, text: &mut String, target: Name) {
@@ -141,6 +160,11 @@ impl<Led: Ledger, R: Wait> Hands<'_, Led, R> {
 /// Cuts the journal: how many entries are handed over.
 fn journal_taken<Led: Ledger, R: Wait>(rt: &R, board: &Numbers<Led>) -> Result<usize, Refusal> {
     Ok(board.take_journal(rt)?.len())
+}
+
+/// How many entries there are.
+fn counted(entries: Result<Vec<Entry<u64>>, Refusal>) -> Result<usize, Refusal> {
+    Ok(entries?.len())
 }
 
 /// Ends the first feed: whether that gives an end.
