@@ -7,7 +7,7 @@ use Rattle.cml_board.specs.{Entry, Name, Refusal, Cuts, entries_in, HasRoom, IsA
 use Rattle.cml_board.specs.Shown.{Shown}
 use Rattle.cml_board.specs.declared.outcome.Refusal.TheVariants.{NoSuch}
 use Rattle.cml_lanes.specs.{LaneShown, Ended, FloorShown, NoSuchOr, FindsNoFeed, OpensALane, CutsFloor, CutsAFloor, CutsOpenFloor, NotCut}
-use Rattle.cml_lanes.specs.{Reserves, IsFloorAsBefore}
+use Rattle.cml_lanes.specs.{CutsShort, Reserves, IsFloorAsBefore, ShowsSameFloor}
 use Rattle.cml_lanes.specs.Feeds.{Ends}
 use Rattle.cml_room.specs.{Place, Waiter, states_in, IsMate, NoneOpen, AreIdle, WouldWait, AreAt, IsWatched}
 
@@ -42,26 +42,32 @@ module _ {M : Type 0} where
       → IsWatched old places all_due → IsWatched new places all_due
   same_floor_watched old new places all_due same was = subst (λ (f : FloorShown M). IsWatched f places all_due) (sym same) was
 
-  -- the board is as it was: its journal has as much room
+  -- the history, the past and the limit are the same: the journal has as much room
+  same_room : (old new : Shown M) → new.history ≡ old.history → new.past ≡ old.past → new.limit ≡ old.limit → HasRoom old → HasRoom new
+  same_room old new history past limit room =
+      let full : full_at new ≡ full_at old = ap (λ p. min (entries_in p + new.limit) 18446744073709551615) past
+      ∙ ap (λ l. min (entries_in old.past + l) 18446744073709551615) limit in
+      omega (arith, room, full, ap entries_in history)
+
+  -- the board is as it was
   pub room_kept : (old new : Shown M) → IsAsBefore old new → HasRoom old → HasRoom new
-  room_kept old new same room =
-      let full : full_at new ≡ full_at old = ap (λ p. min (entries_in p + new.limit) 18446744073709551615) same.past
-      ∙ ap (λ l. min (entries_in old.past + l) 18446744073709551615) same.limit in
-      omega (arith, room, full, ap entries_in same.history)
+  room_kept old new same room = same_room old new same.history same.past same.limit room
 
   -- a cut makes room
-  room_cut : (old new : Shown M) → entries_in old.past ≤ entries_in old.history → Cuts old new → HasRoom old → HasRoom new
-  room_cut old new past cut room =
+  more_room : (old new : Shown M) → entries_in old.past ≤ entries_in old.history → new.history ≡ old.history → new.past ≡ old.history
+      → new.limit ≡ old.limit → HasRoom old → HasRoom new
+  more_room old new within history past limit room =
       let full : full_at new ≡ min (entries_in old.history + old.limit) 18446744073709551615 =
-      ap (λ p. min (entries_in p + new.limit) 18446744073709551615) cut.past
-      ∙ ap (λ l. min (entries_in old.history + l) 18446744073709551615) cut.limit in
-      omega (arith, room, past, full, ap entries_in cut.history)
+      ap (λ p. min (entries_in p + new.limit) 18446744073709551615) past
+      ∙ ap (λ l. min (entries_in old.history + l) 18446744073709551615) limit in
+      omega (arith, room, within, full, ap entries_in history)
 
   cut_watched : (old new : FloorShown M) (places : List Place) (all_due : Bool)
       → entries_in old.board.past ≤ entries_in old.board.history → Cuts old.board new.board → new.lanes ≡ old.lanes
       → IsWatched old places all_due → IsWatched new places all_due
   cut_watched old new places all_due past cut lanes was =
-      same_watched old new places all_due was cut.history (room_cut old.board new.board past cut) (λ none. subst NoneOpen lanes none)
+      same_watched old new places all_due was cut.history (more_room old.board new.board past cut.history cut.past cut.limit)
+      (λ none. subst NoneOpen lanes none)
 
   not_cut_watched : (old new : FloorShown M) (places : List Place) (all_due : Bool) (refusal : Refusal) → NotCut old new refusal
       → IsWatched old places all_due → IsWatched new places all_due
@@ -90,6 +96,29 @@ module _ {M : Type 0} where
       → IsWatched old places all_due → IsWatched new places all_due
   cut_open_watched old new places all_due journal all cut was =
       cut_watched old new places all_due (past_within journal old.board.past old.board.history all) cut.board cut.lanes was
+
+  -- a short journal was made, and nothing is changed
+  pub shows_watched : (old new : FloorShown M) (places : List Place) (all_due : Bool) → ShowsSameFloor old new
+      → IsWatched old places all_due → IsWatched new places all_due
+  shows_watched old new places all_due same was =
+      same_watched old new places all_due was same.board.history (same_room old.board new.board same.board.history same.board.past
+      same.board.limit) (λ none. subst NoneOpen same.lanes none)
+
+  -- or the journal was cut then
+  cut_short_watched : (old new : FloorShown M) (places : List Place) (all_due : Bool)
+      → entries_in old.board.past ≤ entries_in old.board.history → CutsShort old new
+      → IsWatched old places all_due → IsWatched new places all_due
+  cut_short_watched old new places all_due past cut was =
+      same_watched old new places all_due was cut.history (more_room old.board new.board past cut.history cut.past cut.limit)
+      (λ none. subst NoneOpen cut.lanes none)
+
+  pub short_watched : {X : Type 0} (old new : FloorShown M) (places : List Place) (all_due : Bool) (journal : List (Entry M))
+      (told : Result X Refusal) → journal ++ old.board.past ≡ old.board.history
+      → MatchResult told (λ _. CutsShort old new) (λ _. ShowsSameFloor old new)
+      → IsWatched old places all_due → IsWatched new places all_due
+  short_watched old new places all_due journal (Ok entries) all cut was =
+      cut_short_watched old new places all_due (past_within journal old.board.past old.board.history all) cut was
+  short_watched old new places all_due journal (Err refusal) all same was = shows_watched old new places all_due same was
 
   as_before_watched : (old new : FloorShown M) (places : List Place) (all_due : Bool) → IsFloorAsBefore old new
       → IsWatched old places all_due → IsWatched new places all_due

@@ -1,7 +1,7 @@
 //! Short journals of a floor's board.
 ghost use Rattle.std.specs.Prelude.{◌≡◌, ◌≤◌, ◌^◌, IfOk, IfErr, MatchResult};
 ghost use Rattle.cml_compact.specs.{IsShortJournal, Stops, compact_size};
-ghost use Rattle.cml_lanes.specs.{KeepsRings, CutsOpenFloor};
+ghost use Rattle.cml_lanes.specs.{KeepsRings, CutsShort, ShowsSameFloor};
 
 use super::Floor;
 use cml_board::{Entry, Message, Refusal, Who};
@@ -19,7 +19,7 @@ impl<M: Message, L: MessageLog<M>> Floor<M, L> {
         requires most { limit ≤ 2 ^ 32 }
         ensures ok { IfOk result (λ entries. IsShortJournal self.old.board who entries.items) }
         ensures err { IfErr result (Stops limit (compact_size self.old.board.history)) }
-        ensures same { self.new ≡ self.old }
+        ensures same { ShowsSameFloor self.old self.new }
         ensures rings { KeepsRings self.old self.new }
     {
         short_journal(self.alloc, &mut self.board, who, limit)
@@ -32,7 +32,7 @@ impl<M: Message, L: MessageLog<M>> Floor<M, L> {
         requires most { limit ≤ 2 ^ 32 }
         ensures ok { IfOk result (λ entries. IsShortJournal self.old.board who entries.items) }
         ensures err { IfErr result (Stops limit (compact_size self.old.board.history)) }
-        ensures cut { MatchResult result (λ _. CutsOpenFloor self.old self.new) (λ _. self.new ≡ self.old) }
+        ensures cut { MatchResult result (λ _. CutsShort self.old self.new) (λ _. ShowsSameFloor self.old self.new) }
         ensures rings { KeepsRings self.old self.new }
     {
         let entries = self.compact(who, limit)?;

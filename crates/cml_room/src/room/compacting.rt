@@ -1,7 +1,7 @@
 //! Short journals of a room's board. They make no seat due.
 ghost use Rattle.std.specs.Prelude.{◌≡◌, ◌≤◌, ◌^◌, length, IfOk, IfErr, MatchResult};
 ghost use Rattle.cml_compact.specs.{IsShortJournal, Stops, compact_size, last_seat};
-ghost use Rattle.cml_lanes.specs.{KeepsRings, CutsOpenFloor};
+ghost use Rattle.cml_lanes.specs.{KeepsRings, CutsShort, ShowsSameFloor};
 ghost use Rattle.cml_room.specs.{floor_of, KeepsSeats};
 
 use super::Room;
@@ -17,7 +17,7 @@ impl<M: Message, L: MessageLog<M>> Room<M, L> {
         requires most { limit ≤ 2 ^ 32 }
         ensures ok { IfOk result (λ entries. IsShortJournal self.old.board (last_seat (length self.old.seats)) entries.items) }
         ensures err { IfErr result (Stops limit (compact_size self.old.board.history)) }
-        ensures same { self.new ≡ self.old }
+        ensures same { ShowsSameFloor (floor_of self.old) (floor_of self.new) }
         ensures rings { KeepsRings (floor_of self.old) (floor_of self.new) }
         ensures kept { KeepsSeats self.old self.new }
     {
@@ -32,10 +32,13 @@ impl<M: Message, L: MessageLog<M>> Room<M, L> {
         requires most { limit ≤ 2 ^ 32 }
         ensures ok { IfOk result (λ entries. IsShortJournal self.old.board (last_seat (length self.old.seats)) entries.items) }
         ensures err { IfErr result (Stops limit (compact_size self.old.board.history)) }
-        ensures cut { MatchResult result (λ _. CutsOpenFloor (floor_of self.old) (floor_of self.new)) (λ _. self.new ≡ self.old) }
+        ensures cut { MatchResult result (λ _. CutsShort (floor_of self.old) (floor_of self.new))
+            (λ _. ShowsSameFloor (floor_of self.old) (floor_of self.new)) }
         ensures rings { KeepsRings (floor_of self.old) (floor_of self.new) }
         ensures kept { KeepsSeats self.old self.new }
     {
+        // The contract of `journal` says that it is a part of all entries: so a cut makes room.
+        let _journal = self.floor.board().journal();
         let who = self.last_seat();
         self.floor.compact_and_cut(who, limit)
     }

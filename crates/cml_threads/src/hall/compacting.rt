@@ -1,7 +1,7 @@
 //! Short journals of a hall's board.
 ghost use Rattle.std.specs.Prelude.{◌≡◌, ◌≤◌, ◌^◌, length, IfOk, IfErr, MatchResult};
 ghost use Rattle.cml_compact.specs.{IsShortJournal, Stops, compact_size, last_seat};
-ghost use Rattle.cml_lanes.specs.{KeepsRings, CutsOpenFloor};
+ghost use Rattle.cml_lanes.specs.{KeepsRings, CutsShort, ShowsSameFloor};
 ghost use Rattle.cml_room.specs.{KeepsSeats};
 ghost use Rattle.cml_threads.specs.{floor_of, room_of};
 
@@ -18,9 +18,10 @@ impl<M: Message, L: MessageLog<M>, Led: Ledger> Hall<M, L, Led> {
         requires most { limit ≤ 2 ^ 32 }
         ensures ok { IfOk result (λ entries. IsShortJournal self.old.board (last_seat (length self.old.seats)) entries.items) }
         ensures err { IfErr result (Stops limit (compact_size self.old.board.history)) }
-        ensures same { self.new ≡ self.old }
+        ensures same { ShowsSameFloor (floor_of self.old) (floor_of self.new) }
         ensures rings { KeepsRings (floor_of self.old) (floor_of self.new) }
         ensures kept { KeepsSeats (room_of self.old) (room_of self.new) }
+        ensures book { self.new.book ≡ self.old.book }
     {
         self.room.compact(limit)
     }
@@ -32,7 +33,8 @@ impl<M: Message, L: MessageLog<M>, Led: Ledger> Hall<M, L, Led> {
         requires most { limit ≤ 2 ^ 32 }
         ensures ok { IfOk result (λ entries. IsShortJournal self.old.board (last_seat (length self.old.seats)) entries.items) }
         ensures err { IfErr result (Stops limit (compact_size self.old.board.history)) }
-        ensures cut { MatchResult result (λ _. CutsOpenFloor (floor_of self.old) (floor_of self.new)) (λ _. self.new ≡ self.old) }
+        ensures cut { MatchResult result (λ _. CutsShort (floor_of self.old) (floor_of self.new))
+            (λ _. ShowsSameFloor (floor_of self.old) (floor_of self.new)) }
         ensures rings { KeepsRings (floor_of self.old) (floor_of self.new) }
         ensures kept { KeepsSeats (room_of self.old) (room_of self.new) }
         ensures book { self.new.book ≡ self.old.book }
