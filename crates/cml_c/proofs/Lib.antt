@@ -2,6 +2,7 @@ mod HandleBoxLemmas
 mod KeeperBoxLemmas
 mod GoingOnLemmas
 mod ShorteningLemmas
+mod RoomShorteningLemmas
 mod TakingLemmas
 mod NeedingLemmas
 mod RefusingLemmas

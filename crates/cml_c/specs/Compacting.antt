@@ -1,13 +1,13 @@
 -- What C gets of a journal that is made short: of one that was read, or of a room's.
-use Rattle.std.specs.Prelude.{ℕ, ◌≡◌, ◌⊎◌, ◌^◌, List, length, Bool, true, false, Option, Some, Box, Vec}
+use Rattle.std.specs.Prelude.{ℕ, ◌≡◌, ◌<◌, ◌⊎◌, ◌^◌, List, length, Bool, true, false, Option, Some, Box, Vec, ⊤}
 use Rattle.std.specs.declared.alloc.Global.{Global}
 use Rattle.cml_board.specs.{Entry, RestoredShown}
-use Rattle.cml_board.specs.declared.outcome.Refusal.TheVariants.{JournalFull}
-use Rattle.cml_compact.specs.{IsShortJournal, Stops, compact_size, last_seat}
-use Rattle.cml_lanes.specs.{CutsOpenFloor, KeepsRings}
+use Rattle.cml_compact.specs.{IsShortJournal, compact_size, last_seat}
+use Rattle.cml_lanes.specs.{CutsShort, KeepsRings, ShowsSameFloor}
 use Rattle.cml_room.specs.{RoomShown, floor_of, KeepsSeats}
 use Rattle.cml_journal.specs.{Progress, IsSoFar, IsRestored, message_of_word, number_of}
-use Rattle.cml_c.specs.declared.code.Code.TheVariants.{Done, NoMemory, JournalFull as full}
+use Rattle.cml_c.specs.declared.code.Code.{Code}
+use Rattle.cml_c.specs.declared.code.Code.TheVariants.{Done, NoMemory, JournalFull}
 use Rattle.cml_c.specs.declared.handle.Slot.{Slot}
 use Rattle.cml_c.specs.declared.kept.Kept.{Kept}
 use Rattle.cml_c.specs.declared.kept.Kept.TheVariants.{Numbers, Bytes}
@@ -15,7 +15,6 @@ use Rattle.cml_c.specs.declared.kept.Resource.{Resource}
 use Rattle.cml_c.specs.declared.kept.Resource.TheVariants.{Journal, Reading, Spent}
 use Rattle.cml_c.specs.Codes.{number}
 use Rattle.cml_c.specs.Handles.{IsWrong}
-use Rattle.cml_c.specs.Lanes.{NotOpened}
 use Rattle.cml_c.specs.Restoring.{HasStopped, OpensNone}
 
 -- a handle to a journal of such entries is written, with how many they are
@@ -64,15 +63,22 @@ ShortensKept from to before after told (Bytes old) new = (left : Resource (List 
     × Shortens 2 message_of_word Bytes from to before after told old left
 
 module _ {M : Type 0} where
-  -- the room's journal is cut while lanes and feeds go on, and no seat is changed; or, without a cut, nothing is changed
-  pub record CutsShort (old new : RoomShown M) : Type 0 where
-    pub cut : CutsOpenFloor (floor_of old) (floor_of new)
+  -- the room shows the same, and its lanes, feeds and seats are unchanged
+  pub record ShowsSameRoom (old new : RoomShown M) : Type 0 where
+    pub floor : ShowsSameFloor (floor_of old) (floor_of new)
     pub rings : KeepsRings (floor_of old) (floor_of new)
     pub kept : KeepsSeats old new
 
+  -- its journal is cut while lanes and feeds go on, and no seat is changed
+  pub record CutsShortRoom (old new : RoomShown M) : Type 0 where
+    pub cut : CutsShort (floor_of old) (floor_of new)
+    pub rings : KeepsRings (floor_of old) (floor_of new)
+    pub kept : KeepsSeats old new
+
+  -- what becomes of a room whose short journal is made
   abbrev pub Leaves : Bool → RoomShown M → RoomShown M → Type 0
-  Leaves true old new = CutsShort old new
-  Leaves false old new = new ≡ old
+  Leaves true old new = CutsShortRoom old new
+  Leaves false old new = ShowsSameRoom old new
 
   -- the entries leave what all calls of the room leave, and the last seat made all of them
   abbrev pub IsShortOf : RoomShown M → List (Entry M) → Type 0
@@ -83,9 +89,21 @@ module _ {M : Type 0} where
     pub gives : WritesTaken (IsShortOf old) wrap to after code
     pub leaves : Leaves cuts old new
 
-  -- it is; or the entries would be more than 2^32, or there is no memory, and nothing is changed
+  -- why it is not: there is no memory, or the entries would be more than 2^32
+  abbrev pub IsNotShort : RoomShown M → Code → Type 0
+  IsNotShort room NoMemory = ⊤
+  IsNotShort room JournalFull = 2 ^ 32 < compact_size room.board.history
+  IsNotShort room code = ⊥
+
+  -- then nothing is written or changed
+  pub record CompactsNone (from to : Slot) (code before after : ℕ) (old new : RoomShown M) : Type 0 where
+    pub reason : Code
+    pub why : IsNotShort old reason
+    pub told : code ≡ number reason
+    pub count : after ≡ before
+    pub slot : to ≡ from
+    pub same : ShowsSameRoom old new
+
   abbrev pub MakesShort : Bool → (Resource M → Kept) → Slot → Slot → ℕ → ℕ → ℕ → RoomShown M → RoomShown M → Type 0
   MakesShort cuts wrap from to code before after old new =
-      CompactsRoom cuts wrap to code after old new
-      ⊎ (Stops (2 ^ 32) (compact_size old.board.history) JournalFull × NotOpened full from to code before after old new)
-      ⊎ NotOpened NoMemory from to code before after old new
+      CompactsRoom cuts wrap to code after old new ⊎ CompactsNone from to code before after old new
