@@ -7,17 +7,15 @@ gets each message of its room once, in one order with all others.
 """
 
 import os
-import pathlib
 import random
 import re
-import shutil
-import subprocess
 import sys
 import time
 
-FOLDER = pathlib.Path(__file__).resolve().parent
-sys.path.insert(0, str(FOLDER.parents[1] / "tests/lib"))
-from cases import TOP, Cases, has, left_out, main, wait_until  # noqa: E402
+from server_cases import ServerCases
+from test_compaction import Compaction
+
+from cases import has, left_out, main, wait_until  # isort: skip
 
 # How many messages a second are received at the least: a tenth of what the server is made for.
 LEAST_RATE = 2000
@@ -27,153 +25,7 @@ LEAST_RATE = 2000
 KILLS, LEAST_LOST = 6, 100
 
 
-class ChatServer(Cases):
-    server = None
-    """The server that runs."""
-    address = None
-    """Where it listens: the next one listens there too."""
-
-    @classmethod
-    def setUpClass(cls):
-        given = pathlib.Path(cls.words[0]).resolve()
-        cls.checker = cls.words[1:]
-        if cls.checker:
-            cls.checker[0] = str(pathlib.Path(cls.checker[0]).resolve())
-        else:
-            print("left out: whether the journals are lawful: no command that checks one is named")
-        cls.archive = given if given.suffix == ".a" else None
-        folder = cls.build() if cls.archive else given.parent
-        cls.program = folder / ("chat_server" if cls.archive else given.name)
-        cls.load = folder / "chat_load"
-
-    @classmethod
-    def cargo(cls, word):
-        """Runs cargo on a copy of the sources, so that nothing is left beside them."""
-        kit = subprocess.run(
-            ["rt", "doc"], capture_output=True, text=True, check=True
-        ).stdout.strip()
-        named = {
-            "SERYUGO_ARCHIVES": str(cls.archive.parent),
-            "SERYUGO_KIT": str(pathlib.Path(kit).parent / "c"),
-            "CARGO_TARGET_DIR": str(cls.work / "target"),
-        }
-        manifest = cls.work / "examples/chat_server/Cargo.toml"
-        words = ["cargo", word, "--release", "--quiet", "--offline", "--manifest-path", manifest]
-        return cls.run_program(*words, seconds=900, env={**os.environ, **named})
-
-    @classmethod
-    def build(cls):
-        """Builds the server and its clients, and returns their folder."""
-        shutil.copytree(TOP / "bindings", cls.work / "bindings")
-        sources = cls.work / "examples/chat_server"
-        sources.mkdir(parents=True)
-        for part in "Cargo.toml", "Cargo.lock":
-            shutil.copy(FOLDER / part, sources)
-        shutil.copytree(FOLDER / "src", sources / "src")
-        built = cls.cargo("build")
-        if built.status != 0:
-            raise AssertionError(f"the program is built: {built.said()}{built.errors()}")
-        return cls.work / "target/release"
-
-    def launch(self, *options, stdin=subprocess.DEVNULL, wrapper=()):
-        """Starts the server on the journal, where the last one listened, and waits until it
-        listens.
-
-        The first one gets a port below those that the system gives to clients: a client that tries
-        again and again could get the server's port.
-        """
-        listen = self.address or f"127.0.0.1:{random.randrange(10000, 30000)}"
-        words = [*wrapper, self.program, "--listen", listen, "--journal", self.journal, *options]
-        self.server = self.start(*words, stdin=stdin)
-        wait_until(
-            "the server listens or ends", lambda: self.server.said() or not self.server.runs(), 30
-        )
-        listening = re.match(r"listening on ([0-9.:]*) ", self.server.said())
-        if listening:
-            self.address = listening[1]
-        return bool(listening)
-
-    def begin(self, *options, **how):
-        """A case: the server starts. It tries another port if the first one is taken."""
-        with self.case("the server starts"):
-            for _ in range(10):
-                if self.launch(*options, **how):
-                    return
-                if self.address or "can't listen" not in self.server.errors():
-                    break
-            self.fail(self.server.said() + self.server.errors())
-
-    def crash(self):
-        """A case: the server is killed, and has said on standard error how far it had read alone."""
-        self.server.kill()
-        with self.case("a server says nothing else on standard error"):
-            self.assertEqual(self.complaints(), "")
-
-    def complaints(self):
-        """What the server said on standard error, apart from how much of a file it had read."""
-        said = rf"(?m)^chat_server: {re.escape(str(self.journal))}: \d+ of \d+ kB are read\n"
-        return re.sub(said, "", self.server.errors())
-
-    def loads(self, word):
-        """Runs clients, each of whose lines `passed` and `failed` is a case."""
-        ran = self.run_program(self.load, word, self.address, seconds=300)
-        lines = ran.said().splitlines() + ran.errors().splitlines()
-        for line in lines:
-            if line.startswith(("passed", "failed")):
-                with self.case(word):
-                    self.assertFalse(line.startswith("failed"), line)
-            else:
-                print(line)
-        with self.case(f"{word}: the clients end"):
-            self.assertIsNotNone(ran.status)
-
-    def many(self, *options):
-        """Starts many clients, who talk to each other."""
-        return self.start(self.load, "everyone", self.address, *options)
-
-    def all_end_well(self, name, clients):
-        """A case: clients that were started end well."""
-        status = clients.ends(300)
-        print(f"{name}: {clients.said().strip()}")
-        with self.case(name):
-            self.assertEqual(status, 0, clients.errors())
-
-    def everyone(self, name, *options):
-        clients = self.many(*options)
-        self.all_end_well(name, clients)
-        return clients
-
-    def lawful(self, name):
-        """A case: the journal is lawful, and as long as its last line says."""
-        if self.checker:
-            length = self.journal.read_text().splitlines()[-1].removeprefix("end ")
-            with open(self.journal, "rb") as journal:
-                checked = self.run_program(*self.checker, stdin=journal)
-            self.expect(f"the journal is lawful: {name}", checked, 0, f"lawful {length}", "")
-
-    def refuses(self, name, status, error, *words):
-        """A case: the program ends with this status, and with an error that begins so."""
-        ended = self.run_program(self.program, *words)
-        self.expect(name, ended, status, "", True)
-        with self.case(f"{name}: its error"):
-            self.assertEqual(ended.errors()[: len(error)], error)
-
-    def no_journal(self, name, text, why=""):
-        """A case: a file that is no journal of a chat server is refused, and stays as it was.
-
-        The reason begins so.
-        """
-        other = self.work / "other"
-        other.write_text(text)
-        error = f"chat_server: {other} is no journal of a chat server: {why}"
-        self.refuses(name, 5, error, "--listen", "127.0.0.1:0", "--journal", other)
-        with self.case(f"{name}: the file stays"):
-            self.assertEqual(other.read_text(), text)
-
-    def setUp(self):
-        self.journal = self.work / f"journal.{self._testMethodName}"
-        self.address = None
-
+class ChatServer(ServerCases):
     def test_sources(self):
         if not self.archive:
             self.skipTest("the tests of the sources: the program was built elsewhere")
@@ -244,7 +96,7 @@ class ChatServer(Cases):
         self.no_journal(
             "a journal of another program", "journal 2\nseat 0 mailbox: made 0\nend 1\n"
         )
-        begun = "journal 2\nseat 0 mvar =chat%201: made 0\n"
+        begun = "journal 2\nseat 0 mvar =chat%202: made 0\n"
         unlawful = "line 3 has `seat 0 recv 0: =a`, which no switchboard answers behind the 1 entries"
         self.no_journal("an unlawful journal", f"{begun}seat 0 recv 0: =a\nend 2\n", unlawful)
         damaged = "line 3 has `seat O put 0 =a: done`, and an entry, as"
@@ -275,27 +127,25 @@ class ChatServer(Cases):
     def test_mends(self):
         """A server that was killed between two calls.
 
-        It left a message that was received and not multicast, a port that no member reads, and a
-        place that was ended by its port alone.
+        It left messages that were said and not published, a port that no member reads, and a place
+        that was ended by its port alone.
         """
         lines = [
             "journal 2",
-            "seat 0 mvar =chat%201: made 0",
+            "seat 0 mvar =chat%202: made 0",
             "seat 0 mailbox: made 1",
             "seat 0 channel: made 2",
-            "seat 0 mvar =room%20kitchen%20queue%201%20channel%202: made 3",
+            "seat 0 mvar =room%20kitchen%20queue%201%20channel%202%20published%200: made 3",
             "seat 0 port 2: made 4",
             "seat 0 mvar =member%20ann%20of%20kitchen%20reads%204: made 5",
             "seat 0 port 2: made 6",
             "seat 0 mvar =member%20ben%20of%20kitchen%20reads%206: made 7",
             "seat 0 close 6: done",
             "seat 0 port 2: made 8",
-            "seat 0 send 1 =ann%20one: done",
-            "seat 1 poll 1: =ann%20one",
-            "seat 1 multicast 2 =ann%20one: done",
-            "seat 0 send 1 =ann%20two: done",
-            "seat 0 send 1 =ann%20three: done",
-            "seat 1 poll 1: =ann%20two",
+            "seat 0 send 1 =1%20ann%20one: done",
+            "seat 1 multicast 2 =1%20ann%20one: done",
+            "seat 0 send 1 =2%20ann%20two: done",
+            "seat 0 send 1 =3%20ann%20three: done",
             "seat 1 mul",
         ]
         self.journal.write_text("\n".join(lines))
@@ -379,8 +229,8 @@ class ChatServer(Cases):
         self.lawful("of a file that could not grow")
 
     def test_flat(self):
-        """The server's memory doesn't grow with the messages."""
-        self.begin()
+        """The server's memory and its file don't grow with the messages."""
+        self.begin("--history-limit", 500)
         memory = (
             "--clients",
             4,
@@ -394,9 +244,11 @@ class ChatServer(Cases):
         self.everyone("memory", *memory)
         self.crash()
         self.lawful("of many messages")
+        self.starts_short("many messages", 25000, 1500000)
+        self.crash()
 
 
 if __name__ == "__main__":
     if sys.argv[1].endswith(".a") and not has("cargo"):
         left_out("the chat server", "cargo")
-    main(ChatServer)
+    main(ChatServer, Compaction)

@@ -20,6 +20,8 @@ A line `/shutdown` on standard input ends it. The end of standard input doesn't.
   --member-limit N      how many names may have a place in a room (10000)
   --owed-limit N        how many messages a member may be behind before it loses its place (10000)
   --entry-limit N       how many entries the journal takes before callers wait, 1 to 4294967296 (10000)
+  --history-limit N     how many of a room's last messages a short file keeps at the least (1000)
+  --compact-from BYTES  how long the file is at the least before the server makes it short (1000000)
   --help                prints this
 
 Exit statuses: 0 after /shutdown or --help; 1 a call of the library failed; 2 wrong words; 3 it can't listen;
@@ -48,6 +50,8 @@ pub struct Limits {
     pub members: u64,
     pub owed: u64,
     pub entries: u64,
+    pub history: u64,
+    pub compact_from: u64,
 }
 
 impl Default for Limits {
@@ -58,6 +62,8 @@ impl Default for Limits {
             members: 10_000,
             owed: 10_000,
             entries: 10_000,
+            history: 1_000,
+            compact_from: 1_000_000,
         }
     }
 }
@@ -101,6 +107,8 @@ pub fn parse(words: impl IntoIterator<Item = String>) -> Result<Asked, BadArgume
             "--member-limit" => Some((&mut limits.members, 1 << 32)),
             "--owed-limit" => Some((&mut limits.owed, 1 << 32)),
             "--entry-limit" => Some((&mut limits.entries, 1 << 32)),
+            "--history-limit" => Some((&mut limits.history, 1 << 32)),
+            "--compact-from" => Some((&mut limits.compact_from, 1 << 62)),
             _ => return Err(BadArguments::Unknown(option)),
         };
         if seen.contains(&option) {

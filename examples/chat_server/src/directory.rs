@@ -8,16 +8,67 @@ use crate::messages::{Record, Said};
 use crate::protocol::{Name, Refusal};
 use seryugo::{Channel, Error, MVar, Mailbox, Object, Port, Seat, Switchboard};
 use std::collections::{BTreeMap, HashMap};
+use std::sync::atomic::{AtomicU64, Ordering};
 use std::sync::{Arc, Mutex, MutexGuard, PoisonError};
 
 /// A room. What is said goes into the queue; once it is kept, on the channel.
-#[derive(Debug, PartialEq, Eq)]
+#[derive(Debug)]
 pub struct Room {
     pub name: Name,
     /// The queue's number in the journal.
     pub number: u64,
     pub queue: Mailbox<Said>,
     pub channel: Channel<Said>,
+    slot: MVar<Record>,
+    /// How many messages were published before those that the channel counts: a short journal's counts begin at 0.
+    before: u64,
+    /// The number of the last message that was said.
+    last: Mutex<u64>,
+    /// The number of the last message that was published. Only the publisher changes it.
+    published: AtomicU64,
+}
+
+impl Room {
+    /// A room whose first messages have numbers up to `last`. Those up to `published` are published, and the channel counts so many.
+    ///
+    /// Returns `None` if the channel counts more.
+    pub fn new(name: Name, objects: Objects, last: u64, published: u64, counted: u64) -> Option<Room> {
+        Some(Room {
+            name,
+            number: objects.queue.number(),
+            queue: objects.queue,
+            channel: objects.channel,
+            slot: objects.slot,
+            before: published.checked_sub(counted)?,
+            last: Mutex::new(last.max(published)),
+            published: AtomicU64::new(published),
+        })
+    }
+
+    /// The number of the last message that was said.
+    pub fn last(&self) -> u64 {
+        *self.numbering()
+    }
+
+    /// Who has this lock gives the next message its number.
+    pub fn numbering(&self) -> MutexGuard<'_, u64> {
+        self.last.lock().unwrap_or_else(PoisonError::into_inner)
+    }
+
+    pub fn published(&self) -> u64 {
+        self.published.load(Ordering::Relaxed)
+    }
+
+    pub fn set_published(&self, number: u64) {
+        self.published.store(number, Ordering::Relaxed);
+    }
+}
+
+/// What a room has in the switchboard.
+pub struct Objects {
+    pub queue: Mailbox<Said>,
+    pub channel: Channel<Said>,
+    pub slot: MVar<Record>,
 }
 
 /// A member's place.
@@ -26,6 +77,18 @@ pub struct Place {
     pub room: Arc<Room>,
     pub port: Port<Said>,
     slot: MVar<Record>,
+}
+
+impl Place {
+    /// The number of the last message before the place.
+    pub fn start(&self, board: &Switchboard) -> Result<u64, Error> {
+        Ok(self.room.before + board.start_of(self.port)?)
+    }
+
+    /// The number of the last message that was received here.
+    pub fn received(&self, board: &Switchboard) -> Result<u64, Error> {
+        Ok(self.start(board)? + board.got(self.port)?)
+    }
 }
 
 /// Which place a name has.
@@ -146,9 +209,11 @@ impl<'a> Directory<'a> {
             room: name.clone(),
             queue: queue.number(),
             channel: channel.number(),
+            published: 0,
         };
-        self.write(books, seat, record)?;
-        Ok(books.add_room(name.clone(), queue, channel))
+        let slot = self.write(books, seat, record)?;
+        let objects = Objects { queue, channel, slot };
+        Ok(books.add_room(Room::new(name.clone(), objects, 0, 0, 0).expect("a new channel counts nothing")))
     }
 
     /// Ends the place of a name: its record, and then its port.
@@ -177,7 +242,7 @@ impl<'a> Directory<'a> {
 
     fn drop_one(&self, books: &mut Books, seat: &mut Seat<'_>, name: Name, place: Place) -> Result<(Name, Refusal), Error> {
         self.keeper.call(|| seat.close(place.port))?;
-        let last = self.board.start_of(place.port)? + self.board.got(place.port)?;
+        let last = place.received(self.board)?;
         let room = place.room.name.clone();
         let record = Record::Behind {
             name: name.clone(),
@@ -197,6 +262,23 @@ impl<'a> Directory<'a> {
         for (name, place) in places {
             if !self.board.is_open(place.port)? {
                 self.drop_one(&mut books, seat, name, place)?;
+            }
+        }
+        Ok(())
+    }
+
+    /// Writes into the rooms' records which messages are published. A short journal drops those that all have received, and with them
+    /// their numbers.
+    pub fn record_published(&self, seat: &mut Seat<'_>) -> Result<(), Error> {
+        for room in self.all_rooms() {
+            let record = Record::Room {
+                room: room.name.clone(),
+                queue: room.queue.number(),
+                channel: room.channel.number(),
+                published: room.published(),
+            };
+            if self.board.held(room.slot)?.as_ref() != Some(&record) {
+                self.keeper.call(|| seat.swap(room.slot, &record))?;
             }
         }
         Ok(())
@@ -226,15 +308,10 @@ impl<'a> Directory<'a> {
 }
 
 impl Books {
-    pub fn add_room(&mut self, name: Name, queue: Mailbox<Said>, channel: Channel<Said>) -> Arc<Room> {
-        let room = Arc::new(Room {
-            name: name.clone(),
-            number: queue.number(),
-            queue,
-            channel,
-        });
-        self.rooms.insert(name, room.clone());
-        self.queues.insert(queue.number(), room.clone());
+    pub fn add_room(&mut self, room: Room) -> Arc<Room> {
+        let room = Arc::new(room);
+        self.rooms.insert(room.name.clone(), room.clone());
+        self.queues.insert(room.number, room.clone());
         room
     }
 

@@ -1,14 +1,30 @@
-//! The lines of a journal's text that send a message: `seat 5 send 2 =ann%20hello: done`.
+//! The lines of a journal's text that have a message for a room: `seat 5 send 2 =7%20ann%20hello: done`.
 
-/// The mailbox's number and the message's word, if the line sends a message.
-pub fn sent(line: &[u8]) -> Option<(u64, &[u8])> {
+/// A line that sends a message to a mailbox, or multicasts one on a channel: the object's number, and the message's word.
+#[derive(Debug, PartialEq, Eq)]
+pub enum Line<'a> {
+    Send(u64, &'a [u8]),
+    Multicast(u64, &'a [u8]),
+}
+
+/// The line, if it is such a one.
+pub fn line(line: &[u8]) -> Option<Line<'_>> {
     let line = line.strip_suffix(b": done")?;
     let mut words = line.split(|byte| *byte == b' ').skip(2);
-    if words.next()? != b"send" {
-        return None;
+    let call = words.next()?;
+    let object = std::str::from_utf8(words.next()?).ok()?.parse().ok()?;
+    let word = words.next()?;
+    match call {
+        b"send" => Some(Line::Send(object, word)),
+        b"multicast" => Some(Line::Multicast(object, word)),
+        _ => None,
     }
-    let mailbox = std::str::from_utf8(words.next()?).ok()?.parse().ok()?;
-    Some((mailbox, words.next()?))
+}
+
+/// The number with which a message's word begins.
+pub fn number(word: &[u8]) -> Option<u64> {
+    let digits = word.strip_prefix(b"=")?.split(|byte| *byte == b'%').next()?;
+    std::str::from_utf8(digits).ok()?.parse().ok()
 }
 
 /// The bytes of a message's word: `=` and the bytes, of which some are `%` and two digits.
@@ -28,35 +44,69 @@ pub fn decode(word: &[u8]) -> Option<Vec<u8>> {
     Some(bytes)
 }
 
+/// A piece's text with so many entries from position `first` on, as it is from position `at` on. Neither is 0.
+pub fn moved(piece: &[u8], entries: u64, first: u64, at: u64) -> Option<Vec<u8>> {
+    let lines = piece.strip_prefix(format!("journal 2\nfrom {first}\n").as_bytes())?;
+    let lines = lines.strip_suffix(format!("end {}\n", first + entries).as_bytes())?;
+    let (head, end) = (format!("journal 2\nfrom {at}\n"), format!("end {}\n", at + entries));
+    Some([head.as_bytes(), lines, end.as_bytes()].concat())
+}
+
 #[cfg(test)]
 mod tests {
     use super::*;
 
     #[test]
-    fn only_lines_that_send_are_found() {
-        assert_eq!(sent(b"seat 5 send 2 =ann%20hello: done"), Some((2, &b"=ann%20hello"[..])));
-        assert_eq!(sent(b"seat 5 send 2 =a:%20b: done"), Some((2, &b"=a:%20b"[..])));
+    fn only_lines_with_messages_are_found() {
+        let sent = line(b"seat 5 send 2 =7%20ann%20hello: done");
+        assert_eq!(sent, Some(Line::Send(2, b"=7%20ann%20hello")));
+        assert_eq!(line(b"seat 5 send 2 =a:%20b: done"), Some(Line::Send(2, b"=a:%20b")));
+        let multicast = line(b"seat 1 multicast 3 =7%20ann%20hello: done");
+        assert_eq!(multicast, Some(Line::Multicast(3, b"=7%20ann%20hello")));
         for other in [
             "",
             "journal 2",
             "end 4",
             "from 4",
             "seat 0 mailbox: made 0",
-            "seat 1 recv 2: =ann%20hello",
+            "seat 1 recv 2: =7%20ann%20hello",
+            "seat 1 put 3 =send: done",
         ] {
-            assert_eq!(sent(other.as_bytes()), None);
+            assert_eq!(line(other.as_bytes()), None);
         }
-        assert_eq!(sent(b"seat 1 multicast 3 =ann%20hello: done"), None);
-        assert_eq!(sent(b"seat 1 put 3 =send: done"), None);
     }
 
     #[test]
     fn words_are_decoded() {
         assert_eq!(decode(b"="), Some(vec![]));
-        assert_eq!(decode(b"=ann%20hello%25"), Some(b"ann hello%".to_vec()));
+        assert_eq!(decode(b"=7%20ann%20hello%25"), Some(b"7 ann hello%".to_vec()));
         assert_eq!(decode(b"=%C3%BC"), Some("ü".as_bytes().to_vec()));
         for wrong in [&b"ann"[..], b"=%2", b"=%", b"=%GG"] {
             assert_eq!(decode(wrong), None);
+        }
+    }
+
+    #[test]
+    fn a_message_begins_with_its_number() {
+        assert_eq!(number(b"=7%20ann%20hello"), Some(7));
+        for wrong in [
+            &b"7"[..],
+            b"=",
+            b"=ann%20hello",
+            b"=%207",
+            b"=18446744073709551616%20ann",
+        ] {
+            assert_eq!(number(wrong), None);
+        }
+    }
+
+    #[test]
+    fn a_piece_is_moved() {
+        let text = b"journal 2\nfrom 9\nseat 0 mailbox: made 3\nend 10\n";
+        let wanted = b"journal 2\nfrom 99\nseat 0 mailbox: made 3\nend 100\n";
+        assert_eq!(moved(text, 1, 9, 99).as_deref(), Some(&wanted[..]));
+        for (entries, first) in [(1, 8), (2, 9), (0, 9)] {
+            assert_eq!(moved(text, entries, first, 99), None);
         }
     }
 }

@@ -32,7 +32,7 @@ use directory::Directory;
 use failure::Failure;
 use history::History;
 use journal_file::{JournalFile, Opened};
-use keeper::{Counts, Keeper};
+use keeper::{Keeper, Messages};
 use recovery::{Found, Mending};
 use seats::Seats;
 use server::Server;
@@ -83,13 +83,14 @@ fn serve(arguments: &Arguments) -> Result<(), Failure> {
     let path = &arguments.journal;
     let no_journal = |why: recovery::Foreign| Failure::NoJournal(path.clone(), why.to_string());
     let (opened, board) = JournalFile::open(path, arguments.limits.entries)?;
-    let (books, strays) = Found::on(&board).and_then(|found| found.books(&board)).map_err(no_journal)?;
-    let history = History::new(path);
+    let found = Found::on(&board).map_err(no_journal)?;
+    let history = History::new(path, opened.reader()?);
     note_all(&history, &opened).map_err(|error| history.failure(error))?;
+    let (books, strays) = found.books(&board, &history).map_err(no_journal)?;
     // The port is bound before the file is changed.
     let listener = TcpListener::bind(arguments.listen).map_err(Failure::Listen)?;
     let file = opened.go_on()?;
-    let keeper = Keeper::new(&board, arguments.limits.entries);
+    let keeper = Keeper::new(&board, arguments.limits.entries, arguments.limits.compact_from);
     let directory = Directory::new(&board, &keeper, books, arguments.limits.rooms, arguments.limits.members);
     let server = Server {
         board: &board,
@@ -105,7 +106,7 @@ fn serve(arguments: &Arguments) -> Result<(), Failure> {
 }
 
 fn note_all(history: &History, opened: &Opened) -> io::Result<()> {
-    history.note(0, opened.text()?).map(drop)
+    history.note(0, opened.text()?, |_, _| Ok(()))
 }
 
 /// Starts the threads, and waits until the server is to end. If the file can't be written, or a call of the library fails that
@@ -139,11 +140,11 @@ fn run_threads(
     })
 }
 
-fn keep(server: &Server<'_>, file: JournalFile, publisher: &Sender<Counts>) {
+fn keep(server: &Server<'_>, file: JournalFile, publisher: &Sender<Messages>) {
     server.keeper.run(file, server.history, publisher).unwrap_or_else(|failure| failure.end());
 }
 
-fn publish(server: &Server<'_>, kept: &Receiver<Counts>) {
+fn publish(server: &Server<'_>, kept: &Receiver<Messages>) {
     publisher::run(server, kept).unwrap_or_else(|error| Failure::Library(error).end());
 }
 

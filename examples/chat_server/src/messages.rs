@@ -4,23 +4,32 @@ use crate::protocol::Name;
 use seryugo::Message;
 use std::fmt;
 
-/// A line that a client said. In the journal it is the name, a space, and the text.
+/// A line that a client said. In the journal it is its number in the room, the name, and the text, with a space after each.
 #[derive(Clone, Debug, PartialEq, Eq)]
 pub struct Said {
+    pub number: u64,
     pub name: Name,
     pub text: String,
 }
 
 impl Message for Said {
     fn write_to(&self, bytes: &mut Vec<u8>) {
-        bytes.extend_from_slice(self.name.as_str().as_bytes());
-        bytes.push(b' ');
-        bytes.extend_from_slice(self.text.as_bytes());
+        for part in [
+            self.number.to_string().as_str(),
+            " ",
+            self.name.as_str(),
+            " ",
+            &self.text,
+        ] {
+            bytes.extend_from_slice(part.as_bytes());
+        }
     }
 
     fn from_bytes(bytes: &[u8]) -> Option<Said> {
-        let (name, text) = std::str::from_utf8(bytes).ok()?.split_once(' ')?;
+        let (number, said) = std::str::from_utf8(bytes).ok()?.split_once(' ')?;
+        let (name, text) = said.split_once(' ')?;
         Some(Said {
+            number: number.parse().ok()?,
             name: Name::new(name)?,
             text: text.to_owned(),
         })
@@ -38,8 +47,14 @@ impl fmt::Display for Said {
 pub enum Record {
     /// The first object's, by which a chat server knows its journal.
     Chat,
-    /// What is said in the room goes into the mailbox `queue` first, and once it is kept, on the channel.
-    Room { room: Name, queue: u64, channel: u64 },
+    /// What is said in the room goes into the mailbox `queue` first, and once it is kept, on the channel. All messages up to the
+    /// number `published` went on the channel.
+    Room {
+        room: Name,
+        queue: u64,
+        channel: u64,
+        published: u64,
+    },
     /// What the member hasn't received is owed to the port.
     Member { name: Name, room: Name, port: u64 },
     /// The member lost its place behind the message of this number, and doesn't know yet.
@@ -54,11 +69,12 @@ impl Message for Record {
     fn from_bytes(bytes: &[u8]) -> Option<Record> {
         let words: Vec<&str> = std::str::from_utf8(bytes).ok()?.split(' ').collect();
         match words[..] {
-            ["chat", "1"] => Some(Record::Chat),
-            ["room", room, "queue", queue, "channel", channel] => Some(Record::Room {
+            ["chat", "2"] => Some(Record::Chat),
+            ["room", room, "queue", queue, "channel", channel, "published", published] => Some(Record::Room {
                 room: Name::new(room)?,
                 queue: queue.parse().ok()?,
                 channel: channel.parse().ok()?,
+                published: published.parse().ok()?,
             }),
             ["member", name, "of", room, "reads", port] => Some(Record::Member {
                 name: Name::new(name)?,
@@ -78,8 +94,15 @@ impl Message for Record {
 impl fmt::Display for Record {
     fn fmt(&self, f: &mut fmt::Formatter<'_>) -> fmt::Result {
         match self {
-            Record::Chat => f.write_str("chat 1"),
-            Record::Room { room, queue, channel } => write!(f, "room {room} queue {queue} channel {channel}"),
+            Record::Chat => f.write_str("chat 2"),
+            Record::Room {
+                room,
+                queue,
+                channel,
+                published,
+            } => {
+                write!(f, "room {room} queue {queue} channel {channel} published {published}")
+            }
             Record::Member { name, room, port } => write!(f, "member {name} of {room} reads {port}"),
             Record::Behind { name, room, last } => write!(f, "behind {name} of {room} at {last}"),
         }
@@ -104,15 +127,24 @@ mod tests {
     fn a_line_is_read_back() {
         for text in ["hello there", " ", "grüß dich", "a: b"] {
             let said = Said {
+                number: 7,
                 name: name("ann"),
                 text: text.to_owned(),
             };
             assert_eq!(Said::from_bytes(&written(&said)), Some(said));
         }
-        for wrong in ["", "ann", " hello", "an/n hello"] {
+        for wrong in [
+            "",
+            "7",
+            "7 ann",
+            "7  hello",
+            "7 an/n hello",
+            "x ann hello",
+            " ann hello",
+        ] {
             assert_eq!(Said::from_bytes(wrong.as_bytes()), None);
         }
-        assert_eq!(Said::from_bytes(b"ann \xff"), None);
+        assert_eq!(Said::from_bytes(b"7 ann \xff"), None);
     }
 
     #[test]
@@ -124,6 +156,7 @@ mod tests {
                 room: kitchen.clone(),
                 queue: 4,
                 channel: 5,
+                published: 345,
             },
             Record::Member {
                 name: ann.clone(),
@@ -142,7 +175,9 @@ mod tests {
         for wrong in [
             "",
             "room kitchen",
-            "room kitchen queue x channel 5",
+            "room kitchen queue 4 channel 5",
+            "room kitchen queue x channel 5 published 0",
+            "chat 1",
             "member ann of kitchen reads 9 ",
             "5",
         ] {

@@ -1,6 +1,6 @@
 //! What a server does with the switchboard that an earlier one left, before it listens.
 
-use crate::directory::{Books, Directory, Room};
+use crate::directory::{Books, Directory, Objects, Room};
 use crate::failure::Failure;
 use crate::history::History;
 use crate::keeper::Keeper;
@@ -80,12 +80,12 @@ impl Found {
     }
 
     /// The directory's books. Also the ports to close: a server was killed between two calls, and no member reads them.
-    pub fn books(self, board: &Switchboard) -> Result<(Books, Vec<Port<Said>>), Foreign> {
+    pub fn books(self, board: &Switchboard, history: &History) -> Result<(Books, Vec<Port<Said>>), Foreign> {
         let mut books = Books::default();
         // Rooms come before their members, since the first member makes the room.
         for (slot, record) in self.records {
             let number = slot.number();
-            add(&mut books, board, slot, record)?.ok_or(Foreign::BadRecord(number))?;
+            add(&mut books, board, history, slot, record)?.ok_or(Foreign::BadRecord(number))?;
         }
         self.free.into_iter().for_each(|slot| books.add_free(slot));
         let mut strays = Vec::new();
@@ -99,15 +99,30 @@ impl Found {
 }
 
 /// Adds a record. Returns `None` if it names an object of another kind, or a room that isn't there.
-fn add(books: &mut Books, board: &Switchboard, slot: MVar<Record>, record: Record) -> Result<Option<()>, Foreign> {
+fn add(
+    books: &mut Books,
+    board: &Switchboard,
+    history: &History,
+    slot: MVar<Record>,
+    record: Record,
+) -> Result<Option<()>, Foreign> {
     match record {
         Record::Chat => Ok(Some(())),
-        Record::Room { room, queue, channel } => {
+        Record::Room {
+            room,
+            queue,
+            channel,
+            published,
+        } => {
             let (Ok(queue), Ok(channel)) = (board.mailbox(queue), board.channel(channel)) else {
                 return Ok(None);
             };
-            books.add_room(room, queue, channel);
-            Ok(Some(()))
+            // A short journal has only the messages on the channel that a member hasn't received.
+            let published = published.max(history.published(channel.number()));
+            let last = history.kept(queue.number());
+            let objects = Objects { queue, channel, slot };
+            let room = Room::new(room, objects, last, published, board.sent(channel)?);
+            Ok(room.map(|room| drop(books.add_room(room))))
         }
         Record::Member { name, room, port } => match board.port(port) {
             Ok(port) => Ok(books.add_member(name, &room, port, slot)),
@@ -143,18 +158,17 @@ impl Mending<'_, '_> {
         self.directory.all_rooms().iter().try_for_each(|room| self.publish(seat, room))
     }
 
-    /// Moves what waits in a room's queue to its channel. All of it is kept, since the file has it.
+    /// Publishes what was said in a room and not published. All of it is kept, since the file has it.
     fn publish(&self, seat: &mut Seat<'_>, room: &Room) -> Result<(), Failure> {
-        let received = self.board.got(room.queue)?;
-        let published = self.board.sent(room.channel)?;
-        // A server was killed between the receive and the multicast, whose message only the file has now.
-        for number in published + 1..=received {
-            let said = self.history.message(room.number, number).map_err(|error| self.history.failure(error))?;
+        let mut unpublished = Vec::new();
+        let read = self.history.read(room.number, room.published() + 1, u64::MAX, |said| {
+            unpublished.push(said);
+            Ok(())
+        });
+        read.map_err(|error| self.history.failure(error))?;
+        for said in unpublished {
             self.keeper.call(|| seat.multicast(room.channel, &said))?;
-        }
-        for _ in 0..self.board.owed(room.queue)? {
-            let said = self.keeper.call(|| seat.recv(room.queue))?;
-            self.keeper.call(|| seat.multicast(room.channel, &said))?;
+            room.set_published(said.number);
         }
         Ok(())
     }

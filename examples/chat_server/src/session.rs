@@ -130,13 +130,18 @@ impl Session<'_, '_> {
 
     /// Sends a line to the room's queue. The client gets it back once it is kept.
     fn say(&mut self, text: &str) -> Result<(), Trouble> {
-        let queue = self.placed()?.room.queue;
+        let room = self.placed()?.room.clone();
+        let name = self.named()?.clone();
+        self.connection.outbox.note_said()?;
+        let mut last = room.numbering();
         let said = Said {
-            name: self.named()?.clone(),
+            number: *last + 1,
+            name,
             text: text.to_owned(),
         };
-        self.connection.outbox.note_said()?;
-        self.server.keeper.call(|| self.seat.send(queue, &said))?;
+        self.server.keeper.call(|| self.seat.send(room.queue, &said))?;
+        *last = said.number;
+        drop(last);
         self.server.keeper.want();
         Ok(())
     }
@@ -163,26 +168,27 @@ impl Session<'_, '_> {
     /// Nothing can be seen that wasn't said.
     fn check_seen(&self, name: &Name, seen: Option<u64>) -> Result<(), Trouble> {
         match (seen, self.server.directory.place(name)) {
-            (Some(seen), Some(place)) if seen > self.server.board.sent(place.room.queue)? => Err(Refusal::BadNumber.into()),
+            (Some(seen), Some(place)) if seen > place.room.last() => Err(Refusal::BadNumber.into()),
             _ => Ok(()),
         }
     }
 
     /// Sends what the client hasn't seen. The server can't know whether the last message that it received for this member reached
-    /// the client. So it sends that one again, if the client doesn't say what it has seen.
+    /// the client. So it sends that one again, if the client doesn't say what it has seen. What the file lacks isn't sent.
     fn come_back(&mut self, name: &Name, place: Place, seen: Option<u64>) -> Result<(), Trouble> {
         let board = self.server.board;
-        let last = board.sent(place.room.queue)?;
-        let first = board.start_of(place.port)?;
-        let received = first + board.got(place.port)?;
-        let seen = seen.unwrap_or(received.saturating_sub(1)).max(first).min(last);
+        let last = place.room.last();
+        let received = place.received(board)?;
+        let seen = seen.unwrap_or(received.saturating_sub(1)).max(place.start(board)?).min(last);
         self.server.keeper.keep_all();
+        let past = self.server.history.past(place.room.number, seen + 1);
+        let kept_from = past.as_ref().map_or(u64::MAX, |past| past.first);
+        let seen = seen.max(received.min(kept_from - 1));
         let outbox = &self.connection.outbox;
         outbox.push(format_args!("hello {name} room {} next {} last {last}", place.room.name, seen + 1))?;
-        let history = &self.server.history;
-        history.read(place.room.number, seen + 1, received, |number, said| {
-            outbox.push(format_args!("{number} {said}")).map_err(Trouble::from)
-        })?;
+        if let Some(past) = past {
+            past.read(received, |said| outbox.push(format_args!("{} {said}", said.number)).map_err(Trouble::from))?;
+        }
         outbox.set_stream(Some(Stream {
             port: place.port,
             seen,
@@ -198,8 +204,8 @@ impl Session<'_, '_> {
             return Err(Refusal::InRoom(place.room.name.clone()).into());
         }
         let place = self.server.directory.join(&mut self.seat, &name, room)?;
-        let start = self.server.board.start_of(place.port)?;
-        let earlier = self.server.board.sent(place.room.queue)?;
+        let start = place.start(self.server.board)?;
+        let earlier = place.room.last();
         self.server.keeper.keep_all();
         self.connection.outbox.push(format_args!("joined {room} next {}", start + 1))?;
         self.connection.outbox.set_stream(Some(Stream {
@@ -243,8 +249,8 @@ impl Session<'_, '_> {
             Wanted::Last(count) => (last.saturating_sub(count) + 1, last),
             Wanted::Between(from, to) => (from, to),
         };
-        history.read(room.number, from, to, |number, said| {
-            outbox.push(format_args!("history {number} {said}")).map_err(Trouble::from)
+        history.read(room.number, from, to, |said| {
+            outbox.push(format_args!("history {} {said}", said.number)).map_err(Trouble::from)
         })?;
         Ok(outbox.push(format_args!("end of history of {} last {last}", room.name))?)
     }

@@ -73,21 +73,16 @@ impl Writer<'_, '_> {
 
     /// Writes the messages of a port, until the outbox changes.
     fn follow(&mut self, seat: &mut Seat<'_>, stream: Stream) -> Result<(), Trouble> {
-        let (board, outbox) = (self.server.board, &self.connection.outbox);
-        let received = board.start_of(stream.port)? + board.got(stream.port)?;
         let own = self.connection.name();
-        for number in received + 1.. {
+        while !self.connection.outbox.is_changed() {
             match self.receive(seat, stream)? {
-                Some(Some(said)) => self.hand_over(number, &said, stream, own.as_ref())?,
+                Some(Some(said)) => self.hand_over(&said, stream, own.as_ref())?,
                 // The port is closed, and what comes next is in the outbox.
                 Some(None) => {
                     self.rest();
                     return Ok(());
                 }
                 None => return Ok(()),
-            }
-            if outbox.is_changed() {
-                return Ok(());
             }
         }
         Ok(())
@@ -96,7 +91,8 @@ impl Writer<'_, '_> {
     /// The next message of the port, `Some(None)` if it is closed, or `None` if the outbox has changed before one came.
     fn receive(&self, seat: &mut Seat<'_>, stream: Stream) -> Result<Option<Option<Said>>, Error> {
         loop {
-            match self.waiter.wait(seat.recv_async(stream.port), || self.connection.outbox.is_changed()) {
+            let receive = self.server.keeper.polled(seat.recv_async(stream.port));
+            match self.waiter.wait(receive, || self.connection.outbox.is_changed()) {
                 None => return Ok(None),
                 Some(Err(Error::JournalFull)) => self.server.keeper.make_room()?,
                 Some(received) => {
@@ -107,7 +103,8 @@ impl Writer<'_, '_> {
         }
     }
 
-    fn hand_over(&mut self, number: u64, said: &Said, stream: Stream, own: Option<&Name>) -> Result<(), Trouble> {
+    fn hand_over(&mut self, said: &Said, stream: Stream, own: Option<&Name>) -> Result<(), Trouble> {
+        let number = said.number;
         if number > stream.seen {
             let mut line = std::mem::take(&mut self.line);
             line.clear();
