@@ -30,7 +30,7 @@ class Keeper:
         """Cut a room's journal, and hand its entries over, behind those that are kept."""
         self.hand_over()
         # A signal's handler may raise an exception as soon as they are taken. Then they are here.
-        self._kept = Journal(room.codecs)
+        self._kept = Journal(room.codecs, room.text_start())
         self._kept._take(room.handle, library.take_journal_open)
         self.hand_over()
 
@@ -39,9 +39,12 @@ class Keeper:
         self._kept = None
 
     def hand_over(self) -> None:
-        """Hand over the entries that are kept, if there are any."""
+        """Hand over the entries that are kept, if there are any.
+
+        If a short journal stands for them, they are dropped: `compact_and_cut` was interrupted.
+        """
         if self._kept is not None:
-            if len(self._kept) > 0:
+            if len(self._kept) > 0 and not self._kept._is_stood_for():
                 self._sink(self._kept)
             self._kept = None
 

@@ -34,7 +34,7 @@ def compacted(parts: Iterable[bytes], is_torn_fine: bool = False) -> Journal:
     """
     journal = Journal({})
     with _read_from(parts, is_torn_fine) as reading:
-        journal._compact(byref(reading))
+        journal._shorten(byref(reading), library.reading_compact)
     return journal
 
 

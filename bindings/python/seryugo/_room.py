@@ -14,6 +14,7 @@ from . import errors
 from ._library import DONE, PARKED
 from ._lock import free, is_held, new_lock
 from ._messages import Codec
+from ._start import Start, at_nothing
 
 if TYPE_CHECKING:
     from ._keeping import Keeper
@@ -44,6 +45,8 @@ class Room:
         self.lock = new_lock()
         # What cuts a full journal, if that isn't left to the switchboard's owner.
         self.keeper: Optional[Keeper] = None
+        # Where the text begins to which journals are added.
+        self._text = at_nothing()
         # The messages' type of each object, by its number.
         self.codecs: Dict[int, Codec[Any]] = {}
         # What the thread of each seat waits by: a lock that is free if the thread was woken.
@@ -64,6 +67,14 @@ class Room:
         bell.acquire()
         self._bells[number] = bell
         return number, bell
+
+    def text_start(self) -> Start:
+        """Return where the text begins to which the next journal is added.
+
+        Its caller has the lock.
+        """
+        self._text = self._text.latest()
+        return self._text
 
     def do(self, call: Callable[..., int], *arguments: Any) -> int:
         """Make a call that makes no seat due."""

@@ -14,6 +14,7 @@ from . import errors
 from ._calls import ON_NO_OBJECT, WITH_MESSAGE, CallKind
 from ._library import DONE
 from ._messages import BYTES, Codec, Message
+from ._start import UNWRITTEN, Start, at_nothing
 
 
 class MakerKind(enum.Enum):
@@ -95,14 +96,15 @@ class Journal:
     """The entries that a switchboard's journal had when it was taken, oldest first.
 
     Any thread may read it. It waits for no call on the switchboard. `start` has the position of
-    its first entry, counted since the switchboard was made.
+    its first entry, counted since the switchboard was made, or made short by `compact_and_cut`.
     """
 
-    def __init__(self, codecs: Dict[int, Codec[Any]]) -> None:
-        """Make one without entries. `_take` gives it some."""
+    def __init__(self, codecs: Dict[int, Codec[Any]], text: Optional[Start] = None) -> None:
+        """Make one without entries, which is to be added to this text. `_take` gives it some."""
         handle = library.Handle()
         weakref.finalize(self, _close, handle).atexit = False
         self._handle = byref(handle)
+        self._text = text or at_nothing()
         self._start = c_uint64()
         self._count = c_uint64()
         self._codecs = codecs
@@ -110,7 +112,7 @@ class Journal:
 
     @property
     def start(self) -> int:
-        return self._start.value
+        return self._text.place(self._start.value)
 
     def __len__(self) -> int:
         return self._count.value
@@ -132,11 +134,26 @@ class Journal:
             raise errors.of_code(code)
         return library.taken_over(text)
 
-    def _compact(self, reading: Any) -> None:
-        """Take the entries of a short journal that leaves what a reading has read."""
-        code = library.reading_compact(reading, self._handle, byref(self._count))
+    def _begin(self, cut: int) -> Start:
+        """Return the start of a text that this short journal begins. It stands for so many entries.
+
+        Until the library writes how many it has, nothing is begun.
+        """
+        self._count.value = UNWRITTEN
+        return Start(cut, self._count)
+
+    def _shorten(self, made: Any, compact: Callable[..., int]) -> None:
+        """Take the entries of a short journal that leaves what a reading has read, or a room has.
+
+        For a room, its caller has the room's lock.
+        """
+        code = compact(made, self._handle, byref(self._count))
         if code != DONE:
             raise errors.of_code(code)
+
+    def _is_stood_for(self) -> bool:
+        """Return whether a later text begins, which stands for these entries too."""
+        return self._text.latest() is not self._text
 
     def _take(self, room: Any, take: Callable[..., int]) -> None:
         """Take the entries of a room's journal by this call, with the room's lock.

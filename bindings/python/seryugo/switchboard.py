@@ -103,6 +103,47 @@ class Switchboard:
         """Cut the journal as `cut_open` does, and return the entries that it had."""
         return self._taken(library.take_journal_open)
 
+    def compact(self) -> Journal:
+        """Return a short journal that leaves what all calls leave.
+
+        It leaves the same objects, with the same messages still to be received. Whatever may
+        follow these calls may follow it, with the same replies. Its length depends only on what
+        is left. The last seat that was made makes all its entries. The journal stays as it is.
+        Other threads that call wait meanwhile.
+        """
+        room = self._room
+
+        def compacted() -> Journal:
+            journal = Journal(room.codecs)
+            journal._shorten(room.handle, library.compact)
+            return journal
+
+        return room.within(compacted)
+
+    def compact_and_cut(self) -> Journal:
+        """Return a short journal as `compact` does, and cut the journal at the same moment.
+
+        So write its text in place of all that was written before, and write what is taken next
+        after it: `start` counts from its beginning. `cut_at` and `entry` go on to count since the
+        switchboard was made. It also stands for entries that `when_full` didn't take.
+
+        If Ctrl-C comes just as it returns, call it again: the next short journal stands for all.
+        """
+        room = self._room
+
+        def compacted() -> Journal:
+            entries = c_uint64()
+            library.entries(room.handle, byref(entries))
+            journal = Journal(room.codecs)
+            # The journal is cut after the last entry that there is now.
+            room.text_start().follow_by(journal._begin(entries.value))
+            journal._shorten(room.handle, library.compact_and_cut)
+            if room.keeper:
+                room.keeper.forget()
+            return journal
+
+        return room.within(compacted)
+
     def keep(self) -> None:
         """Cut the journal now, and hand its entries to `when_full`. Without one do nothing."""
         keeper = self._room.keeper
@@ -211,7 +252,7 @@ class Switchboard:
         def taken() -> Journal:
             if room.keeper:
                 room.keeper.hand_over()
-            journal = Journal(room.codecs)
+            journal = Journal(room.codecs, room.text_start())
             journal._take(room.handle, take)
             return journal
 
