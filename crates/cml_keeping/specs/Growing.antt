@@ -1,0 +1,17 @@
+-- What a keeper of entries shows, and how it grows.
+use Rattle.std.specs.Prelude.{◌≡◌, List, ◌++◌}
+use Rattle.cml_board.specs.{Entry}
+
+-- the entries that the sink took, and those that it has still to take, each list oldest first
+pub record Kept (M : Type 0) : Type 0 where
+  pub taken : List (Entry M)
+  pub pending : List (Entry M)
+
+module _ {M : Type 0} where
+  -- all entries that the keeper was given, oldest first
+  abbrev pub all_of : Kept M → List (Entry M)
+  all_of kept = kept.taken ++ kept.pending
+
+  -- it was given some more, and still has all before them
+  abbrev pub Grows : Kept M → Kept M → Type 0
+  Grows old new = (later : List (Entry M)) × (all_of new ≡ all_of old ++ later)
