@@ -12,6 +12,7 @@ use crate::lanes::send_and_collect;
 use crate::locking::{ROUNDS, raise_by_two};
 use crate::pool::square_all;
 use crate::server::{LIMIT, Served, open_and_close, sum_up};
+use crate::sinks::{Counted, Counting, PIECE, Pieces, raise_by_four, settle_pieces};
 use crate::stream::tell_to_three;
 use crate::threads::{Shared, counted, settle, settled};
 use cml_board::{BoardLog, Refusal};
@@ -161,4 +162,16 @@ fn run_with<Led: Ledger + Send + Sync, R: Threads + Wait + Sync>(
     let day = open_and_close(rt, alloc, &shared, keeper);
     let (tickets, ended) = settled(shared, day)?;
     sum_up(&ended, tickets, keeper)
+}
+
+pub fn count_in_pieces<
+    L: MessageLog<u64> + Send,
+    Led: Ledger + Send + Sync,
+    R: Threads + Wait + Sync,
+>(rt: &R, alloc: Global, blank: Blank) -> Result<Pieces, Trouble>
+    requires { IsBlankOf blank Led.name Led.parts }
+{
+    let board = Counted::<L, Led>::new(alloc, PIECE, blank, Counting::new())?;
+    let raised = raise_by_four(rt, alloc, &board);
+    settle_pieces(rt, board, raised)
 }

@@ -25,6 +25,7 @@ mod requests;
 mod reserving;
 mod rooms;
 mod server;
+mod sinks;
 mod stream;
 mod threads;
 mod variables;
@@ -108,5 +109,5 @@ fn show_threads<R: Threads + Wait + Sync + Print>(rt: &R, alloc: Global) -> io::
         passing::passed_on, requests::passed_on, pool::squares, stream::read_by_three,
         locking::counted_by_two, lanes::collected, giving_up::stopped,
         giving_up::closed_before_waiting, feeds::shown, ending::stalled, ending::missed,
-        server::ran_on)
+        server::ran_on, sinks::counted_by_four)
 }
