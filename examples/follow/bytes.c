@@ -36,14 +36,25 @@ void bytes_store(struct seryugo *room, uint64_t seat, uint64_t variable, struct 
     seryugo_bytes_free(held);
 }
 
-void bytes_piece(struct seryugo *room, struct text *into)
+/* Appends a journal's text, and closes the journal. */
+static void append_text(struct seryugo journal, uint64_t from, struct text *into)
 {
-    struct seryugo journal;
     struct seryugo_bytes piece;
-    uint64_t from, count;
 
-    require_done(seryugo_cut_at(room, &from), "the journal's position");
-    require_done(seryugo_take_journal(room, &journal, &count), "the journal that is taken");
     append(seryugo_journal_text(&journal, from, &piece), &piece, into, "a piece of the journal");
     seryugo_close(journal);
+}
+
+void bytes_piece(struct seryugo *room, uint64_t from, struct text *into)
+{
+    struct seryugo journal;
+    uint64_t count;
+
+    require_done(seryugo_take_journal(room, &journal, &count), "the journal that is taken");
+    append_text(journal, from, into);
+}
+
+void bytes_short(struct seryugo journal, struct text *into)
+{
+    append_text(journal, 0, into);
 }

@@ -1,5 +1,6 @@
 #include "follower.h"
 
+#include "bytes.h"
 #include "errors.h"
 
 #include <inttypes.h>
@@ -13,6 +14,7 @@ void follower_open(struct follower *follower, struct redis *redis)
 {
     follower->redis = redis;
     follower->epoch = 0;
+    follower->last = (struct id){ 0, 0 };
     follower->tells_leaders = false;
     require_done(seryugo_bytes_reading_open(&follower->reading), "a reading");
 }
@@ -47,14 +49,19 @@ static void take_leader(struct follower *follower, const struct entry *entry)
     }
 }
 
-/* Reads and checks a piece. */
-static void take_piece(struct follower *follower, const struct entry *entry)
+static uint64_t entries_of(struct follower *follower)
+{
+    uint64_t entries;
+
+    require_done(seryugo_reading_entries(&follower->reading, &entries), "a count");
+    return entries;
+}
+
+/* Reads and checks the text of a piece. */
+static void read_text(struct follower *follower, const struct entry *entry)
 {
     uint32_t code;
 
-    if (entry->id.epoch != follower->epoch) {
-        fail(STATUS_FAULT, "stream %s: piece %s is no leader's", follower->redis->key, id_text(entry->id).at);
-    }
     code = seryugo_reading_take(&follower->reading, entry->value.at, entry->value.length);
     if (code == SERYUGO_DONE) {
         code = seryugo_reading_end(&follower->reading);
@@ -64,21 +71,64 @@ static void take_piece(struct follower *follower, const struct entry *entry)
     }
 }
 
-static void take(void *context, const struct entry *entry)
+static void take_piece(struct follower *follower, const struct entry *entry)
 {
-    if (entry->is_piece) {
-        take_piece(context, entry);
-    } else {
-        take_leader(context, entry);
+    if (entry->id.epoch != follower->epoch) {
+        fail(STATUS_FAULT, "stream %s: piece %s is no leader's", follower->redis->key, id_text(entry->id).at);
+    }
+    read_text(follower, entry);
+}
+
+/* Requires that a short journal is what all pieces before it leave, and spends what was read of them. */
+static void require_same(struct follower *follower, const struct entry *entry)
+{
+    struct text text = { NULL, 0, 0 };
+    struct seryugo journal;
+    uint64_t count;
+
+    require_done(seryugo_reading_compact(&follower->reading, &journal, &count), "a short journal");
+    bytes_short(journal, &text);
+    if (text.length != entry->value.length || memcmp(text.at, entry->value.at, text.length) != 0) {
+        fail(STATUS_FAULT, "stream %s: short piece %s isn't what the pieces before it leave", follower->redis->key,
+             id_text(entry->id).at);
+    }
+    text_free(&text);
+}
+
+/* Begins anew with a short journal. If each entry before it was taken, it is checked against them. Else they were dropped before
+ * this process has read them. */
+static void take_short(struct follower *follower, const struct entry *entry)
+{
+    bool is_next = follower->last.epoch == entry->id.epoch && follower->last.sequence + 1 == entry->id.sequence;
+
+    if (is_next) {
+        require_same(follower, entry);
+    }
+    seryugo_close(follower->reading);
+    require_done(seryugo_bytes_reading_open(&follower->reading), "a reading");
+    follower->epoch = entry->id.epoch;
+    read_text(follower, entry);
+    if (!is_next && follower->tells_leaders) {
+        printf("begins anew with short piece %s behind %" PRIu64 " entries\n", id_text(entry->id).at, entries_of(follower));
     }
 }
 
-static uint64_t entries_of(struct follower *follower)
+static void take(void *context, const struct entry *entry)
 {
-    uint64_t entries;
+    struct follower *follower = context;
 
-    require_done(seryugo_reading_entries(&follower->reading, &entries), "a count");
-    return entries;
+    switch (entry->kind) {
+    case ENTRY_LEADER:
+        take_leader(follower, entry);
+        break;
+    case ENTRY_PIECE:
+        take_piece(follower, entry);
+        break;
+    case ENTRY_SHORT:
+        take_short(follower, entry);
+        break;
+    }
+    follower->last = entry->id;
 }
 
 /* Reads what is there, and doesn't wait for more. */
@@ -92,7 +142,7 @@ static void catch_up(struct follower *follower)
 static bool begin_epoch(struct follower *follower, const struct lease *lease, uint64_t epoch)
 {
     struct id read = follower->redis->seen;
-    struct entry first = { { epoch, 1 }, false, { lease->name, strlen(lease->name) } };
+    struct entry first = { { epoch, 1 }, ENTRY_LEADER, { lease->name, strlen(lease->name) } };
     bool added = stream_add(follower->redis, &first);
 
     /* What earlier leaders added since is still to be read. */

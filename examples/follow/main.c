@@ -10,7 +10,7 @@
 #include <string.h>
 #include <unistd.h>
 
-static const char usage[] = "usage: follow serve [--lease MILLISECONDS] REDIS STREAM ADDRESS\n"
+static const char usage[] = "usage: follow serve [--lease MILLISECONDS] [--compact-from ENTRIES] REDIS STREAM ADDRESS\n"
                             "       follow dump REDIS STREAM\n"
                             "       follow client [--every MILLISECONDS] NUMBER ADDRESS..\n"
                             "       follow ask ADDRESS LINE..\n"
@@ -20,6 +20,10 @@ static const char usage[] = "usage: follow serve [--lease MILLISECONDS] REDIS ST
 #define LEASE_TIME 2000
 #define LEASE_LEAST 100
 #define TIME_MOST 60000
+
+/* A short journal isn't made of fewer entries. */
+#define COMPACT_FROM 100000
+#define COMPACT_MOST 1000000000
 
 #define ADDRESSES_MOST 64
 
@@ -53,7 +57,7 @@ static void name_process(const struct address *address, char *name, size_t size)
 }
 
 /* Follows, and then leads. */
-static void serve(const struct lease *lease, int listener, const char *address)
+static void serve(const struct lease *lease, int listener, const char *address, uint64_t least)
 {
     struct follower follower;
     struct service service;
@@ -67,12 +71,12 @@ static void serve(const struct lease *lease, int listener, const char *address)
     }
     service_open(&service, &follower.reading);
     follower_close(&follower);
-    lead(lease, epoch, &service, listener, address);
+    lead(lease, epoch, &service, listener, address, least);
     service_close(&service);
 }
 
 /* Takes an option and its number off the front of the words, if it is there. */
-static int option(const char *name, int *count, char ***words, int otherwise)
+static int option(const char *name, int *count, char ***words, int otherwise, int most)
 {
     uint64_t number;
 
@@ -80,8 +84,8 @@ static int option(const char *name, int *count, char ***words, int otherwise)
         return otherwise;
     }
     number = number_of((*words)[1]);
-    if (number > TIME_MOST) {
-        fail(STATUS_WORDS, "%s has at most %d milliseconds", name, TIME_MOST);
+    if (number > (uint64_t)most) {
+        fail(STATUS_WORDS, "%s is at most %d", name, most);
     }
     *words += 2;
     *count -= 2;
@@ -90,7 +94,8 @@ static int option(const char *name, int *count, char ***words, int otherwise)
 
 static void run_server(int count, char **words)
 {
-    struct lease lease = { NULL, NULL, option("--lease", &count, &words, LEASE_TIME) };
+    struct lease lease = { NULL, NULL, option("--lease", &count, &words, LEASE_TIME, TIME_MOST) };
+    int least = option("--compact-from", &count, &words, COMPACT_FROM, COMPACT_MOST);
     struct address redis_address, address;
     struct redis redis;
     char name[320];
@@ -109,16 +114,20 @@ static void run_server(int count, char **words)
     redis_open(&redis, &redis_address, words[1]);
     lease.redis = &redis;
     lease.name = name;
-    serve(&lease, listener, address.name);
+    serve(&lease, listener, address.name, (uint64_t)least);
     redis_close(&redis);
 }
 
-/* Writes a piece to standard output. */
-static void write_piece(void *context, const struct entry *entry)
+/* Appends a piece to what is dumped. A short journal stands for all pieces before it. */
+static void dump_piece(void *context, const struct entry *entry)
 {
-    (void)context;
-    if (entry->is_piece && fwrite(entry->value.at, 1, entry->value.length, stdout) != entry->value.length) {
-        fail(STATUS_NETWORK, "standard output can't be written");
+    struct text *text = context;
+
+    if (entry->kind == ENTRY_SHORT) {
+        text_drop(text, text->length);
+    }
+    if (entry->kind != ENTRY_LEADER) {
+        text_add(text, entry->value.at, entry->value.length);
     }
 }
 
@@ -126,21 +135,26 @@ static void run_dump(int count, char **words)
 {
     struct address address;
     struct redis redis;
+    struct text text = { NULL, 0, 0 };
 
     if (count != 2) {
         end_with_usage();
     }
     address = address_read(words[0]);
     redis_open(&redis, &address, words[1]);
-    while (stream_read(&redis, 0, write_piece, NULL) != 0) {
+    while (stream_read(&redis, 0, dump_piece, &text) != 0) {
     }
     redis_close(&redis);
+    if (text.length != 0 && fwrite(text.at, 1, text.length, stdout) != text.length) {
+        fail(STATUS_NETWORK, "standard output can't be written");
+    }
+    text_free(&text);
 }
 
 static void run_client(int count, char **words)
 {
     struct address addresses[ADDRESSES_MOST];
-    int every = option("--every", &count, &words, 0);
+    int every = option("--every", &count, &words, 0, TIME_MOST);
 
     if (count < 2 || count > ADDRESSES_MOST) {
         end_with_usage();

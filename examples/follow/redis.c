@@ -73,7 +73,39 @@ static bool connect_once(struct redis *redis)
     return false;
 }
 
-/* Whether the last entry that was seen is there. NULL from Redis: the connection broke again, and the next one is tested. */
+/* Whether a reply to XRANGE has no entry, or one with this field. NULL: the connection broke again, and the next one is tested. */
+static bool has_none(const redisReply *reply)
+{
+    return reply == NULL || (reply->type == REDIS_REPLY_ARRAY && reply->elements == 0);
+}
+
+static bool has_field(const redisReply *reply, const char *field)
+{
+    const redisReply *pair;
+
+    if (reply == NULL) {
+        return true;
+    }
+    if (reply->type != REDIS_REPLY_ARRAY || reply->elements != 1 || reply->element[0]->elements != 2) {
+        return false;
+    }
+    pair = reply->element[0]->element[1];
+    return pair->elements == 2 && strcmp(pair->element[0]->str, field) == 0;
+}
+
+/* Whether all entries up to this one were dropped for a short journal, with which the stream begins. */
+static bool was_dropped(const struct redis *redis, const struct id_text *seen)
+{
+    redisReply *before = redisCommand(redis->context, "XRANGE %s - %s COUNT 1", redis->key, seen->at);
+    redisReply *first = before == NULL ? NULL : redisCommand(redis->context, "XRANGE %s - + COUNT 1", redis->key);
+    bool dropped = has_none(before) && has_field(first, "short");
+
+    freeReplyObject(before);
+    freeReplyObject(first);
+    return dropped;
+}
+
+/* Whether the last entry that was seen is there, or a short journal in its place. */
 static void require_seen(struct redis *redis)
 {
     struct id_text seen = id_text(redis->seen);
@@ -83,7 +115,7 @@ static void require_seen(struct redis *redis)
         return;
     }
     reply = redisCommand(redis->context, "XRANGE %s %s %s", redis->key, seen.at, seen.at);
-    if (reply != NULL && (reply->type != REDIS_REPLY_ARRAY || reply->elements != 1)) {
+    if (reply != NULL && (reply->type != REDIS_REPLY_ARRAY || reply->elements != 1) && !was_dropped(redis, &seen)) {
         fail(STATUS_FAULT, "stream %s: entry %s is gone: Redis has lost what it kept", redis->key, seen.at);
     }
     freeReplyObject(reply);

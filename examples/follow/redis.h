@@ -19,7 +19,8 @@ struct redis {
     struct address address;
     /* The stream's key. */
     const char *key;
-    /* The last entry that this process has seen in the stream. After each new connection it has to be there still. 0-0: none. */
+    /* The last entry that this process has seen in the stream. After each new connection it has to be there still, or a short
+     * journal after it in its place. 0-0: none. */
     struct id seen;
     /* When Redis came back last, by `now`. 0: it wasn't away. */
     int64_t back;

@@ -247,7 +247,10 @@ bool service_answer(struct service *service, struct span line, struct text *answ
 
 void service_take_piece(struct service *service, struct text *piece)
 {
-    bytes_piece(&service->room, piece);
+    uint64_t from;
+
+    require_done(seryugo_cut_at(&service->room, &from), "the journal's position");
+    bytes_piece(&service->room, from - service->cut + service->count, piece);
 }
 
 uint64_t service_entries(struct service *service)
@@ -255,7 +258,28 @@ uint64_t service_entries(struct service *service)
     uint64_t entries;
 
     require_done(seryugo_entries(&service->room, &entries), "a count");
-    return entries;
+    return entries - service->cut + service->count;
+}
+
+bool service_shorten(struct service *service, uint64_t most, struct text *text)
+{
+    struct seryugo journal;
+    uint64_t entries, cut, count;
+
+    require_done(seryugo_entries(&service->room, &entries), "a count");
+    require_done(seryugo_cut_at(&service->room, &cut), "a count");
+    /* Nothing is in the journal, so a short one that isn't added to the stream drops nothing. */
+    if (entries != cut || seryugo_compact_and_cut(&service->room, &journal, &count) != SERYUGO_DONE) {
+        return false;
+    }
+    if (count > most) {
+        seryugo_close(journal);
+        return false;
+    }
+    bytes_short(journal, text);
+    service->cut = cut;
+    service->count = count;
+    return true;
 }
 
 void service_close(struct service *service)

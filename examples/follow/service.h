@@ -18,6 +18,9 @@ struct service {
     struct seryugo room;
     uint64_t seat;
     struct names names;
+    /* The text in the stream begins with a short journal that stands for `cut` entries, and has `count`. At first both are 0. */
+    uint64_t cut;
+    uint64_t count;
 };
 
 /* Opens the service on what was read, and spends the reading. If the journal is another program's, the process ends. */
@@ -30,8 +33,12 @@ bool service_answer(struct service *service, struct span line, struct text *answ
 /* Appends the piece of the journal with the entries since the last one. */
 void service_take_piece(struct service *service, struct text *piece);
 
-/* How many entries the journal has in all. */
+/* How many entries the text in the stream has. */
 uint64_t service_entries(struct service *service);
+
+/* Makes a short journal in place of all pieces, if it has at most this many entries, and appends its text. Later pieces follow it.
+ * Returns false if it has more, if there is no memory for it, or if the last piece wasn't taken. */
+bool service_shorten(struct service *service, uint64_t most, struct text *text);
 
 void service_close(struct service *service);
 

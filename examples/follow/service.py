@@ -118,9 +118,9 @@ class Service(Cases):
 
     # ---- three servers, each at its own place ----
 
-    def serve(self, place, stream="letters", lease=1500):
+    def serve(self, place, stream="letters", lease=1500, options=()):
         """Starts a new server there."""
-        words = ["serve", "--lease", lease, self.port, stream, self.port + place]
+        words = ["serve", "--lease", lease, *options, self.port, stream, self.port + place]
         self.servers[place] = self.start(self.program, *words)
 
     def says(self, place, pattern):
@@ -177,9 +177,9 @@ class Service(Cases):
 
     # ---- what is killed ----
 
-    def dump(self):
+    def dump(self, stream="letters"):
         return subprocess.run(
-            [self.program, "dump", str(self.port), "letters"], capture_output=True, check=False
+            [self.program, "dump", str(self.port), stream], capture_output=True, check=False
         ).stdout
 
     def keep_front(self):
@@ -239,6 +239,6 @@ class Service(Cases):
         """A case: a server that would follow this stream ends so."""
         self.refuses(name, 2, error, "serve", "--lease", "100", self.port, stream, self.port + 4)
 
-    def add(self, stream, number, piece):
+    def add(self, stream, number, piece, kind="piece"):
         """Adds a piece; in it each `/` is a line feed."""
-        self.ask_redis("-x", "XADD", stream, number, "piece", stdin=piece.replace("/", "\n"))
+        self.ask_redis("-x", "XADD", stream, number, kind, stdin=piece.replace("/", "\n"))

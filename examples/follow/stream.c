@@ -7,10 +7,13 @@
 /* How many entries are read at once. */
 #define AT_ONCE "64"
 
-static const char *field_of(bool is_piece)
-{
-    return is_piece ? "piece" : "leader";
-}
+/* Redis runs a script whole. If it refuses the entry, the script ends there, and drops nothing. */
+#define ADD_SHORT                                                                                  \
+    "local id = redis.call('XADD', KEYS[1], 'NOMKSTREAM', ARGV[1], 'short', ARGV[2]) "             \
+    "if id then redis.call('XTRIM', KEYS[1], 'MINID', ARGV[1]) end return id"
+
+/* The field of each kind of entry. */
+static const char *const fields[] = { [ENTRY_LEADER] = "leader", [ENTRY_PIECE] = "piece", [ENTRY_SHORT] = "short" };
 
 static struct span span_of(const redisReply *reply)
 {
@@ -35,25 +38,34 @@ static bool read_id(struct span text, struct id *id)
            && span_number((struct span){ dash + 1, text.length - (size_t)(dash - text.at) - 1 }, &id->sequence);
 }
 
+/* The kind of the entries that have this field. */
+static bool find_kind(struct span field, enum kind *kind)
+{
+    for (size_t i = 0; i < sizeof fields / sizeof *fields; i++) {
+        if (span_is(field, fields[i])) {
+            *kind = (enum kind)i;
+            return true;
+        }
+    }
+    return false;
+}
+
 /* Reads one entry of a reply: an ID, and an array of fields and values. */
 static struct entry read_entry(const struct redis *redis, const redisReply *reply)
 {
-    struct entry entry = { { 0, 0 }, false, { NULL, 0 } };
-    const redisReply *fields;
-    struct span name;
+    struct entry entry = { { 0, 0 }, ENTRY_LEADER, { NULL, 0 } };
+    const redisReply *pair;
 
     if (reply->type != REDIS_REPLY_ARRAY || reply->elements != 2 || reply->element[0]->type != REDIS_REPLY_STRING
         || reply->element[1]->type != REDIS_REPLY_ARRAY || !read_id(span_of(reply->element[0]), &entry.id)) {
         fail(STATUS_NETWORK, "redis %s: an entry of %s can't be read", redis->address.name, redis->key);
     }
-    fields = reply->element[1];
-    name = fields->elements == 2 ? span_of(fields->element[0]) : (struct span){ "", 0 };
-    entry.is_piece = span_is(name, "piece");
-    if (!entry.is_piece && !span_is(name, "leader")) {
+    pair = reply->element[1];
+    if (pair->elements != 2 || !find_kind(span_of(pair->element[0]), &entry.kind)) {
         fail(STATUS_FAULT, "stream %s: entry %s is something else: neither a leader's nor a piece", redis->key,
              id_text(entry.id).at);
     }
-    entry.value = span_of(fields->element[1]);
+    entry.value = span_of(pair->element[1]);
     return entry;
 }
 
@@ -106,20 +118,30 @@ static bool has(struct redis *redis, const struct entry *wanted)
     if (reply->elements == 1) {
         struct entry entry = read_entry(redis, reply->element[0]);
 
-        found = entry.is_piece == wanted->is_piece && entry.value.length == wanted->value.length
+        found = entry.kind == wanted->kind && entry.value.length == wanted->value.length
                 && memcmp(entry.value.at, wanted->value.at, entry.value.length) == 0;
     }
     freeReplyObject(reply);
     return found;
 }
 
-bool stream_add(struct redis *redis, const struct entry *entry)
+/* Sends the command that adds an entry. */
+static redisReply *send(struct redis *redis, const struct entry *entry)
 {
     struct id_text id = id_text(entry->id);
+    struct span value = entry->value;
+
+    if (entry->kind == ENTRY_SHORT) {
+        return redis_ask(redis, "EVAL %s 1 %s %s %b", ADD_SHORT, redis->key, id.at, value.at, value.length);
+    }
     /* Only the first entry of all makes the stream. */
-    const char *format = redis->seen.epoch == 0 ? "XADD %s %s %s %b" : "XADD %s NOMKSTREAM %s %s %b";
-    const char *field = field_of(entry->is_piece);
-    redisReply *reply = redis_ask(redis, format, redis->key, id.at, field, entry->value.at, entry->value.length);
+    return redis_ask(redis, redis->seen.epoch == 0 ? "XADD %s %s %s %b" : "XADD %s NOMKSTREAM %s %s %b", redis->key, id.at,
+                     fields[entry->kind], value.at, value.length);
+}
+
+bool stream_add(struct redis *redis, const struct entry *entry)
+{
+    redisReply *reply = send(redis, entry);
     bool added = reply->type == REDIS_REPLY_STRING;
 
     if (reply->type == REDIS_REPLY_NIL) {

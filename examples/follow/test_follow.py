@@ -5,7 +5,7 @@ the command that checks a journal. Six clients put and get while the leader is k
 follower twice and Redis once, and an old leader is stopped, replaced and continued. What was
 answered is kept: each put is received once, in order, and the journal in Redis is lawful. So is a
 piece that an old leader adds before the next one's first entry. Wrong streams, and a Redis that has
-lost its file, are refused by name.
+lost its file, are refused by name. The tests of short streams are in `test_short.py`.
 """
 
 import collections
@@ -19,6 +19,7 @@ import sys
 import time
 
 from service import FOLDER, PLACES, Client, Service, free_port  # noqa: I001
+from test_short import Short
 from cases import TOP, has, left_out, main, wait_until
 
 QUEUES = (1, 2, 3)
@@ -329,20 +330,31 @@ class Follow(Service):
         self.ask_redis("CONFIG", "SET", "appendfsync", "always")
 
     def watched(self, name, *command):
-        """A case: one short run of a server, watched by a tool, with no complaint."""
-        server = self.start(*command, "serve", "--lease", "5000", self.port, name, self.port + 4)
-        requests = "put q a\nget q\ncount q\nget q\n"
+        """Cases: one short run of a server, watched by a tool, with no complaint.
+
+        A second server, which follows, takes the short journal that the first one makes.
+        """
+        options = ("serve", "--lease", "5000", "--compact-from", "20", self.port, name)
+        server = self.start(*command, *options, self.port + 4)
+        self.wait_for(f"a leader under {name}", lambda: "leads" in server.said() or not server.runs())
+        follower = self.start(*command, *options, free_port())
+        self.wait_for(
+            f"a follower under {name}", lambda: "follows" in follower.said() or not follower.runs()
+        )
+        requests = "put q a\nget q\n" * 10 + "count q\nget q\n"
         words = [self.program, "client", "1", str(self.port + 4)]
         told = subprocess.run(
             words, input=requests, capture_output=True, text=True, timeout=60, check=False
         ).stdout
-        server.signal(signal.SIGTERM)
-        is_right = (server.ends(), server.errors(), told) == (
-            0,
-            "",
-            "done\nmessage a\ncount 0\nnothing\n",
-        )
-        self.holds(f"a run under {name}", is_right, told, server.errors())
+        wanted = "done\nmessage a\n" * 10 + "count 0\nnothing\n"
+        first = self.ask_redis("XRANGE", name, "-", "+", "COUNT", 1)
+        self.holds(f"a short journal under {name}", "\nshort\n" in first, first)
+        # The follower reads what is there meanwhile.
+        time.sleep(1)
+        for watched in follower, server:
+            watched.signal(signal.SIGTERM)
+            is_right = (watched.ends(), watched.errors(), told) == (0, "", wanted)
+            self.holds(f"a run under {name}", is_right, told, watched.errors())
 
     def test_watched(self):
         if self.make("watched", "-fsanitize=address,undefined -fno-sanitize-recover").status == 0:
@@ -405,4 +417,4 @@ if __name__ == "__main__":
             left_out("the program that follows", needed)
     if subprocess.run(["pkg-config", "--exists", "hiredis"], check=False).returncode != 0:
         left_out("the program that follows", "hiredis")
-    main(Follow)
+    main(Follow, Short)
