@@ -57,11 +57,11 @@ fn gather<Led: Ledger>(lefts: Vec<Left<Led>>, book: &mut Book<Led>, rest: &mut S
 }
 
 /// How many seats they stand for; 2^64 - 1 if they are more.
-fn seats_of<Led: Ledger>(lefts: &[Left<Led>]) -> u64
-    ensures { result ≡ min (seats_in lefts.now) 18446744073709551615 }
+fn seats_of<Led: Ledger>(lefts: &Vec<Left<Led>>) -> u64
+    ensures { result ≡ min (seats_in lefts.now.items) 18446744073709551615 }
 {
     let mut seats: u64 = 0;
-    for left in lefts {
+    for left in lefts.iter() {
         seats = seats.saturating_add(left.seats());
     }
     seats
