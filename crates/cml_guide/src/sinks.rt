@@ -19,7 +19,7 @@ pub const PIECE: u64 = 64;
 /// How many threads raise the counter, and how often each does.
 const THREADS: usize = 4;
 
-const ROUNDS: u64 = 1_250;
+const ROUNDS: u64 = 125;
 
 /// A sink that counts the entries that it takes, and drops them.
 #[derive(Drop)]
