@@ -34,7 +34,7 @@ printed_clean (b ∷ bs) h =
     let parts = and_parts (is_text_byte b) (list_all is_text_byte bs) h in
     ap (λ t. t || is_dirty bs) (printed_byte b parts.0) ∙ printed_clean bs parts.1
 
-both_clean : (front rest : List ℕ) → is_dirty front ≡ false → is_dirty rest ≡ false → is_dirty (front ++ rest) ≡ false
+pub both_clean : (front rest : List ℕ) → is_dirty front ≡ false → is_dirty rest ≡ false → is_dirty (front ++ rest) ≡ false
 both_clean front rest one other = list_any-append is_bad_byte front rest ∙ ap (λ t. t || is_dirty rest) one ∙ other
 
 number_clean : (n : ℕ) → n < 2 ^ 64 → is_dirty (decimal n) ≡ false

@@ -8,6 +8,7 @@ pub mod PartLemmas
 pub mod FeedLemmas
 pub mod LineEndsLemmas
 pub mod StreamLemmas
+pub mod SealedLemmas
 pub mod CleanLemmas
 pub mod AgainLemmas
 pub mod PositionLemmas

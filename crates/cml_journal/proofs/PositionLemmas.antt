@@ -1,24 +1,29 @@
 -- The position behind what was read of a journal, from its first entry on.
 use Rattle.std.proofs.Common.{◌≡◌, ◌⊎◌, inl, inr, ℕ, ◌+◌, ◌%◌, ◌^◌, ◌<◌, Bool, true, false, ◌==◌, nat_lt, if◌then◌else◌, List, [], ◌∷◌}
 use Rattle.std.proofs.Common.{◌++◌, length, Option, Some, None, Result, Ok, Err, refl, sym, ap, subst, ◌∙◌, arith, length-append}
-use Rattle.std.specs.Prelude.{codes, ⊤}
+use Rattle.std.specs.Prelude.{codes, ⊤, is_some, is_none}
 use Rattle.std.specs.Option.{option_to_list}
 use Rattle.std.specs.List.{list_any}
+use Rattle.std.specs.Str.{bytes_eq}
 use Rattle.std.proofs.lemmas.Bool.{eqb-true, ltb-true}
 use Rattle.std.proofs.lemmas.Option.{none-some, same_Some}
 use Rattle.cml_board.specs.{Entry}
 use Rattle.cml_grammar.specs.{is_bad_byte}
-use Rattle.cml_journal.specs.{What, Stage, ◌>>=◌, entry_in, State, Step, waiting_at, end_of, end_by, numbered, headed, begun, entered}
-use Rattle.cml_journal.specs.{ended_by, inside, from_by, behind_header, line_step, line_read, held, turned, no_entry, byte_read, Read}
+use Rattle.cml_sums.specs.{Sum, Summed, sum_by, sum_word, sum_in}
+use Rattle.cml_journal.specs.{What, Form, Link, Stage, ◌>>=◌, entry_in, State, Step, waiting_at, end_of, end_by, numbered, tailed, headed}
+use Rattle.cml_journal.specs.{headed_by, plain_headed, sealed_headed, sealed_where, begun, entered, ended_by, closed_by, sealed_by, inside}
+use Rattle.cml_journal.specs.{from_by, behind_header, line_step, line_read, sums_line, held, turned, no_entry, byte_read, Read}
 use Rattle.cml_journal.specs.{behind, reading}
-use Rattle.cml_journal.specs.declared.fault.What.TheVariants.{BadNumber, BadBytes, NoHeader, Gap, WrongEnd, TooMany, TooLong}
+use Rattle.cml_journal.specs.declared.fault.What.TheVariants.{BadNumber, BadBytes, NoHeader, Gap, WrongEnd, WrongSum, TooMany, TooLong}
+use Rattle.cml_journal.specs.declared.reader.Form.TheVariants.{Plain, Sealed}
+use Rattle.cml_journal.specs.declared.reader.Link.TheVariants.{Any, First, Unsealed, Behind}
 use Rattle.cml_journal.specs.declared.reader.Stage.TheVariants.{Waiting, Headed, Inside}
 
 -- the position that a stage is at
 abbrev place : Stage → Option ℕ
-place (Waiting before) = before
-place (Headed before) = before
-place (Inside position) = Some position
+place (Waiting before link) = before
+place (Headed before form) = before
+place (Inside position form) = Some position
 
 -- so many entries behind a position are few enough to be counted
 abbrev Counts : ℕ → ℕ → Type 0
@@ -42,89 +47,146 @@ module _ {M : Type 0} (version : ℕ) (read : List ℕ → Option M) where
   stays : (p : ℕ) → Some p ≡ Some (p + 0)
   stays p = ap (λ (n : ℕ). Some n) (omega arith)
 
-  entered_moves : (p : ℕ) (line : List ℕ) → Moves {M = M} p (entered read p line)
+  entered_moves : (form : Form) (p : ℕ) (line : List ℕ) → Moves {M = M} p (entered read form p line)
   unfolding entered
-  entered_moves p line = by (entry_in read line)
+  entered_moves form p line = by (entry_in read line)
     where
       sized : (t : Bool) → nat_lt (p + 1) (2 ^ 64) ≡ t → (entry : Entry M)
-          → Moves {M = M} p (if t then Ok (Inside (p + 1), Some entry) else Err TooMany)
+          → Moves {M = M} p (if t then Ok (Inside (p + 1) form, Some entry) else Err TooMany)
       sized true is entry = (refl, inr (ltb-true (p + 1) (2 ^ 64) is))
       sized false is entry = tt
 
       by : (r : Result (Entry M) What)
-          → Moves {M = M} p (r >>= λ entry. if nat_lt (p + 1) (2 ^ 64) then Ok (Inside (p + 1), Some entry) else Err TooMany)
+          → Moves {M = M} p (r >>= λ entry. if nat_lt (p + 1) (2 ^ 64) then Ok (Inside (p + 1) form, Some entry) else Err TooMany)
       by (Ok entry) = sized (nat_lt (p + 1) (2 ^ 64)) refl entry
       by (Err what) = tt
 
-  inside_moves : (p : ℕ) (line : List ℕ) → Moves {M = M} p (inside read p line)
+  inside_moves : (form : Form) (summed : Summed) (p : ℕ) (line : List ℕ) → Moves {M = M} p (inside read form summed p line)
   unfolding inside
-  inside_moves p line = by (numbered (codes "end") line)
+  inside_moves Plain summed p line = by (numbered (codes "end") line)
     where
-      same : (t : Bool) → Moves {M = M} p (if t then Ok (Waiting (Some p), None) else Err WrongEnd)
+      same : (t : Bool) → Moves {M = M} p (if t then Ok (Waiting (Some p) Unsealed, None) else Err WrongEnd)
       same true = (stays p, inl refl)
       same false = tt
 
       by : (end : Option ℕ) → Moves {M = M} p (ended_by read p end line)
-      by None = entered_moves p line
+      by None = entered_moves Plain p line
       by (Some end) = same (end == p)
-
-  headed_moves : (p : ℕ) (found : Option ℕ) → Moves {M = M} p (headed version (Some p) found)
-  headed_moves p None = tt
-  headed_moves p (Some found) = by (found == version)
+  inside_moves Sealed summed p line = by (tailed (codes "end") line)
     where
-      by : (t : Bool) → Moves {M = M} p (if t then Ok (Headed (Some p), None) else Err NoHeader)
-      by true = (stays p, inl refl)
-      by false = tt
+      sum : Sum
+      sum = sum_by summed
 
-  begun_inside : (p from : ℕ) (line : List ℕ) → Moves {M = M} p (begun (Some p) from >>= λ position. inside read position line)
-  begun_inside p from line = by (from == p) refl
+      named : (t : Bool) → Moves {M = M} p (if t then Ok (Waiting (Some p) (Behind sum), None) else Err WrongSum)
+      named true = (stays p, inl refl)
+      named false = tt
+
+      same : (t : Bool) (word : List ℕ) → Moves {M = M} p (if t then sealed_by p sum word else Err WrongEnd)
+      same true word = named (bytes_eq word (sum_word sum))
+      same false word = tt
+
+      by : (end : Option (ℕ × List ℕ)) → Moves {M = M} p (closed_by read sum p end line)
+      by None = entered_moves Sealed p line
+      by (Some end) = same (end.0 == p) end.1
+
+  plain_moves : (p : ℕ) (link : Link) → Moves {M = M} p (plain_headed (Some p) link)
+  plain_moves p Any = (stays p, inl refl)
+  plain_moves p First = (stays p, inl refl)
+  plain_moves p Unsealed = (stays p, inl refl)
+  plain_moves p (Behind sum) = tt
+
+  where_moves : (p : ℕ) (t : Bool) → Moves {M = M} p (sealed_where (Some p) t)
+  where_moves p true = (stays p, inl refl)
+  where_moves p false = tt
+
+  sealed_moves : (p : ℕ) (link : Link) (word : Option (List ℕ)) → Moves {M = M} p (sealed_headed (Some p) link word)
+  sealed_moves p Any None = where_moves p true
+  sealed_moves p Any (Some word) = where_moves p (is_some (sum_in word))
+  sealed_moves p First word = where_moves p (is_none word)
+  sealed_moves p Unsealed word = tt
+  sealed_moves p (Behind sum) None = where_moves p false
+  sealed_moves p (Behind sum) (Some word) = where_moves p (bytes_eq word (sum_word sum))
+
+  headed_moves : (p : ℕ) (link : Link) (line : List ℕ) → Moves {M = M} p (headed version (Some p) link line)
+  unfolding headed
+  headed_moves p link line = by (numbered (codes "journal") line) (tailed (codes "journal") line)
     where
-      by : (t : Bool) → (from == p) ≡ t → Moves {M = M} p ((if t then Ok from else Err Gap) >>= λ position. inside read position line)
-      by true is = subst (λ (q : ℕ). Moves {M = M} p (inside read q line)) (sym (eqb-true from p is)) (inside_moves p line)
+      of_version : (t u : Bool) (word : Option (List ℕ))
+          → Moves {M = M} p (if t then plain_headed (Some p) link else if u then sealed_headed (Some p) link word else Err NoHeader)
+      of_version true u word = plain_moves p link
+      of_version false true word = sealed_moves p link word
+      of_version false false word = tt
+
+      by : (found : Option ℕ) (tail : Option (ℕ × List ℕ)) → Moves {M = M} p (headed_by version (Some p) link found tail)
+      by (Some found) tail = of_version (found == version) (found == version + 2) None
+      by None (Some found) = of_version false (found.0 == version + 2) (Some found.1)
+      by None None = tt
+
+  begun_inside : (form : Form) (summed : Summed) (p from : ℕ) (line : List ℕ)
+      → Moves {M = M} p (begun (Some p) from >>= λ position. inside read form summed position line)
+  begun_inside form summed p from line = by (from == p) refl
+    where
+      by : (t : Bool) → (from == p) ≡ t
+          → Moves {M = M} p ((if t then Ok from else Err Gap) >>= λ position. inside read form summed position line)
+      by true is = subst (λ (q : ℕ). Moves {M = M} p (inside read form summed q line)) (sym (eqb-true from p is))
+          (inside_moves form summed p line)
       by false is = tt
 
-  begun_from : (p from : ℕ) → Moves {M = M} p (begun (Some p) from >>= λ position. Ok (Inside position, None))
-  begun_from p from = by (from == p) refl
+  begun_from : (form : Form) (p from : ℕ) → Moves {M = M} p (begun (Some p) from >>= λ position. Ok (Inside position form, None))
+  begun_from form p from = by (from == p) refl
     where
-      by : (t : Bool) → (from == p) ≡ t → Moves {M = M} p ((if t then Ok from else Err Gap) >>= λ position. Ok (Inside position, None))
+      by : (t : Bool) → (from == p) ≡ t
+          → Moves {M = M} p ((if t then Ok from else Err Gap) >>= λ position. Ok (Inside position form, None))
       by true is = (ap (λ (q : ℕ). Some q) (eqb-true from p is) ∙ stays p, inl refl)
       by false is = tt
 
-  behind_header_moves : (p : ℕ) (line : List ℕ) → Moves {M = M} p (behind_header read (Some p) line)
+  behind_header_moves : (form : Form) (summed : Summed) (p : ℕ) (line : List ℕ)
+      → Moves {M = M} p (behind_header read form summed (Some p) line)
   unfolding behind_header
-  behind_header_moves p line = by (numbered (codes "from") line)
+  behind_header_moves form summed p line = by (numbered (codes "from") line)
     where
       zeroed : (t : Bool) (from : ℕ)
-          → Moves {M = M} p (if t then Err BadNumber else begun (Some p) from >>= λ position. Ok (Inside position, None))
+          → Moves {M = M} p (if t then Err BadNumber else begun (Some p) from >>= λ position. Ok (Inside position form, None))
       zeroed true from = tt
-      zeroed false from = begun_from p from
+      zeroed false from = begun_from form p from
 
-      by : (found : Option ℕ) → Moves {M = M} p (from_by read (Some p) found line)
-      by None = begun_inside p 0 line
+      by : (found : Option ℕ) → Moves {M = M} p (from_by read form summed (Some p) found line)
+      by None = begun_inside form summed p 0 line
       by (Some from) = zeroed (from == 0) from
 
-  step_moves : (p : ℕ) (stage : Stage) (line : List ℕ) → place stage ≡ Some p → Moves {M = M} p (line_step version read stage line)
-  step_moves p (Waiting before) line at = subst (λ (b : Option ℕ). Moves {M = M} p (headed version b (numbered (codes "journal") line)))
-      (sym at) (headed_moves p (numbered (codes "journal") line))
-  step_moves p (Headed before) line at =
-      subst (λ (b : Option ℕ). Moves {M = M} p (behind_header read b line)) (sym at) (behind_header_moves p line)
-  step_moves p (Inside position) line at =
-      subst (λ (q : ℕ). Moves {M = M} p (inside read q line)) (sym (same_Some position p at)) (inside_moves p line)
+  step_moves : (p : ℕ) (summed : Summed) (stage : Stage) (line : List ℕ) → place stage ≡ Some p
+      → Moves {M = M} p (line_step version read summed stage line)
+  step_moves p summed (Waiting before link) line at =
+      subst (λ (b : Option ℕ). Moves {M = M} p (headed version b link line)) (sym at) (headed_moves p link line)
+  step_moves p summed (Headed before form) line at =
+      subst (λ (b : Option ℕ). Moves {M = M} p (behind_header read form summed b line)) (sym at) (behind_header_moves form summed p line)
+  step_moves p summed (Inside position form) line at =
+      subst (λ (q : ℕ). Moves {M = M} p (inside read form summed q line)) (sym (same_Some position p at)) (inside_moves form summed p line)
 
-  line_moves : (p : ℕ) (stage : Stage) (line : List ℕ) → place stage ≡ Some p → Moves {M = M} p (line_read version read stage line)
+  line_moves : (p : ℕ) (summed : Summed) (stage : Stage) (line : List ℕ) → place stage ≡ Some p
+      → Moves {M = M} p (line_read version read summed stage line)
   unfolding line_read
-  line_moves p stage line at = by (list_any is_bad_byte line)
+  line_moves p summed stage line at = by (list_any is_bad_byte line)
     where
-      by : (t : Bool) → Moves {M = M} p (if t then Err BadBytes else line_step version read stage line)
+      by : (t : Bool) → Moves {M = M} p (if t then Err BadBytes else line_step version read summed stage line)
       by true = tt
-      by false = step_moves p stage line at
+      by false = step_moves p summed stage line at
 
   turned_moves : (p : ℕ) (state : State) → place state.stage ≡ Some p → MovesTo {M = M} p (turned version read state)
   unfolding turned
-  turned_moves p state at = by (line_read version read state.stage state.line) (line_moves p state.stage state.line at)
+  turned_moves p state at =
+      by (line_read version read state.summed state.stage state.line) (line_moves p state.summed state.stage state.line at)
     where
       by : (r : Step M) → Moves {M = M} p r
-          → MovesTo {M = M} p (r >>= λ step. Ok (record { stage = step.0; lines = (state.lines + 1) % 2 ^ 64; line = [] }, step.1))
+          → MovesTo {M = M} p (r >>= λ step. Ok (
+            record {
+              stage = step.0;
+              lines = (state.lines + 1) % 2 ^ 64;
+              line = [];
+              summed = sums_line step.0 state.summed state.line;
+            },
+            step.1,
+          ))
       by (Ok step) moves = moves
       by (Err what) moves = tt
 
@@ -167,13 +229,13 @@ module _ {M : Type 0} (version : ℕ) (read : List ℕ → Option M) where
       by (Err what) moves on = tt
 
   ends_at : (stage : Stage) (left end : ℕ) → end_by stage left ≡ Some end → place stage ≡ Some end
-  ends_at (Waiting before) left end is = by (left == 0) is
+  ends_at (Waiting before link) left end is = by (left == 0) is
     where
       by : (t : Bool) → (if t then before else None) ≡ Some end → before ≡ Some end
       by true is = is
       by false is = absurd (none-some end is)
-  ends_at (Headed before) left end is = absurd (none-some end is)
-  ends_at (Inside position) left end is = absurd (none-some end is)
+  ends_at (Headed before form) left end is = absurd (none-some end is)
+  ends_at (Inside position form) left end is = absurd (none-some end is)
 
   -- a journal that was read from position 0 on ends behind its last entry
   pub ends_behind_last : (bytes : List ℕ) (state : State) (entries : List (Entry M)) (end : ℕ)

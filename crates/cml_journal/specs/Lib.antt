@@ -21,17 +21,23 @@ pub use Numbers.{number_of}
 pub use Escapes.{before, byte_at, byte_text, bytes_text, digit_in, escape_at, escaped, if_short, is_plain, message_of_word, plain}
 unfoldable pub use Escapes.{bytes_in}
 pub use Words.{script_word}
-pub use Streams.{Writes, from_lines, head_lines, numbered_line, piece_lines, stream_lines, text_of, with_line_end}
+pub use Streams.{WritesSummed, from_lines, head_lines, numbered_line, piece_lines, stream_lines, text_of, with_line_end}
+pub use Streams.{IsTextOf, named_line, piece_sum, sealed_end, sealed_header, sealed_lines, sealed_piece_lines, sealed_stream_lines}
+pub use Streams.{stream_sum}
 pub use Lengths.{AreShort, IsShort, IsTooLong, MayBeTooLong}
-pub use Feeding.{IsReadable, Read, State, Step, begun, behind, byte_read, end_by, end_of, ended_by, fresh, from_by, has_line_end, headed}
-pub use Feeding.{held, held_all, line_step, most, no_entry, numbered, waiting_at}
-unfoldable pub use Feeding.{behind_header, entered, inside, line_read, reading, turned}
+pub use Feeding.{IsReadable, IsSealedRead, MaybeSum, Read, State, Step, begun, behind, byte_read, closed_by, end_by, end_of, ended_by}
+pub use Feeding.{fresh, from_by}
+pub use Feeding.{has_line_end, headed_by, held, held_all, inside_by, last_sum, line_step, link_at, most, no_entry, number_before, numbered}
+pub use Feeding.{plain_headed, sealed_by, sealed_headed, sealed_where, sum_behind, sums, sums_line, tailed, waiting_at}
+unfoldable pub use Feeding.{behind_header, entered, headed, inside, line_read, reading, turned}
 pub use Faults.{HasFault, Meets}
 pub use Checks.{Goes, HaltTells, HaltsIn, IsFaultyJournal, IsLawfulJournal, IsRestored, IsSoFar, IsSpent, IsTold, IsUnlawfulJournal}
 pub use Checks.{MayHaltAt, Progress, ShowsFault, ShowsFront, ShowsUnlawful, StopsIn, halt_of, is_whole, line_of_last}
 pub use declared.fault.Unread.{Unread}
 pub use declared.fault.Unwritten.{Unwritten}
 pub use declared.fault.What.{What}
+pub use declared.reader.Form.{Form}
+pub use declared.reader.Link.{Link}
 pub use declared.reader.Stage.{Stage}
 pub use declared.stop.Halt.{Halt}
 pub use declared.stop.Stop.{Stop}

@@ -1,5 +1,5 @@
 -- The laws of numbers as words. A clause leads here, so this file can import no lemmas of the grammar: they import code's proofs.
-use Rattle.std.proofs.Common.{◌≡◌, ℕ, ◌<◌, ◌≤◌, ◌^◌, Bool, true, false, not, ◌==◌, ◌||◌, if◌then◌else◌, List, [], ◌∷◌, length, get_or}
+use Rattle.std.proofs.Common.{◌≡◌, ℕ, ◌+◌, ◌<◌, ◌≤◌, ◌^◌, Bool, true, false, not, ◌==◌, ◌||◌, if◌then◌else◌, List, [], ◌∷◌, length, get_or}
 use Rattle.std.proofs.Common.{Some, None, refl, sym, ap, subst, ◌∙◌, arith, true≢false, ◌⊎◌, inl, inr, eq-eqb}
 use Rattle.std.specs.Fmt.{decimal}
 use Rattle.std.specs.List.{list_all}
@@ -68,3 +68,9 @@ number_printed n small = (and_parts _ _ (number_is_text n (ltb-true n (2 ^ 64) s
 
 pub numbers_are_written : IsWritten decimal is_small number_of
 numbers_are_written = record { again = number_again; only = number_only; printed = number_printed; apart = (refl, refl, refl, refl) }
+
+pub sealed_3_is_small : 1 + 2 < 2 ^ 64
+sealed_3_is_small = omega arith
+
+pub sealed_4_is_small : 2 + 2 < 2 ^ 64
+sealed_4_is_small = omega arith

@@ -89,6 +89,7 @@ fn escaped(high: u8, low: u8) -> Option<u8>
 impl Written for Bytes {
     ghost use Rattle.cml_journal.specs.Escapes.{bytes_text, is_message, message_of_word};
     ghost use Rattle.cml_journal.specs.EscapeLaws.{bytes_are_written};
+    ghost use Rattle.cml_journal.specs.NumberLaws.{sealed_4_is_small};
 
     const VERSION: u64 = 2;
 
@@ -101,6 +102,8 @@ impl Written for Bytes {
     ghost meaning = { message_of_word };
 
     ghost written = { bytes_are_written };
+
+    ghost small = { sealed_4_is_small };
 
     fn write(&self, line: &mut String) -> Result<(), AllocError> {
         write_message(line, self.as_slice())

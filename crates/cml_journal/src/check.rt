@@ -3,7 +3,7 @@ ghost use Rattle.std.specs.Prelude.{◌≡◌, ◌≤◌, ◌-◌, ◌^◌, ◌�
 ghost use Rattle.std.specs.Prelude.{OnOk, OnErr, OnSome, IsErr, IsTrue, is_none, not, ◌&&◌, ◌==◌, option_map, string_bytes};
 ghost use Rattle.cml_board.specs.{Feeds, count_of, expected_of};
 ghost use Rattle.cml_journal.specs.{Halt, State, end_of, IsSoFar, Goes, HaltsIn, StopsIn, MayHaltAt, IsTold, IsSpent, is_whole};
-ghost use Rattle.cml_journal.specs.{line_of_last, IsLawfulJournal, IsRestored};
+ghost use Rattle.cml_journal.specs.{line_of_last, last_sum, IsLawfulJournal, IsRestored};
 
 use crate::fault::What;
 use crate::reader::Reader;
@@ -11,6 +11,7 @@ use crate::stop::{Halt, Stop};
 use crate::writing::write_entry;
 use crate::written::Written;
 use cml_board::{BoardLog, Checker, Entry, Expected, Message, Restored};
+use cml_sums::Sum;
 use std::alloc::{AllocError, Global};
 use std::marker::Model;
 
@@ -227,5 +228,12 @@ impl<M: Message + Written> Check<M> {
         ensures { result ≡ self.now.state.lines }
     {
         self.reader.lines()
+    }
+
+    /// The sum of the last piece, if that is sealed and the bytes so far end with it.
+    pub fn sum(&self) -> Option<Sum>
+        ensures { result ≡ last_sum self.now.state }
+    {
+        self.reader.sum()
     }
 }

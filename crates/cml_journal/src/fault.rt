@@ -40,6 +40,9 @@ pub enum What {
     /// The position in a piece's last line is not the one behind its last entry.
     #[error("wrong end")]
     WrongEnd,
+    /// The sum in a sealed piece's last line is not that of its lines, or its header does not name the sum of the piece before.
+    #[error("wrong sum")]
+    WrongSum,
     /// There are more than 18,446,744,073,709,551,615 entries.
     #[error("too many entries")]
     TooMany,

@@ -1,9 +1,10 @@
 //! Laws of the definitions, each the contract of a function that does nothing.
-ghost use Rattle.std.specs.Prelude.{◌≡◌, ℕ, ◌+◌, ◌^◌, ◌<◌, ◌∷◌, ◌++◌, List, Ok, Err, Some, length};
+ghost use Rattle.std.specs.Prelude.{◌≡◌, ℕ, ◌+◌, ◌^◌, ◌<◌, ◌∷◌, ◌++◌, List, Option, Ok, Err, Some, None, length};
 ghost use Rattle.std.specs.List.{flat_map, AllByRecursion};
 ghost use Rattle.cml_board.specs.{Entry};
 ghost use Rattle.cml_journal.specs.{line_of, HasLine, entry_in, text_of, stream_lines, What, State, fresh, end_of, behind, reading};
-ghost use Rattle.cml_journal.specs.{IsReadable};
+ghost use Rattle.cml_journal.specs.{IsReadable, IsTextOf, IsSealedRead, MaybeSum, waiting_at};
+ghost use Rattle.cml_sums.specs.{Sum};
 
 use crate::written::Written;
 
@@ -25,13 +26,14 @@ pub fn streams_may_be_cut<M: Written>()
         → reading M.VERSION M.meaning state (front ++ rest) ≡ Err what }
 {}
 
-/// Shows that a stream that was read to its end is the writing of exactly these entries, in pieces that follow each other.
+/// Shows that a stream that was read to its end is the writing of exactly these entries, in pieces that follow each other: in
+/// plain ones, or in sealed ones of which each names the sum of the one before.
 pub fn streams_are_pieces<M: Written>()
     ensures { (bytes : List ℕ) (state : State) (entries : List (Entry M)) (end : ℕ)
         → reading M.VERSION M.meaning fresh bytes ≡ Ok (state, entries)
         → end_of state ≡ Some end
         → (from : ℕ) × (pieces : List (List (Entry M)))
-        × (bytes ≡ text_of (stream_lines M.VERSION M.text from pieces))
+        × IsTextOf M.VERSION M.text from pieces bytes
         × (entries ≡ flat_map (λ piece. piece) pieces)
         × (end ≡ from + length entries) }
 {}
@@ -45,4 +47,17 @@ pub fn pieces_are_read<M: Written>()
         × (reading M.VERSION M.meaning fresh (text_of (stream_lines M.VERSION M.text from (piece ∷ pieces)))
         ≡ Ok (state, flat_map (λ piece. piece) (piece ∷ pieces)))
         × (end_of state ≡ Some (from + length (flat_map (λ piece. piece) (piece ∷ pieces)))) }
+{}
+
+/// Shows the same of sealed pieces, behind any piece or as a chain that begins, and that a reader then has the sum of the last.
+pub fn sealed_pieces_are_read<M: Written>()
+    ensures behind { (after : Option Sum) (from : ℕ) (piece : List (Entry M)) (pieces : List (List (Entry M)))
+        → M.VERSION + 2 < 2 ^ 64 → MaybeSum after
+        → AllByRecursion (AllByRecursion (IsReadable M.text M.fits)) (piece ∷ pieces)
+        → from + length (flat_map (λ piece. piece) (piece ∷ pieces)) < 2 ^ 64
+        → IsSealedRead M.VERSION M.text M.meaning fresh after from (piece ∷ pieces) }
+    ensures begins { (piece : List (Entry M)) (pieces : List (List (Entry M))) → M.VERSION + 2 < 2 ^ 64
+        → AllByRecursion (AllByRecursion (IsReadable M.text M.fits)) (piece ∷ pieces)
+        → length (flat_map (λ piece. piece) (piece ∷ pieces)) < 2 ^ 64
+        → IsSealedRead M.VERSION M.text M.meaning (waiting_at 0) None 0 (piece ∷ pieces) }
 {}

@@ -8,6 +8,7 @@ mod laws;
 mod pieces;
 mod reader;
 mod reading;
+mod sealed;
 mod spelling;
 mod stop;
 mod words;
@@ -15,11 +16,16 @@ mod writing;
 mod written;
 
 pub use check::Check;
+pub use cml_sums::Sum;
 pub use fault::{TooLong, Unread, Unwritten, What};
-pub use laws::{lines_are_entries, pieces_are_read, streams_are_pieces, streams_may_be_cut};
+pub use laws::{
+    lines_are_entries, pieces_are_read, sealed_pieces_are_read, streams_are_pieces,
+    streams_may_be_cut,
+};
 pub use pieces::{add_piece, add_piece_in, write_piece};
 pub use reader::Reader;
 pub use reading::read_entry;
+pub use sealed::{add_sealed_piece, write_sealed_piece};
 pub use spelling::{ScriptWords, Spelling};
 pub use stop::{Halt, Stop};
 pub use writing::{write_entry, write_reply};

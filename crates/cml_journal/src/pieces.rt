@@ -3,7 +3,9 @@ ghost use Rattle.std.specs.Prelude.{◌≡◌, ◌<◌, ◌+◌, ◌^◌, ◌++�
 ghost use Rattle.std.specs.Prelude.{MatchBool, MatchOption, string_bytes, length, codes};
 ghost use Rattle.std.specs.Io.KnownBytes.{Appends};
 ghost use Rattle.std.specs.List.{flat_map};
-ghost use Rattle.cml_journal.specs.{line_of, numbered_line, with_line_end, text_of, head_lines, piece_lines, Writes};
+ghost use Rattle.std.specs.Option.{option_map};
+ghost use Rattle.cml_sums.specs.{Summed, and_bytes};
+ghost use Rattle.cml_journal.specs.{line_of, numbered_line, with_line_end, text_of, from_lines, head_lines, piece_lines, WritesSummed};
 ghost use Rattle.cml_journal.specs.{most, IsShort, AreShort, IsTooLong, MayBeTooLong};
 
 use crate::fault::{TooLong, Unwritten};
@@ -13,6 +15,7 @@ use crate::writing::{write_entry, write_entry_in};
 use crate::written::Written;
 use cml_board::Entry;
 use cml_grammar::write_whole;
+use cml_sums::Summing;
 use std::alloc::{AllocError, Global};
 use std::io::{self, Write};
 
@@ -58,13 +61,16 @@ fn write_short<M: Written, W: Write>(
 {
     let mut text = String::new(alloc);
     write_head(&mut text, M::VERSION, from)?;
-    write_lines(writer, &mut text, entries)?;
+    write_lines(writer, &mut text, &mut None, entries)?;
     write_numbered(&mut text, "end", from + entries.len() as u64)?;
     write_whole(writer, text.as_bytes())
 }
 
 /// The place of the first entry whose line no reader takes, if there is one.
-fn too_long<M: Written>(alloc: Global, entries: &[Entry<M>]) -> Result<Option<u64>, AllocError>
+pub(crate) fn too_long<M: Written>(
+    alloc: Global,
+    entries: &[Entry<M>],
+) -> Result<Option<u64>, AllocError>
     ensures { IfOk result (λ found. MatchOption found (AreShort M.text entries.now) (IsTooLong M.text entries.now)) }
 {
     let mut line = String::new(alloc);
@@ -94,33 +100,51 @@ fn add_line<M, S: Spelling<M>>(
     Ok(text.len() - before <= MOST)
 }
 
-/// Adds the lines of entries to a text, and writes what it has whenever that is much.
-fn write_lines<M: Written, W: Write>(
+/// Adds the lines of entries to a text, and writes what it has whenever that is much. What it writes it sums, if there is a sum
+/// to make.
+pub(crate) fn write_lines<M: Written, W: Write>(
     writer: &mut W,
     text: &mut String,
+    summing: &mut Option<Summing>,
     entries: &[Entry<M>],
 ) -> io::Result<()>
-    ensures { OnOk result (Writes (W.contents writer.old) (W.contents writer.new)
-        (string_bytes text.old ++ flat_map (λ entry. with_line_end (line_of M.text entry)) entries.now) (string_bytes text.new)) }
+    ensures { OnOk result (WritesSummed (W.contents writer.old) (W.contents writer.new)
+        (string_bytes text.old ++ flat_map (λ entry. with_line_end (line_of M.text entry)) entries.now) (string_bytes text.new)
+        summing.old summing.new) }
 {
     for entry in entries {
         write_entry(text, entry)?;
         text.push_str("\n")?;
-        write_much(writer, text)?;
+        write_much(writer, text, summing)?;
     }
     Ok(())
 }
 
 /// Writes a text and empties it, if it has many bytes.
-fn write_much<W: Write>(writer: &mut W, text: &mut String) -> io::Result<()>
-    ensures { OnOk result (Writes (W.contents writer.old) (W.contents writer.new) (string_bytes text.old) (string_bytes text.new)) }
+fn write_much<W: Write>(
+    writer: &mut W,
+    text: &mut String,
+    summing: &mut Option<Summing>,
+) -> io::Result<()>
+    ensures { OnOk result (WritesSummed (W.contents writer.old) (W.contents writer.new) (string_bytes text.old) (string_bytes text.new)
+        summing.old summing.new) }
 {
     if text.len() < MANY {
         return Ok(());
     }
     writer.write_all(text.as_bytes())?;
+    sum_text(summing, text);
     text.clear();
     Ok(())
+}
+
+/// Sums a text, if there is a sum to make.
+fn sum_text(summing: &mut Option<Summing>, text: &str)
+    ensures { summing.new ≡ option_map (λ (s : Summed). and_bytes s text.now) summing.old }
+{
+    if let Some(summing) = summing {
+        summing.add(text.as_bytes());
+    }
 }
 
 /// Adds a piece: its header, the position of its first entry unless that is 0, its entries and its end. It fails at the first
@@ -168,13 +192,19 @@ fn write_head(text: &mut String, version: u64, from: u64) -> Result<(), AllocErr
     ensures { OnOk result (string_bytes text.new ≡ string_bytes text.old ++ text_of (head_lines version from)) }
 {
     write_numbered(text, "journal", version)?;
+    write_from(text, from)
+}
+
+pub(crate) fn write_from(text: &mut String, from: u64) -> Result<(), AllocError>
+    ensures { OnOk result (string_bytes text.new ≡ string_bytes text.old ++ text_of (from_lines from)) }
+{
     if from != 0 {
         write_numbered(text, "from", from)?;
     }
     Ok(())
 }
 
-fn write_entries<M, S: Spelling<M>>(
+pub(crate) fn write_entries<M, S: Spelling<M>>(
     text: &mut String,
     spelling: &S,
     entries: &[Entry<M>],

@@ -1,9 +1,13 @@
 //! How a journal's text is read as it comes.
-ghost use Rattle.std.specs.Prelude.{◌≡◌, ◌≤◌, ◌-◌, ◌==◌, ◌++◌, ◌∷◌, [], ℕ, List, Ok, false, length, position, IfOk, IfErr};
+ghost use Rattle.std.specs.Prelude.{◌≡◌, ◌≤◌, ◌-◌, ◌+◌, ◌==◌, ◌++◌, ◌∷◌, [], ℕ, List, Ok, false, length, position, IfOk, IfErr};
 ghost use Rattle.std.specs.Prelude.{OnOk, OnErr, OnSome, MatchOption};
-ghost use Rattle.std.specs.Option.{option_to_list};
-ghost use Rattle.cml_journal.specs.{Gives, Meets, State, fresh, waiting_at, numbered, headed, begun, entered, ended_by, inside, from_by};
-ghost use Rattle.cml_journal.specs.{behind_header, line_step, line_read, has_line_end, held_all, most, turned, reading, end_of};
+ghost use Rattle.std.specs.Option.{option_map, option_to_list};
+ghost use Rattle.cml_sums.specs.{nothing_summed};
+ghost use Rattle.cml_journal.specs.{Gives, Meets, State, fresh, waiting_at, numbered, number_before, tailed, headed, begun, entered};
+ghost use Rattle.cml_journal.specs.{plain_headed, sealed_where, sealed_headed, headed_by, sealed_by, closed_by, ended_by, inside_by};
+ghost use Rattle.cml_journal.specs.{inside, from_by, behind_header, line_step, line_read, sums, sums_line, has_line_end, held_all, most};
+ghost use Rattle.cml_journal.specs.{turned, reading, end_of, last_sum, with_line_end};
+ghost use Rattle.cml_journal.specs.declared.reader.Form.TheVariants.{Plain, Sealed};
 
 use crate::fault::{Unread, What};
 use crate::reading::read_entry;
@@ -11,21 +15,42 @@ use crate::words::cut;
 use crate::written::Written;
 use cml_board::Entry;
 use cml_grammar::{has_bad_byte, number_of};
+use cml_sums::{Sum, Summing};
 use std::alloc::Global;
 use std::marker::Model;
 
 /// The most bytes of a line.
 pub(crate) const MOST: usize = 1_114_112;
 
+/// Whether a piece has a sum.
+#[derive(Clone, Copy, Debug, PartialEq, Eq)]
+pub(crate) enum Form {
+    Plain,
+    Sealed,
+}
+
+/// What the next header has to say.
+#[derive(Clone, Copy, Debug, PartialEq, Eq)]
+pub(crate) enum Link {
+    /// It is the first, and may name any sum.
+    Any,
+    /// It is the first of a journal, and may name no sum.
+    First,
+    /// The piece before is plain.
+    Unsealed,
+    /// The piece before has this sum.
+    Behind(Sum),
+}
+
 /// Where in a stream of pieces a line is.
 #[derive(Clone, Copy, Debug, PartialEq, Eq)]
 pub(crate) enum Stage {
     /// Before a piece, and behind one that ended at this position, if there was one before.
-    Waiting(Option<u64>),
+    Waiting(Option<u64>, Link),
     /// Behind a header.
-    Headed(Option<u64>),
+    Headed(Option<u64>, Form),
     /// Before a piece's entry at this position, or its end.
-    Inside(u64),
+    Inside(u64, Form),
 }
 
 /// The stage behind a line, and the entry that the line was, if it was one.
@@ -41,11 +66,82 @@ fn numbered(word: &str, line: &str) -> Option<u64>
     }
 }
 
-fn headed<M: Written>(before: Option<u64>, found: Option<u64>) -> Result<Told<M>, Unread>
-    ensures { Gives (λ told. told) result (headed M.VERSION before found) }
+/// The number behind this word, and what is behind that.
+fn tailed<'a>(word: &str, line: &'a str) -> Option<(u64, &'a str)>
+    ensures { option_map (λ found. (found.0, found.1.now)) result ≡ tailed word.now line.now }
 {
-    match found {
-        Some(version) if version == M::VERSION => Ok((Stage::Headed(before), None)),
+    match cut(line) {
+        Some((first, rest)) if first == word => number_before(rest),
+        _ => None,
+    }
+}
+
+fn number_before(text: &str) -> Option<(u64, &str)>
+    ensures { option_map (λ found. (found.0, found.1.now)) result ≡ number_before text.now }
+{
+    let (word, rest) = cut(text)?;
+    let number = number_of(word)?;
+    Some((number, rest))
+}
+
+/// Whether this is the version of sealed pieces.
+fn is_sealed<M: Written>(found: u64) -> bool
+    ensures { result ≡ (found == M.VERSION + 2) }
+{
+    found.checked_sub(2) == Some(M::VERSION)
+}
+
+fn plain_headed<M: Written>(before: Option<u64>, link: Link) -> Result<Told<M>, Unread>
+    ensures { Gives (λ told. told) result (plain_headed before link) }
+{
+    match link {
+        Link::Any | Link::First | Link::Unsealed => Ok((Stage::Headed(before, Form::Plain), None)),
+        Link::Behind(_) => Err(Unread::Fault(What::NoHeader)),
+    }
+}
+
+fn sealed_where<M: Written>(before: Option<u64>, right: bool) -> Result<Told<M>, Unread>
+    ensures { Gives (λ told. told) result (sealed_where before right) }
+{
+    if right {
+        Ok((Stage::Headed(before, Form::Sealed), None))
+    } else {
+        Err(Unread::Fault(What::WrongSum))
+    }
+}
+
+/// The header of a sealed piece, with the word behind its version if there is one.
+fn sealed_headed<M: Written>(
+    before: Option<u64>,
+    link: Link,
+    word: Option<&str>,
+) -> Result<Told<M>, Unread>
+    ensures { Gives (λ told. told) result (sealed_headed before link (option_map (λ word. word.now) word.entry)) }
+{
+    match (link, word) {
+        (Link::Unsealed, _) => Err(Unread::Fault(What::NoHeader)),
+        (Link::Any, Some(word)) => sealed_where(before, Sum::of_word(word).is_some()),
+        (Link::Any | Link::First, None) => sealed_where(before, true),
+        (Link::Behind(sum), Some(word)) => sealed_where(before, sum.has_word(word)),
+        (Link::First, Some(_)) | (Link::Behind(_), None) => sealed_where(before, false),
+    }
+}
+
+#[tactic(auto, unfolding(crate::specs::Feeding::headed))]
+fn headed<M: Written>(before: Option<u64>, link: Link, line: &str) -> Result<Told<M>, Unread>
+    ensures { Gives (λ told. told) result (headed M.VERSION before link line.now) }
+{
+    if let Some(found) = numbered("journal", line) {
+        if found == M::VERSION {
+            return plain_headed(before, link);
+        }
+        if is_sealed::<M>(found) {
+            return sealed_headed(before, link, None);
+        }
+        return Err(Unread::Fault(What::NoHeader));
+    }
+    match tailed("journal", line) {
+        Some((found, word)) if is_sealed::<M>(found) => sealed_headed(before, link, Some(word)),
         _ => Err(Unread::Fault(What::NoHeader)),
     }
 }
@@ -61,25 +157,75 @@ fn begun(before: Option<u64>, from: u64) -> Result<u64, Unread>
 }
 
 #[tactic(auto, unfolding(crate::specs::Feeding::entered))]
-fn entered<M: Written>(alloc: Global, position: u64, line: &str) -> Result<Told<M>, Unread>
-    ensures { Gives (λ told. told) result (entered M.meaning position line.now) }
+fn entered<M: Written>(
+    alloc: Global,
+    form: Form,
+    position: u64,
+    line: &str,
+) -> Result<Told<M>, Unread>
+    ensures { Gives (λ told. told) result (entered M.meaning form position line.now) }
 {
     let entry = read_entry(alloc, line)?;
     match position.checked_add(1) {
-        Some(next) => Ok((Stage::Inside(next), Some(entry))),
+        Some(next) => Ok((Stage::Inside(next, form), Some(entry))),
         None => Err(Unread::Fault(What::TooMany)),
+    }
+}
+
+/// The end of a plain piece, or an entry of it.
+fn plain_inside<M: Written>(alloc: Global, position: u64, line: &str) -> Result<Told<M>, Unread>
+    ensures { Gives (λ told. told) result (inside_by M.meaning Plain nothing_summed position line.now) }
+{
+    match numbered("end", line) {
+        Some(end) if end == position => {
+            Ok((Stage::Waiting(Some(position), Link::Unsealed), None))
+        }
+        Some(_) => Err(Unread::Fault(What::WrongEnd)),
+        None => entered(alloc, Form::Plain, position, line),
+    }
+}
+
+/// The end of a sealed piece, if it has this word.
+fn sealed_by<M: Written>(position: u64, sum: Sum, word: &str) -> Result<Told<M>, Unread>
+    ensures { Gives (λ told. told) result (sealed_by position sum word.now) }
+{
+    if sum.has_word(word) {
+        Ok((Stage::Waiting(Some(position), Link::Behind(sum)), None))
+    } else {
+        Err(Unread::Fault(What::WrongSum))
+    }
+}
+
+/// The end of a sealed piece, or an entry of it.
+fn sealed_inside<M: Written>(
+    alloc: Global,
+    summing: &Summing,
+    position: u64,
+    line: &str,
+) -> Result<Told<M>, Unread>
+    ensures { Gives (λ told. told) result (inside_by M.meaning Sealed summing.now position line.now) }
+{
+    match tailed("end", line) {
+        Some((end, word)) if end == position => sealed_by(position, summing.sum()?, word),
+        Some(_) => Err(Unread::Fault(What::WrongEnd)),
+        None => entered(alloc, Form::Sealed, position, line),
     }
 }
 
 /// The end of a piece, or an entry of it.
 #[tactic(auto, unfolding(crate::specs::Feeding::inside))]
-fn inside<M: Written>(alloc: Global, position: u64, line: &str) -> Result<Told<M>, Unread>
-    ensures { Gives (λ told. told) result (inside M.meaning position line.now) }
+fn inside<M: Written>(
+    alloc: Global,
+    form: Form,
+    summing: &Summing,
+    position: u64,
+    line: &str,
+) -> Result<Told<M>, Unread>
+    ensures { Gives (λ told. told) result (inside M.meaning form summing.now position line.now) }
 {
-    match numbered("end", line) {
-        Some(end) if end == position => Ok((Stage::Waiting(Some(position)), None)),
-        Some(_) => Err(Unread::Fault(What::WrongEnd)),
-        None => entered(alloc, position, line),
+    match form {
+        Form::Plain => plain_inside(alloc, position, line),
+        Form::Sealed => sealed_inside(alloc, summing, position, line),
     }
 }
 
@@ -87,38 +233,74 @@ fn inside<M: Written>(alloc: Global, position: u64, line: &str) -> Result<Told<M
 #[tactic(auto, unfolding(crate::specs::Feeding::behind_header))]
 fn behind_header<M: Written>(
     alloc: Global,
+    form: Form,
+    summing: &Summing,
     before: Option<u64>,
     line: &str,
 ) -> Result<Told<M>, Unread>
-    ensures { Gives (λ told. told) result (behind_header M.meaning before line.now) }
+    ensures { Gives (λ told. told) result (behind_header M.meaning form summing.now before line.now) }
 {
     match numbered("from", line) {
         Some(0) => Err(Unread::Fault(What::BadNumber)),
-        Some(from) => Ok((Stage::Inside(begun(before, from)?), None)),
-        None => inside(alloc, begun(before, 0)?, line),
+        Some(from) => Ok((Stage::Inside(begun(before, from)?, form), None)),
+        None => inside(alloc, form, summing, begun(before, 0)?, line),
     }
 }
 
-fn line_step<M: Written>(alloc: Global, stage: Stage, line: &str) -> Result<Told<M>, Unread>
-    ensures { Gives (λ told. told) result (line_step M.VERSION M.meaning stage line.now) }
+fn line_step<M: Written>(
+    alloc: Global,
+    summing: &Summing,
+    stage: Stage,
+    line: &str,
+) -> Result<Told<M>, Unread>
+    ensures { Gives (λ told. told) result (line_step M.VERSION M.meaning summing.now stage line.now) }
 {
     match stage {
-        Stage::Waiting(before) => headed(before, numbered("journal", line)),
-        Stage::Headed(before) => behind_header(alloc, before, line),
-        Stage::Inside(position) => inside(alloc, position, line),
+        Stage::Waiting(before, link) => headed(before, link, line),
+        Stage::Headed(before, form) => behind_header(alloc, form, summing, before, line),
+        Stage::Inside(position, form) => inside(alloc, form, summing, position, line),
     }
 }
 
 #[tactic(auto, unfolding(crate::specs::Feeding::line_read))]
-fn line_read<M: Written>(alloc: Global, stage: Stage, line: &[u8]) -> Result<Told<M>, Unread>
-    ensures { Gives (λ told. told) result (line_read M.VERSION M.meaning stage line.now) }
+fn line_read<M: Written>(
+    alloc: Global,
+    summing: &Summing,
+    stage: Stage,
+    line: &[u8],
+) -> Result<Told<M>, Unread>
+    ensures { Gives (λ told. told) result (line_read M.VERSION M.meaning summing.now stage line.now) }
 {
     if has_bad_byte(line) {
         return Err(Unread::Fault(What::BadBytes));
     }
     match str::from_utf8(line) {
-        Ok(text) => line_step(alloc, stage, text),
+        Ok(text) => line_step(alloc, summing, stage, text),
         Err(_) => unreachable!(),
+    }
+}
+
+/// Sums a line and its end, if its piece is sealed.
+fn sum_line(summing: &mut Summing, form: Form, line: &[u8])
+    ensures { summing.new ≡ sums form summing.old (with_line_end line.now) }
+{
+    match form {
+        Form::Plain => {}
+        Form::Sealed => {
+            summing.add(line);
+            summing.add(b"\n");
+        }
+    }
+}
+
+/// Sums a line that was read, if the stage behind it is within its piece.
+fn sum_read(summing: &mut Summing, stage: Stage, line: &[u8])
+    ensures { summing.new ≡ sums_line stage summing.old line.now }
+{
+    match stage {
+        Stage::Waiting(_, _) => *summing = Summing::new(),
+        Stage::Headed(_, form) => sum_line(summing, form, line),
+        Stage::Inside(_, form) => sum_line(summing, form, line),
     }
 }
 
@@ -130,6 +312,7 @@ pub struct Reader {
     stage: Stage,
     lines: u64,
     line: Vec<u8>,
+    summing: Summing,
 }
 
 impl Model for Reader {
@@ -138,7 +321,8 @@ impl Model for Reader {
 
     ghost Value = { State };
 
-    ghost view = { λ reader. record { stage = reader.stage; lines = reader.lines; line = reader.line.items } };
+    ghost view = { λ reader.
+        record { stage = reader.stage; lines = reader.lines; line = reader.line.items; summed = reader.summing } };
 
     ghost invariant = { λ reader. length reader.line.items ≤ most };
 }
@@ -164,21 +348,28 @@ impl Reader {
         ensures { result ≡ fresh }
     {
         Reader {
-            stage: Stage::Waiting(None),
+            stage: Stage::Waiting(None, Link::Any),
             lines: 0,
             line: Vec::new(alloc),
+            summing: Summing::new(),
         }
     }
 
     /// A reader of a stream whose first piece begins at this position: it is a gap if that begins elsewhere. `end` gives the
-    /// position before the first line too.
+    /// position before the first line too. If the position is 0, a sealed piece there names no sum of a piece before.
     pub fn from(alloc: Global, position: u64) -> Reader
         ensures { result ≡ waiting_at position }
     {
+        let link = if position == 0 {
+            Link::First
+        } else {
+            Link::Any
+        };
         Reader {
-            stage: Stage::Waiting(Some(position)),
+            stage: Stage::Waiting(Some(position), link),
             lines: 0,
             line: Vec::new(alloc),
+            summing: Summing::new(),
         }
     }
 
@@ -227,7 +418,8 @@ impl Reader {
         ensures ended { OnOk result (self.new.line ≡ []) }
         ensures line { OnErr result (self.new.lines ≡ self.old.lines) }
     {
-        let (stage, entry) = line_read(alloc, self.stage, &self.line)?;
+        let (stage, entry) = line_read(alloc, &self.summing, self.stage, &self.line)?;
+        sum_read(&mut self.summing, stage, &self.line);
         self.stage = stage;
         self.lines = self.lines.wrapping_add(1);
         self.line.clear();
@@ -246,7 +438,17 @@ impl Reader {
         ensures { result ≡ end_of self.now }
     {
         match self.stage {
-            Stage::Waiting(end) if self.line.is_empty() => end,
+            Stage::Waiting(end, _) if self.line.is_empty() => end,
+            _ => None,
+        }
+    }
+
+    /// Returns the sum of the last piece, if that is sealed and the stream so far ends with it.
+    pub fn sum(&self) -> Option<Sum>
+        ensures { result ≡ last_sum self.now }
+    {
+        match self.stage {
+            Stage::Waiting(_, Link::Behind(sum)) if self.line.is_empty() => Some(sum),
             _ => None,
         }
     }

@@ -1,5 +1,5 @@
 //! Messages as words of a line.
-ghost use Rattle.std.specs.Prelude.{◌≡◌, ◌++◌, ℕ, Bool, List, Option, IfOk, OnOk, string_bytes};
+ghost use Rattle.std.specs.Prelude.{◌≡◌, ◌++◌, ◌+◌, ◌^◌, ◌<◌, ℕ, Bool, List, Option, IfOk, OnOk, string_bytes};
 ghost use Rattle.cml_journal.specs.Written.{IsWritten};
 
 use cml_grammar::number_of;
@@ -31,13 +31,16 @@ pub trait Written: Drop + Sized {
 
     /// A written message is read again, and has no other word.
     ghost written: { IsWritten text fits meaning };
+
+    /// The version of sealed journals is a number too.
+    ghost small: { VERSION + 2 < 2 ^ 64 };
 }
 
 /// A number is its decimal digits, without zeros in front.
 impl Written for u64 {
     ghost use Rattle.std.specs.Fmt.{decimal};
     ghost use Rattle.cml_journal.specs.Numbers.{is_small, number_of};
-    ghost use Rattle.cml_journal.specs.NumberLaws.{numbers_are_written};
+    ghost use Rattle.cml_journal.specs.NumberLaws.{numbers_are_written, sealed_3_is_small};
 
     const VERSION: u64 = 1;
 
@@ -50,6 +53,8 @@ impl Written for u64 {
     ghost meaning = { number_of };
 
     ghost written = { numbers_are_written };
+
+    ghost small = { sealed_3_is_small };
 
     fn write(&self, line: &mut String) -> Result<(), AllocError> {
         let number = *self;

@@ -1,4 +1,4 @@
-use Rattle.std.proofs.Common.{ℕ, ◌+◌, List, [], ◌++◌, length, string_bytes, ap, subst, ◌∙◌}
+use Rattle.std.proofs.Common.{ℕ, ◌+◌, List, [], ◌++◌, length, None, string_bytes, ap, subst, ◌∙◌}
 use Rattle.std.specs.Prelude.{codes}
 use Rattle.std.specs.List.{flat_map}
 use Rattle.std.specs.Io.KnownBytes.{Appends}
@@ -20,5 +20,6 @@ returns g c =
     on_ok c.write_whole.result
     (λ appends. subst (Appends (g.W.Write.contents c.args.writer.now) (g.W.Write.contents c.write_whole.new.writer)) whole
     (writes_end _ _ _ (string_bytes c.write_head.new.text ++ flat)
-    (string_bytes c.write_lines.new.text) c.as_bytes.result.now end c.in_ok-write_lines.ensures appends last))
+    (string_bytes c.write_lines.new.text) c.as_bytes.result.now end None c.write_lines.new.summing
+    c.in_ok-write_lines.ensures appends last))
     c.write_whole.ensures

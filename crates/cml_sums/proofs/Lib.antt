@@ -1,0 +1,3 @@
+pub mod DigitsLemmas
+pub mod SumsLemmas
+pub mod WordsLemmas
