@@ -1,5 +1,5 @@
 //! The short journal of a room.
-ghost use Rattle.std.specs.Prelude.{◌≡◌, ◌×◌, ◌^◌, true, false, IfOk, IfErr, MatchResult};
+ghost use Rattle.std.specs.Prelude.{◌≡◌, ◌^◌, true, false, IfOk, IfErr, MatchResult};
 ghost use Rattle.cml_compact.specs.{Stops, compact_size};
 ghost use Rattle.cml_c.specs.{IsShortOf, Leaves, MakesShort, OnEitherKept, OnRoom, ShowsSameRoom};
 

@@ -61,6 +61,19 @@ sum_behind (Inside position form) left = None
 abbrev pub last_sum : State → Option Sum
 last_sum state = sum_behind state.stage (length state.line)
 
+-- the sum that guards the whole lines so far: that of the last piece, or of the lines of one that has no end yet
+abbrev pub sum_within : Form → Summed → Option Sum
+sum_within Plain summed = None
+sum_within Sealed summed = Some (sum_by summed)
+
+abbrev pub kept_by : Stage → Summed → Option Sum
+kept_by (Waiting end link) summed = sum_behind (Waiting end link) 0
+kept_by (Headed before form) summed = None
+kept_by (Inside position form) summed = sum_within form summed
+
+abbrev pub kept_sum : State → Option Sum
+kept_sum state = kept_by state.stage state.summed
+
 -- the number behind this word, if the line has just these
 abbrev pub numbered : List ℕ → List ℕ → Option ℕ
 numbered word line = option_and_then (λ (parts : List ℕ × List ℕ). if bytes_eq parts.0 word then number_of parts.1 else None) (cut line)

@@ -28,7 +28,7 @@ pub use Lengths.{AreShort, IsShort, IsTooLong, MayBeTooLong}
 pub use Feeding.{IsReadable, IsSealedRead, MaybeSum, Read, State, Step, begun, behind, byte_read, closed_by, end_by, end_of, ended_by}
 pub use Feeding.{fresh, from_by}
 pub use Feeding.{has_line_end, headed_by, held, held_all, inside_by, last_sum, line_step, link_at, most, no_entry, number_before, numbered}
-pub use Feeding.{plain_headed, sealed_by, sealed_headed, sealed_where, sum_behind, sums, sums_line, tailed, waiting_at}
+pub use Feeding.{kept_by, kept_sum, plain_headed, sealed_by, sealed_headed, sealed_where, sum_behind, sum_within, sums, sums_line, tailed, waiting_at}
 unfoldable pub use Feeding.{behind_header, entered, headed, inside, line_read, reading, turned}
 pub use Faults.{HasFault, Meets}
 pub use Checks.{Goes, HaltTells, HaltsIn, IsFaultyJournal, IsLawfulJournal, IsRestored, IsSoFar, IsSpent, IsTold, IsUnlawfulJournal}

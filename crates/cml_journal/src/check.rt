@@ -3,7 +3,7 @@ ghost use Rattle.std.specs.Prelude.{◌≡◌, ◌≤◌, ◌-◌, ◌^◌, ◌�
 ghost use Rattle.std.specs.Prelude.{OnOk, OnErr, OnSome, IsErr, IsTrue, is_none, not, ◌&&◌, ◌==◌, option_map, string_bytes};
 ghost use Rattle.cml_board.specs.{Feeds, count_of, expected_of};
 ghost use Rattle.cml_journal.specs.{Halt, State, end_of, IsSoFar, Goes, HaltsIn, StopsIn, MayHaltAt, IsTold, IsSpent, is_whole};
-ghost use Rattle.cml_journal.specs.{line_of_last, last_sum, IsLawfulJournal, IsRestored};
+ghost use Rattle.cml_journal.specs.{line_of_last, kept_sum, last_sum, IsLawfulJournal, IsRestored};
 
 use crate::fault::What;
 use crate::reader::Reader;
@@ -235,5 +235,12 @@ impl<M: Message + Written> Check<M> {
         ensures { result ≡ last_sum self.now.state }
     {
         self.reader.sum()
+    }
+
+    /// Does what `Reader::kept_sum` does, also once it has stopped.
+    pub fn kept_sum(&self) -> Result<Option<Sum>, AllocError>
+        ensures { IfOk result (λ sum. sum ≡ kept_sum self.now.state) }
+    {
+        self.reader.kept_sum()
     }
 }

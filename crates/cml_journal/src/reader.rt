@@ -16,7 +16,7 @@ use crate::written::Written;
 use cml_board::Entry;
 use cml_grammar::{has_bad_byte, number_of};
 use cml_sums::{Sum, Summing};
-use std::alloc::Global;
+use std::alloc::{AllocError, Global};
 use std::marker::Model;
 
 /// The most bytes of a line.
@@ -451,5 +451,17 @@ impl Reader {
             Stage::Waiting(_, Link::Behind(sum)) if self.line.is_empty() => Some(sum),
             _ => None,
         }
+    }
+
+    /// Returns the sum that guards the whole lines so far: that of the last piece, or, if a piece has no end yet, of its lines. So a torn
+    /// text is ended by a line `end N` with this sum. None if its last line is a header.
+    pub fn kept_sum(&self) -> Result<Option<Sum>, AllocError>
+        ensures { IfOk result (λ sum. sum ≡ kept_sum self.now) }
+    {
+        Ok(match self.stage {
+            Stage::Waiting(_, Link::Behind(sum)) => Some(sum),
+            Stage::Inside(_, Form::Sealed) => Some(self.summing.sum()?),
+            Stage::Waiting(_, _) | Stage::Headed(_, _) | Stage::Inside(_, Form::Plain) => None,
+        })
     }
 }
