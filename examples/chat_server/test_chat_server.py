@@ -104,6 +104,11 @@ class ChatServer(ServerCases):
         self.no_journal(
             "a journal with a record of nothing", f"{begun}seat 0 mvar =room%20a: made 1\nend 2\n"
         )
+        sent = f"{begun}seat 0 mailbox: made 1\nseat 0 send 1 =ann%20hello: done\n"
+        self.no_journal("a message without a number", f"{sent}end 3\n", "a message of the journal")
+        sent = sent.replace("=ann", "=7%20ann")
+        gap = f"{sent}seat 0 send 1 =9%20ann%20hello: done\nend 4\n"
+        self.no_journal("a message that is missing", gap, "a message of the journal")
         self.expect("help", self.run_program(self.program, "--help"), 0, True, "")
         self.crash()
 

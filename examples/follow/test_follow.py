@@ -336,7 +336,9 @@ class Follow(Service):
         """
         options = ("serve", "--lease", "5000", "--compact-from", "20", self.port, name)
         server = self.start(*command, *options, self.port + 4)
-        self.wait_for(f"a leader under {name}", lambda: "leads" in server.said() or not server.runs())
+        self.wait_for(
+            f"a leader under {name}", lambda: "leads" in server.said() or not server.runs()
+        )
         follower = self.start(*command, *options, free_port())
         self.wait_for(
             f"a follower under {name}", lambda: "follows" in follower.said() or not follower.runs()

@@ -118,6 +118,14 @@ impl History {
         Failure::File(self.path.clone(), error)
     }
 
+    /// What ends a server that can't start on the file.
+    pub fn start_failure(&self, error: io::Error) -> Failure {
+        match error.kind() {
+            ErrorKind::InvalidData => Failure::NoJournal(self.path.clone(), error.to_string()),
+            _ => self.failure(error),
+        }
+    }
+
     fn lock(&self) -> MutexGuard<'_, Noted> {
         self.noted.lock().unwrap_or_else(PoisonError::into_inner)
     }

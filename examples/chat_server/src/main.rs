@@ -85,7 +85,7 @@ fn serve(arguments: &Arguments) -> Result<(), Failure> {
     let (opened, board) = JournalFile::open(path, arguments.limits.entries)?;
     let found = Found::on(&board).map_err(no_journal)?;
     let history = History::new(path, opened.reader()?);
-    note_all(&history, &opened).map_err(|error| history.failure(error))?;
+    note_all(&history, &opened).map_err(|error| history.start_failure(error))?;
     let (books, strays) = found.books(&board, &history).map_err(no_journal)?;
     // The port is bound before the file is changed.
     let listener = TcpListener::bind(arguments.listen).map_err(Failure::Listen)?;
