@@ -144,6 +144,16 @@ class Compaction(ServerCases):
                 return True
         return False
 
+    def test_full_and_short(self):
+        """The journal is full at each call, and the file is made short all the time."""
+        self.begin("--entry-limit", 1, "--compact-from", 1, "--history-limit", 1)
+        before = is_file(self.journal)
+        self.everyone("full and short", "--clients", 10, "--messages", 50, "--rooms", 2)
+        with self.case("the file was made short"):
+            self.assertNotEqual(is_file(self.journal), before)
+        self.crash()
+        self.lawful("that was full and short")
+
     def test_left_over(self):
         """What a killed server left of a short file is removed, and not read."""
         other = self.work / "left_over"
