@@ -20,9 +20,10 @@ DISK = 1000
 GOES_ON = r"(?m)^chat_server: the journal can't be made short, and goes on in its file: "
 
 
-def is_file(path):
-    """The number by which the system tells this file from the one that takes its place."""
-    return path.stat().st_ino
+def is_short(path):
+    """Whether a journal was made short: then its first object was made before its record."""
+    with open(path, "rb") as journal:
+        return b"mvar: made 0" in [journal.readline() for _ in range(2)][1]
 
 
 class Compaction(ServerCases):
@@ -37,12 +38,11 @@ class Compaction(ServerCases):
                 self.assertEqual(client.line().split(":")[0], f"{number} ann")
 
     def says_until_short(self, client):
-        """A case: a client says lines until the file is another one."""
-        before = is_file(self.journal)
+        """A case: a client says lines until the file is short."""
         with self.case("the file is made short"):
             for _ in range(100):
                 client.says(40)
-                if is_file(self.journal) != before:
+                if is_short(self.journal):
                     return
             self.fail(self.server.errors())
 
@@ -56,24 +56,22 @@ class Compaction(ServerCases):
         """Clients that wait, that went, and that come back get each message, with its number."""
         options = ("--compact-from", 20000, "--history-limit", 50)
         self.begin(*options)
-        before = is_file(self.journal)
-        ann, ben, cyd, dan = (
-            Client(self.address, name) for name in ("ann", "ben", "cyd", "dan")
-        )
+        ann, ben, cyd, dan = (Client(self.address, name) for name in ("ann", "ben", "cyd", "dan"))
         for client in ann, ben, cyd, dan:
             with self.case(f"{client.name} joins"):
                 self.assertEqual(client.ask("/join kitchen"), "joined kitchen next 1")
         ann.says(1900)
         self.gets(cyd, 1, 1900)
+        self.gets(dan, 1, 1900)
         with self.case("dan leaves"):
-            self.assertEqual((dan.quit()[-1], cyd.quit()), ("bye", ["bye"]))
+            self.assertEqual((dan.quit(), cyd.quit()), (["bye"], ["bye"]))
             self.assertEqual(
                 Client(self.address, "dan").greeting, "hello dan room kitchen next 1900 last 1900"
             )
         ann.says(100)
         self.gets(ben, 1, 2000)
         with self.case("the file was made short"):
-            self.assertNotEqual(is_file(self.journal), before)
+            self.assertTrue(is_short(self.journal))
             self.assertLess(self.journal.stat().st_size, 100000)
         numbers = ann.history(1, 5000)
         with self.case("the history has the last messages"):
@@ -137,20 +135,19 @@ class Compaction(ServerCases):
 
     def await_compaction(self, clients):
         """Waits until a short file is begun or there. Returns whether one is."""
-        before = is_file(self.journal)
+        before = self.journal.stat().st_ino
         end = time.monotonic() + 10
         while clients.runs() and time.monotonic() < end:
-            if self.beside.exists() or is_file(self.journal) != before:
+            if self.beside.exists() or self.journal.stat().st_ino != before:
                 return True
         return False
 
     def test_full_and_short(self):
         """The journal is full at each call, and the file is made short all the time."""
         self.begin("--entry-limit", 1, "--compact-from", 1, "--history-limit", 1)
-        before = is_file(self.journal)
         self.everyone("full and short", "--clients", 10, "--messages", 50, "--rooms", 2)
         with self.case("the file was made short"):
-            self.assertNotEqual(is_file(self.journal), before)
+            self.assertTrue(is_short(self.journal))
         self.crash()
         self.lawful("that was full and short")
 
@@ -174,12 +171,11 @@ class Compaction(ServerCases):
         """A short file can't be made: the server says so, and goes on with the old one."""
         self.beside.mkdir()
         self.begin("--compact-from", 20000, "--history-limit", 50)
-        before = is_file(self.journal)
         load = ("--clients", 4, "--messages", 200, "--rooms", 2)
         self.everyone("a file that can't be made short", *load)
         self.said_goes_on("Is a directory|Operation not permitted")
         with self.case("the file is the old one"):
-            self.assertEqual(is_file(self.journal), before)
+            self.assertFalse(is_short(self.journal))
         self.settles()
         self.lawful("that can't be made short")
         self.beside.rmdir()
@@ -219,7 +215,7 @@ class Compaction(ServerCases):
         text = "x" * 2000
         while (seen / "journal").stat().st_size < 280000:
             ann.ask(text)
-        before, filler = is_file(seen / "journal"), seen / "filler"
+        filler = seen / "filler"
         used = sum(1 + file.stat().st_size // 4096 for file in seen.iterdir())
         filler.write_bytes(bytes(4096 * (DISK // 4 - used - 8)))
         while not self.server.errors() and (seen / "journal").stat().st_size < 320000:
@@ -231,7 +227,7 @@ class Compaction(ServerCases):
         for _ in range(10):
             last = int(ann.ask("more").split()[0])
         with self.case("the file is the old one, and has what was said"):
-            self.assertEqual(is_file(self.journal), before)
+            self.assertFalse(is_short(self.journal))
             self.assertFalse((seen / "journal.new").exists())
             self.assertEqual(ann.history(), list(range(last - 9, last + 1)))
         self.settles()
