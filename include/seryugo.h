@@ -551,6 +551,20 @@ uint32_t seryugo_bytes_taken_entry(struct seryugo *journal, uint64_t place, stru
  */
 uint32_t seryugo_journal_text(struct seryugo *journal, uint64_t from, struct seryugo_bytes *text);
 
+/* A sum over a piece of text: SHA-256, if is_there. Fill it with 0 before the first piece. */
+struct seryugo_sum {
+    bool is_there;
+    uint8_t bytes[32];
+};
+
+/* The same with sums, by which damage is always seen: the text's last line has the sum of its lines before, and its first line the sum
+ * of the piece before. So no byte can be changed, and no piece left out, doubled or exchanged, unseen, and the last sum names the whole
+ * journal. Keep it elsewhere, and nobody can rewrite the past.
+ *
+ * *sum is the sum of the piece before, which seryugo_sealed_text or seryugo_reading_sum wrote. Begin a text with none. The call writes
+ * the sum of this piece there. If it hands over no text, *sum is as it was. All pieces of a text have sums, or none has. */
+uint32_t seryugo_sealed_text(struct seryugo *journal, uint64_t from, struct seryugo_sum *sum, struct seryugo_bytes *text);
+
 /*
  * ---- checked journals ----
  *
@@ -632,6 +646,11 @@ uint32_t seryugo_reading_lines(struct seryugo *reading, uint64_t *lines);
 /* Ask this once the text is at its end. It changes nothing. SERYUGO_DONE: the last piece has its end. SERYUGO_TORN: it has none,
  * or the text is empty. */
 uint32_t seryugo_reading_end(struct seryugo *reading);
+
+/* Writes the sum of the last piece that was read. If the text is torn, and its last piece has no end yet, writes the sum of that
+ * piece's whole lines: end it by a line `end N` with this sum, in 64 hex digits. SERYUGO_NOTHING: the text has no sums, nothing was read,
+ * or the last whole line is a header. SERYUGO_NO_MEMORY: *sum is as it was. */
+uint32_t seryugo_reading_sum(struct seryugo *reading, struct seryugo_sum *sum);
 
 /* Opens a room on what was read, and writes a handle to it. The room is as if it had answered all these calls, and had cut its
  * journal then. So its objects, and what waits in them, are those behind the last entry. seryugo_entries and seryugo_cut_at write

@@ -18,6 +18,7 @@ pub mod Entries
 pub mod Journals
 pub mod Checkers
 pub mod Texts
+pub mod SealedTexts
 pub mod ReadJournals
 pub mod Restoring
 pub mod Compacting
@@ -46,6 +47,7 @@ pub use Entries.{maker_of, or_zero, reply_kind, reply_message, reply_name, reply
 pub use Journals.{CutsOpen, TakesJournal, TakesJournalOpen}
 pub use Checkers.{FeedsEntry, FeedsFrom, FeedsIn, FeedsJournal, FeedsParts, FeedsTaken, TellsVerdict, call_at, entry_in, entry_of}
 pub use Checkers.{entry_with, or_empty, parts_of, replies, told_verdict, who_in}
+pub use SealedTexts.{HandsSealed, HandsSealedJournal, HandsSealedTaken, IsSum, TellsSum, TellsSumOf, sum_by, sum_in}
 pub use Texts.{HandsJournal, HandsText, IsUnwritten}
 pub use ReadJournals.{EndsSo, IsReadTo, OpensBytes, OpensNumbers, TakesPart, Tells, TellsEnd, entries_read, lines_read, told_halt}
 pub use ReadJournals.{told_so_far}

@@ -30,6 +30,7 @@ mod readers;
 mod restoring;
 mod room_compacting;
 mod rooms;
+mod sealed_texts;
 mod sending;
 mod telling;
 mod texts;
