@@ -6,7 +6,7 @@ ghost use Rattle.cml_sums.specs.{nothing_summed};
 ghost use Rattle.cml_journal.specs.{Gives, Meets, State, fresh, waiting_at, numbered, number_before, tailed, headed, begun, entered};
 ghost use Rattle.cml_journal.specs.{plain_headed, sealed_where, sealed_headed, headed_by, sealed_by, closed_by, ended_by, inside_by};
 ghost use Rattle.cml_journal.specs.{inside, from_by, behind_header, line_step, line_read, sums, sums_line, has_line_end, held_all, most};
-ghost use Rattle.cml_journal.specs.{turned, reading, end_of, last_sum, with_line_end};
+ghost use Rattle.cml_journal.specs.{turned, reading, end_of, kept_sum, last_sum, with_line_end};
 ghost use Rattle.cml_journal.specs.declared.reader.Form.TheVariants.{Plain, Sealed};
 
 use crate::fault::{Unread, What};
@@ -458,10 +458,11 @@ impl Reader {
     pub fn kept_sum(&self) -> Result<Option<Sum>, AllocError>
         ensures { IfOk result (λ sum. sum ≡ kept_sum self.now) }
     {
-        Ok(match self.stage {
-            Stage::Waiting(_, Link::Behind(sum)) => Some(sum),
-            Stage::Inside(_, Form::Sealed) => Some(self.summing.sum()?),
-            Stage::Waiting(_, _) | Stage::Headed(_, _) | Stage::Inside(_, Form::Plain) => None,
-        })
+        match self.stage {
+            Stage::Waiting(_, Link::Behind(sum)) => Ok(Some(sum)),
+            Stage::Inside(_, Form::Sealed) => Ok(Some(self.summing.sum()?)),
+            Stage::Waiting(_, Link::Any | Link::First | Link::Unsealed) => Ok(None),
+            Stage::Headed(_, _) | Stage::Inside(_, Form::Plain) => Ok(None),
+        }
     }
 }
