@@ -16,6 +16,13 @@ short() {
     expect "$1" 0 "$(script "$2")" none
 }
 
+# short_sealed CASE SHORT LINES: the same of sealed pieces.
+short_sealed() {
+    seal "$3" > "$work/in"
+    run compact < "$work/in"
+    expect "$1" 0 "$(seal "$2")" none
+}
+
 by_hand() {
     short 'nothing' 'journal 1 / end 0' 'journal 1 / end 0'
     short 'a mailbox' 'journal 1 / seat 1 mailbox: made 0 / seat 1 send 0 7: done / end 2' \
@@ -48,6 +55,10 @@ by_hand() {
  / seat 0 multicast 0 6: done / seat 0 recv 2: 5 / seat 0 recv 2: 6 / end 7' | tr -d '\n')" \
         "$(printf '%s' 'journal 1 / seat 0 channel: made 0 / seat 0 port 0: made 1 / seat 0 multicast 0 5: done
  / seat 0 multicast 0 6: done / seat 0 port 0: made 2 / end 5' | tr -d '\n')"
+    short_sealed 'sealed pieces' 'journal 3 / seat 1 mailbox: made 0 / seat 1 send 0 5: done / end 2 SUM' \
+        'journal 3 / seat 0 mailbox: made 0 / end 1 SUM / journal 3 BEFORE / from 1 / seat 1 send 0 5: done / end 2 SUM'
+    short_sealed 'sealed bytes' 'journal 4 / seat 0 mvar: made 0 / seat 0 put 0 =%20: done / end 2 SUM' \
+        'journal 4 / seat 0 mvar =%20: made 0 / end 1 SUM'
     short 'no seat' 'journal 1 / seat 0 mailbox: made 0 / end 1' 'journal 1 / feed 3 mailbox: made 0 / end 1'
     short 'the seat with the highest number' "journal 1 / seat 18446744073709551614 mailbox: made 0 / end 1" \
         'journal 1 / seat 18446744073709551615 mailbox: made 0 / end 1'

@@ -31,6 +31,16 @@ left() {
     expect "$1" 0 "$(script "$2")" none
 }
 
+# told_sealed CASE STATUS OUT ERR LINES: the same of sealed pieces. `SUM` in OUT becomes the last sum.
+told_sealed() {
+    seal "$5" > "$work/in"
+    run check < "$work/in"
+    last=$(sed -n '$s/.* //p' "$work/in")
+    expect "$1" "$2" "$(echo "$3" | sed "s/SUM/$last/")" "$4"
+    cases=$((cases + 1))
+    cp "$work/in" "$work/cases/told.$cases"
+}
+
 mkdir "$work/cases"
 cases=0
 
@@ -53,6 +63,10 @@ pieces='journal 2 / seat 0 mailbox: made 0 / seat 0 channel: made 1 / seat 0 iva
  / feed 2 recv 5: =done / seat 1 put 2 =%25: done / seat 1 get 2: =%25 / seat 1 swap 3 =b: =x%20y / seat 1 put 3 =c: put
  / seat 1 take 3: =b / seat 1 getpoll 3: none / end 23'
 pieces=$(printf '%s' "$pieces" | tr -d '\n')
+# Three sealed pieces.
+chain='journal 3 / seat 0 mailbox: made 0 / end 1 SUM / journal 3 BEFORE / from 1 / seat 1 send 0 5: done / end 2 SUM
+ / journal 3 BEFORE / from 2 / seat 0 recv 0: 5 / end 3 SUM'
+chain=$(printf '%s' "$chain" | tr -d '\n')
 cut='journal 1 / from 10 / seat 0 recv 2: 5 / end 11'
 
 # each_call VERSION: a journal of each call of the table on each kind of object that takes it, with each reply.
@@ -129,11 +143,53 @@ same_state() {
     fi
 }
 
+# Pieces with sums.
+sealed() {
+    lawful="lawful %s
+sum SUM"
+    # shellcheck disable=SC2059
+    verdict() { printf "$lawful" "$1"; }
+    told_sealed 'no entry, with a sum' 0 "$(verdict 0)" none 'journal 3 / end 0 SUM'
+    told_sealed 'a sealed piece' 0 "$(verdict 2)" none \
+        'journal 3 / seat 0 mailbox: made 0 / seat 1 send 0 5: done / end 2 SUM'
+    told_sealed 'sealed pieces' 0 "$(verdict 3)" none "$chain"
+    told_sealed 'sealed bytes' 0 "$(verdict 2)" none \
+        "journal 4 / seat 0 mailbox: made 0 / end 1 SUM / journal 4 BEFORE / from 1 / seat 1 send 0 =a'%20b: done / end 2 SUM"
+    told_sealed 'a sealed piece of nothing' 0 "$(verdict 1)" none \
+        'journal 3 / seat 0 mailbox: made 0 / end 1 SUM / journal 3 BEFORE / from 1 / end 1 SUM'
+    for fault in \
+        '2 wrong sum|journal 3 / end 0 OTHER' \
+        '2 wrong sum|journal 3 / end 0 x' \
+        '2 wrong end|journal 3 / end 1 SUM' \
+        '2 wrong end|journal 3 / end 1 x' \
+        '2 too few words|journal 3 / end 0' \
+        '2 bad number|journal 3 / end 00 SUM' \
+        '2 unknown word|journal 1 / end 0 SUM' \
+        '1 wrong sum|journal 3 OTHER / end 0 SUM' \
+        '1 wrong sum|journal 3 x / end 0 SUM' \
+        '1 no header|journal 1 OTHER / end 0' \
+        '1 no header|journal 5 OTHER / end 0' \
+        '3 wrong sum|journal 3 / end 0 SUM / journal 3 / end 0 SUM' \
+        '3 wrong sum|journal 3 / end 0 SUM / journal 3 OTHER / end 0 SUM' \
+        '3 no header|journal 3 / end 0 SUM / journal 1 / end 0' \
+        '3 no header|journal 3 / end 0 SUM / journal 4 BEFORE / end 0 SUM' \
+        '3 no header|journal 1 / end 0 / journal 3 / end 0 SUM' \
+        '4 gap|journal 3 / end 0 SUM / journal 3 BEFORE / from 1 / end 1 SUM'; do
+        place=${fault%%|*}
+        told_sealed "sealed: $place" 2 none "journal: line ${place%% *}: ${place#* }" "${fault#*|}"
+    done
+    told_sealed 'sealed behind a cut' 2 none 'journal: begins behind a cut' 'journal 3 / from 1 / end 1 SUM'
+    told_sealed 'a sealed line that is torn' 2 none 'journal: torn behind line 1' 'journal 3'
+    seal "$chain" > "$work/in"
+    run check --state < "$work/in"
+    expect 'the state of sealed pieces' 0 "$(verdict 3 | sed "s/SUM/$(sed -n '$s/.* //p' "$work/in")/"; printf '\nmailbox 0: sent 1 got 1 waits 0')" none
+}
+
 # faulty FAULT LINE LINES
 faulty() { told "$1" 2 none "journal: line $2: $1" "$3"; }
 
 faults() {
-    faulty 'no header' 1 'journal 3 / end 0'
+    faulty 'no header' 1 'journal 5 / end 0'
     faulty 'no header' 1 'journal 01 / end 0'
     faulty 'no header' 1 'seat 0 mailbox: made 0'
     faulty 'no header' 3 'journal 1 / end 0 / journal 2 / end 0'
@@ -153,7 +209,7 @@ faults() {
     faulty 'bad bytes' 2 "journal 1 / seat 0$(printf '\t')mailbox: made 0 / end 1"
     told 'behind a cut' 2 none 'journal: begins behind a cut' 'journal 1 / from 1 / end 1'
     faulty 'bad bytes' 2 'journal 1 / seat x mailbox: made é / end 1'
-    faulty 'no header' 1 'journal 3 / from 1 / end 1'
+    faulty 'no header' 1 'journal 5 / from 1 / end 1'
     faulty 'no header' 1 'seat 0 mafrom 1'
     faulty 'bad number' 2 'journal 1 / thread 00 mailbox: made 0 / end 1'
     faulty 'too few words' 2 'journal 1 / mailbox / end 1'
@@ -257,6 +313,7 @@ changed() {
     each_call 1 | change each $((step * 29))
     script "$pieces" | change pieces "$step"
     script "$cut" | change cut "$step"
+    seal "$chain" | change chain "$step"
     for seed in 1 2; do
         awk -v seed=$seed -v count=60 -f tests/models/calls.awk -f tests/models/journal_judge.awk -f tests/models/some_journals.awk > "$work/cases/random$seed"
         change random$seed $((step * 29)) < "$work/cases/random$seed"
@@ -308,6 +365,7 @@ judged() {
 lawful
 unlawful
 states
+sealed
 faults
 long_lines
 [ -n "$few" ] || many

@@ -100,3 +100,25 @@ holds() {
 
 # A script or a report, whose lines are parted by ` / `, to standard output.
 script() { printf '%s\n' "$1" | sed 's| / |\n|g'; }
+
+# seal LINES: the lines of sealed pieces. `SUM` at a line's end becomes the sum of the piece's lines before it, and `BEFORE` the
+# sum of the piece before. `OTHER` becomes another sum.
+seal() {
+    sum=
+    : > "$work/piece"
+    script "$1" | while read -r line; do
+        case $line in
+            *BEFORE) line=${line%BEFORE}$sum ;;
+            *OTHER) line=${line%OTHER}$(sha256sum < /dev/null | cut -c 1-64) ;;
+        esac
+        case $line in
+            'end '*SUM)
+                sum=$(sha256sum < "$work/piece" | cut -c 1-64)
+                line=${line%SUM}$sum
+                : > "$work/piece"
+                ;;
+            *) echo "$line" >> "$work/piece" ;;
+        esac
+        echo "$line"
+    done
+}

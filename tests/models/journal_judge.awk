@@ -43,6 +43,7 @@ function judge(text,    line, count, k, fault, unended) {
     if (length(unended) > longest) return no_journal("journal: line " count ": line too long")
     if (stage != "ended" || unended != "") return no_journal("journal: torn behind line " (count ? count - 1 : 0))
     print "lawful " entries
+    if (sealed) print "sum " sum
     for (k = 0; state && k < objects; k++) print kind[k] " " k ": " state_of(k)
     print "status 0 "
 }
@@ -59,8 +60,8 @@ function forget() {
     split("", kind); split("", numbers)
     forget_objects()
     stage = "none"
-    version = ""
-    entries = objects = 0
+    version = shown = sum = piece = ""
+    sealed = entries = objects = 0
     is_lawful = 1
 }
 
@@ -70,12 +71,15 @@ function fault_of(line) {
     if (length(line) > longest) return "line too long"
     if (line ~ /[^ -~]/) return "bad bytes"
     if (stage == "none" || stage == "ended") return header(line)
+    if (sealed && stage == "inside" && is_sealed_end(line)) return sealed_end(line)
     if (stage == "headed") {
         stage = "inside"
         if (line ~ /^from / && is_number(substr(line, 6))) return from(substr(line, 6))
         if (entries > 0) return "gap"
+        if (sealed && is_sealed_end(line)) return sealed_end(line)
     }
-    if (line ~ /^end / && is_number(substr(line, 5))) {
+    if (sealed) piece = piece line "\n"
+    else if (line ~ /^end / && is_number(substr(line, 5))) {
         stage = "ended"
         return same(substr(line, 5), entries) ? "" : "wrong end"
     }
@@ -83,16 +87,38 @@ function fault_of(line) {
 }
 
 function header(line) {
-    if (line != "journal 1" && line != "journal 2") return "no header"
-    if (version != "" && line != "journal " version) return "no header"
-    version = substr(line, 9)
+    if (line !~ /^journal [1-4]$/ && line !~ /^journal [34] /) return "no header"
+    if (shown != "" && substr(line, 9, 1) != shown) return "no header"
+    shown = substr(line, 9, 1)
+    sealed = shown > 2
+    version = sealed ? shown - 2 : shown
+    if (sealed && substr(line, 10) != (stage == "none" ? "" : " " sum)) return "wrong sum"
+    piece = line "\n"
     stage = "headed"
+    return ""
+}
+
+# The last line of a piece with a sum has a number and a word.
+function is_sealed_end(line) { return line ~ /^end [^ ]* / && is_number(substr(line, 5, index(substr(line, 5), " ") - 1)) }
+
+# The sum is that of the piece's lines before. They have printed bytes alone, so the shell takes them as they are.
+function sealed_end(line,    number, command) {
+    number = substr(line, 5, index(substr(line, 5), " ") - 1)
+    if (!same(number, entries)) return "wrong end"
+    gsub(/'/, "'\\''", piece)
+    command = "printf %s '" piece "' | sha256sum"
+    command | getline sum
+    close(command)
+    sum = substr(sum, 1, 64)
+    if (line != "end " number " " sum) return "wrong sum"
+    stage = "ended"
     return ""
 }
 
 # Only a later piece is read up to here.
 function from(number) {
     if (same(number, 0)) return "bad number"
+    piece = piece "from " number "\n"
     return same(number, entries) ? "" : "gap"
 }
 

@@ -4,7 +4,8 @@ use Rattle.std.proofs.Common.{reverse, Option, Some, None, Ok, refl, sym, ap, �
 use Rattle.std.proofs.lemmas.List.{append-nil, take_all, take_at, take-append-drop}
 use Rattle.std.proofs.KnownBytes.{Consumes-nil, Consumes-trans}
 use Rattle.std.specs.Io.KnownBytes.{Appends, Consumes, IsAtEnd}
-use Rattle.cml_journal.specs.{Stop, line_of, State, Read, Progress, IsSoFar, Goes, StopsIn, ShowsUnlawful, IsLawfulJournal, IsRestored}
+use Rattle.cml_journal.specs.{Stop, line_of, State, Read, last_sum, Progress, IsSoFar, Goes, StopsIn, ShowsUnlawful}
+use Rattle.cml_journal.specs.{IsLawfulJournal, IsRestored}
 use Rattle.cml_journal.specs.{number_of, bytes_text, message_of_word}
 use Rattle.cml_journal.specs.declared.stop.Stop.TheVariants as stop
 use Rattle.cml_board.specs.{Entry, Expected, expected_of, RestoredShown}
@@ -16,7 +17,8 @@ use Rattle.cml.specs.declared.check.ending.Ending.TheVariants.{Lawful as lawful,
 use Rattle.cml.specs.declared.check.ending.Ending.TheVariants.{WriteFault, NoMemory, Compacted, TooLong}
 use Rattle.cml.specs.declared.check.wanted.Wanted.{Wanted}
 use Rattle.cml.specs.declared.check.wanted.Wanted.TheVariants as wanted
-use Rattle.cml.specs.{Writes, answer_text, lines_for, object_line, object_lines, state_lines, told_state, IsSilent, IsRead, IsFront}
+use Rattle.cml.specs.{Writes, answer_text, lines_for, object_line, object_lines, state_lines, told_state, told_sum}
+use Rattle.cml.specs.{IsSilent, IsRead, IsFront}
 use Rattle.cml.specs.{GivesCut, EndsInFront, is_behind_cut, IsVerdict, TellsAs, ConcludesAs, ConcludesBy, is_of_bytes, Tells, EndsAs}
 use Rattle.cml.specs.{EndsIn, IsEarly, IsHeardOut, IsStateOf, IsToldLawful, IsToldUnlawful, Concludes}
 
@@ -62,14 +64,25 @@ module _ {M : Type 0} (version : ℕ) (meaning : List ℕ → Option M) (text : 
       subst (λ (e : Ending). EndsIn version meaning text old bytes e) (sym ends) (tt, λ asked before so. tt)
 
   -- ---- the end
-  pub told_lawful : (asked : Wanted) (bytes : List ℕ) (progress : Progress M) (count : ℕ) (state : String Global)
+  -- a journal that was read so far ends in the state of the check
+  pub same_state : (bytes : List ℕ) (progress : Progress M) (count : ℕ) → IsSoFar version meaning bytes progress
+      → (is : IsLawfulJournal version meaning bytes count) → progress.state ≡ is.state
+  same_state bytes progress count so is = both so.read is.read
+    where
+      both : {a b : State} {xs ys : List (Entry M)} {read : Read M} → read ≡ Ok (a, xs) → read ≡ Ok (b, ys) → a ≡ b
+      both {a} {b} {xs} {ys} one other = let same : (a, xs) ≡ (b, ys) = cc in ap (λ (p : State × List (Entry M)). p.0) same
+
+  pub told_lawful : (asked : Wanted) (bytes : List ℕ) (progress : Progress M) (count : ℕ) (state : String Global) (objects : List ℕ)
       → asked ≢ wanted.Compacted → IsLawfulJournal version meaning bytes count
-      → IsStateOf version meaning text asked bytes progress (string_bytes state) → IsSoFar version meaning bytes progress
+      → string_bytes state ≡ told_sum (last_sum progress.state) ++ objects
+      → IsStateOf version meaning text asked bytes progress objects → IsSoFar version meaning bytes progress
       → IsToldLawful version meaning text asked bytes count (string_bytes state)
-  told_lawful asked bytes progress count state verdict is told so = record {
+  told_lawful asked bytes progress count state objects verdict is lines told so = record {
     verdict = verdict;
     is = is;
-    told = told so ∙ ap (λ (es : List (Entry M)). told_state text asked (reverse es)) (same_entries (so.read) is.read);
+    told = lines ∙ ap (λ (s : State). told_sum (last_sum s) ++ objects) (same_state bytes progress count so is)
+        ∙ ap (λ (o : List ℕ). told_sum (last_sum is.state) ++ o)
+        (told so ∙ ap (λ (es : List (Entry M)). told_state text asked (reverse es)) (same_entries (so.read) is.read));
   }
     where
       same_entries : {a b : State} {xs ys : List (Entry M)} {read : Read M} → read ≡ Ok (a, xs) → read ≡ Ok (b, ys) → xs ≡ ys

@@ -1,15 +1,15 @@
 -- What a check tells of the bytes of a journal.
 use Rattle.std.specs.Prelude.{◌≡◌, ◌≢◌, ◌⊎◌, ℕ, ◌<◌, ◌≤◌, Bool, true, false, ◌||◌, nat_eq, codes, string_bytes, List, ◌++◌, take}
-use Rattle.std.specs.Prelude.{length, reverse, String, Option, Some, None, Result, Ok, Err, ⊤}
+use Rattle.std.specs.Prelude.{length, reverse, is_some, String, Option, Some, None, Result, Ok, Err, ⊤}
 use Rattle.std.specs.Io.KnownBytes.{Consumes, IsAtEnd}
 use Rattle.cml_board.specs.{Entry, Lawful, Expected, RestoredShown, expected_of}
-use Rattle.cml_journal.specs.{Stop, State, waiting_at, end_of, reading, Progress, IsSoFar, IsUnlawfulJournal, IsFaultyJournal}
+use Rattle.cml_journal.specs.{Stop, State, waiting_at, end_of, last_sum, reading, Progress, IsSoFar, IsUnlawfulJournal, IsFaultyJournal}
 use Rattle.cml_journal.specs.{IsLawfulJournal, IsRestored, number_of, bytes_text, message_of_word, line_of}
 use Rattle.cml_journal.specs.declared.stop.Stop.TheVariants as stop
 use Rattle.std.specs.List.{starts_with}
 use Rattle.std.specs.Fmt.{decimal}
 use Rattle.std.specs.Global.{Global}
-use Rattle.cml.specs.Lines.{answer_text, told_state}
+use Rattle.cml.specs.Lines.{answer_text, told_state, told_sum}
 use Rattle.cml.specs.declared.check.ending.Ending.{Ending}
 use Rattle.cml.specs.declared.check.ending.Ending.TheVariants.{Lawful as lawful, Unlawful, Fault, Torn, BehindCut, ReadFault}
 use Rattle.cml.specs.declared.check.ending.Ending.TheVariants.{WriteFault, NoMemory, Compacted, TooLong}
@@ -48,13 +48,21 @@ IsEarly (Compacted written) = ⊥
 IsEarly (TooLong place) = ⊥
 IsEarly ending = ⊤
 
--- the front of a journal of bytes
+-- the front of a journal of bytes, plain or sealed
 abbrev pub is_of_bytes : List ℕ → Bool
-is_of_bytes front = starts_with nat_eq front (codes "journal 2")
+is_of_bytes front = starts_with nat_eq front (codes "journal 2") || starts_with nat_eq front (codes "journal 4")
+
+-- the front of a plain journal that begins behind a cut
+abbrev pub is_plain_cut : List ℕ → Bool
+is_plain_cut front = starts_with nat_eq front (codes "journal 1\nfrom ") || starts_with nat_eq front (codes "journal 2\nfrom ")
+
+-- the same of a sealed one
+abbrev pub is_sealed_cut : List ℕ → Bool
+is_sealed_cut front = starts_with nat_eq front (codes "journal 3\nfrom ") || starts_with nat_eq front (codes "journal 4\nfrom ")
 
 -- the front of a journal that begins behind a cut
 abbrev pub is_behind_cut : List ℕ → Bool
-is_behind_cut front = starts_with nat_eq front (codes "journal 1\nfrom ") || starts_with nat_eq front (codes "journal 2\nfrom ")
+is_behind_cut front = is_plain_cut front || is_sealed_cut front
 
 -- what is asked for by `check`, with `--state` or without
 abbrev pub wanted_by : Bool → Wanted
@@ -77,20 +85,21 @@ module _ {M : Type 0} (version : ℕ) (meaning : List ℕ → Option M) (text : 
     pub torn : (end_of state ≡ None) ⊎ (state.lines ≡ 0)
     pub lawful : Lawful (reverse entries)
 
-  -- the bytes are a whole journal of so many lawful entries, and these are the lines of its objects, if they are asked for
+  -- the bytes are a whole journal of so many lawful entries. These are the line of its last sum, if it is sealed, and the lines of
+  -- its objects, if they are asked for
   pub record IsToldLawful (asked : Wanted) (bytes : List ℕ) (count : ℕ) (state : List ℕ) : Type 0 where
     pub verdict : asked ≢ wanted.Compacted
     pub is : IsLawfulJournal version meaning bytes count
-    pub told : state ≡ told_state text asked (reverse is.entries)
+    pub told : state ≡ told_sum (last_sum is.state) ++ told_state text asked (reverse is.entries)
 
-  -- a short journal was asked for, the bytes are a whole journal of lawful entries, and this is said of what they leave
-  pub record IsToldShort (asked : Wanted) (bytes : List ℕ) (Says : RestoredShown M → Type 0) : Type 0 where
+  -- a short journal was asked for, the bytes are a whole journal of lawful entries, sealed or not, and this is said of what they leave
+  pub record IsToldShort (asked : Wanted) (bytes : List ℕ) (Says : Bool → RestoredShown M → Type 0) : Type 0 where
     pub short : asked ≡ wanted.Compacted
     pub count : ℕ
     pub is : IsLawfulJournal version meaning bytes count
     pub restored : RestoredShown M
     pub left : IsRestored version meaning bytes 1 restored
-    pub says : Says restored
+    pub says : Says (is_some (last_sum is.state)) restored
 
   -- this is the line of the first entry that is unlawful, and the right answer to its call
   pub record IsToldUnlawful (bytes : List ℕ) (at : ℕ) (line answer : List ℕ) : Type 0 where
@@ -108,8 +117,8 @@ module _ {M : Type 0} (version : ℕ) (meaning : List ℕ → Option M) (text : 
   Tells asked bytes (Torn line) = IsTornJournal bytes line
   Tells asked bytes BehindCut = is_behind_cut bytes ≡ true
   Tells asked bytes (Compacted written) =
-      IsToldShort asked bytes (λ restored. IsCompactOf version text restored (string_bytes written))
-  Tells asked bytes (TooLong place) = IsToldShort asked bytes (λ restored. IsNoneOf text restored (TooLong place))
+      IsToldShort asked bytes (λ sealed restored. IsCompactOf version text sealed restored (string_bytes written))
+  Tells asked bytes (TooLong place) = IsToldShort asked bytes (λ sealed restored. IsNoneOf text restored (TooLong place))
   Tells asked bytes ending = ⊤
 
   -- these are the lines of the objects of what was read so far, if they are asked for

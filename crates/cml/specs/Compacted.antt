@@ -1,10 +1,10 @@
 -- The text of a short journal that leaves what a journal leaves.
-use Rattle.std.specs.Prelude.{◌≡◌, ℕ, ◌-◌, List, reverse, ⊤}
+use Rattle.std.specs.Prelude.{◌≡◌, ℕ, ◌-◌, Bool, true, false, None, List, reverse, ⊤}
 use Rattle.cml_board.specs.{Entry, RestoredShown}
 use Rattle.cml_board.specs.Shown.{Shown}
 use Rattle.cml_board.specs.declared.entry.Who.TheVariants.{Seat}
 use Rattle.cml_compact.specs.{AllBy, Compacts}
-use Rattle.cml_journal.specs.{AreShort, IsTooLong, piece_lines, text_of}
+use Rattle.cml_journal.specs.{AreShort, IsTooLong, piece_lines, sealed_piece_lines, text_of}
 use Rattle.cml.specs.declared.check.ending.Ending.{Ending}
 use Rattle.cml.specs.declared.check.ending.Ending.TheVariants.{NoMemory, TooLong}
 
@@ -14,15 +14,20 @@ module _ {M : Type 0} where
     pub compacts : Compacts restored.board new
     pub by : AllBy (Seat (restored.makers.seats - 1)) new.history
 
-  -- the text is a piece of these entries from position 0 on, and a reader takes each line
-  abbrev pub IsTextOf : ℕ → (M → List ℕ) → List (Entry M) → List ℕ → Type 0
-  IsTextOf version text entries written = (written ≡ text_of (piece_lines version text 0 entries)) × AreShort text entries
+  -- a piece of these entries from position 0 on, which has a sum or none
+  abbrev pub whole_piece : ℕ → (M → List ℕ) → Bool → List (Entry M) → List ℕ
+  whole_piece version text true entries = text_of (sealed_piece_lines version text None 0 entries)
+  whole_piece version text false entries = text_of (piece_lines version text 0 entries)
 
-  -- the text has just the entries of such a board
-  pub record IsCompactOf (version : ℕ) (text : M → List ℕ) (restored : RestoredShown M) (written : List ℕ) : Type 0 where
+  -- the text is such a piece, and a reader takes each line
+  abbrev pub IsTextOf : ℕ → (M → List ℕ) → Bool → List (Entry M) → List ℕ → Type 0
+  IsTextOf version text sealed entries written = (written ≡ whole_piece version text sealed entries) × AreShort text entries
+
+  -- the text has just the entries of such a board, and is sealed if the long journal is
+  pub record IsCompactOf (version : ℕ) (text : M → List ℕ) (sealed : Bool) (restored : RestoredShown M) (written : List ℕ) : Type 0 where
     pub new : Shown M
     pub is : IsShortened restored new
-    pub told : IsTextOf version text (reverse new.history) written
+    pub told : IsTextOf version text sealed (reverse new.history) written
 
   -- these entries were not written: a line is too long for a reader, or there was no memory
   abbrev pub IsUnwritten : (M → List ℕ) → List (Entry M) → Ending → Type 0

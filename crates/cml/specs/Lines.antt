@@ -8,6 +8,7 @@ use Rattle.cml_board.specs.{Entry, Expected, sent_count, got_count, owed_count, 
 use Rattle.cml_board.specs.{kind_of}
 use Rattle.cml_board.specs.declared.outcome.Refusal.TheVariants.{NoSuch}
 use Rattle.cml_board.specs.declared.expected.Expected.TheVariants as expected
+use Rattle.cml_sums.specs.{Sum, sum_word}
 use Rattle.cml_journal.specs.{reply_text}
 use Rattle.cml.specs.declared.check.ending.Ending.{Ending}
 use Rattle.cml.specs.declared.check.ending.Ending.TheVariants.{Lawful, Unlawful, WriteFault, Compacted}
@@ -85,6 +86,11 @@ module _ {M : Type 0} (text : M → List ℕ) where
   abbrev pub told_state : Wanted → List (Entry M) → List ℕ
   told_state State history = state_lines history
   told_state other history = []
+
+-- the line of a journal's last sum, if it has sums
+abbrev pub told_sum : Option Sum → List ℕ
+told_sum None = []
+told_sum (Some sum) = codes "sum " ++ sum_word sum ++ 10 ∷ []
 
 -- the lines of a verdict, and nothing for another ending
 abbrev pub lines_for : Ending → List ℕ

@@ -8,7 +8,7 @@ ghost use Rattle.cml_journal.specs.{IsSoFar, IsLawfulJournal, Goes};
 ghost use Rattle.cml.specs.declared.check.ending.Ending.TheVariants.{ReadFault, BehindCut};
 ghost use Rattle.cml.specs.declared.check.wanted.Wanted.TheVariants as wants;
 ghost use Rattle.cml.specs.{Tells, EndsIn, EndsInFront, Concludes, ConcludesBy, IsFront, IsVerdict, IsRead, IsSilent, is_of_bytes};
-ghost use Rattle.cml.specs.{is_behind_cut, ending_of, IsStateOf};
+ghost use Rattle.cml.specs.{is_behind_cut, is_plain_cut, is_sealed_cut, ending_of, told_sum, IsStateOf};
 
 use crate::check::answer::ending_of;
 use crate::check::compacted::compacted;
@@ -16,7 +16,7 @@ use crate::check::ending::Ending;
 use crate::check::state::state_lines;
 use crate::check::wanted::Wanted;
 use cml_board::{Bytes, Message};
-use cml_journal::{Check, Written};
+use cml_journal::{Check, Sum, Written};
 use std::alloc::{AllocError, Global};
 use std::io::{ErrorKind, Read};
 use std::sync::Wait;
@@ -27,10 +27,16 @@ const ROOM: usize = 65_536;
 /// How a journal of bytes begins.
 const BYTES: &[u8] = b"journal 2";
 
+const SEALED_BYTES: &[u8] = b"journal 4";
+
 /// How a journal behind a cut begins.
 const CUT_NUMBERS: &[u8] = b"journal 1\nfrom ";
 
 const CUT_BYTES: &[u8] = b"journal 2\nfrom ";
+
+const SEALED_CUT_NUMBERS: &[u8] = b"journal 3\nfrom ";
+
+const SEALED_CUT_BYTES: &[u8] = b"journal 4\nfrom ";
 
 /// How many bytes tell the type of messages, and whether the journal begins behind a cut.
 const FRONT: usize = 15;
@@ -72,7 +78,7 @@ fn check_behind<S: Wait, R: Read>(
 fn is_of_bytes(front: &[u8]) -> bool
     ensures { result ≡ is_of_bytes front.now }
 {
-    front.starts_with(BYTES)
+    front.starts_with(BYTES) || front.starts_with(SEALED_BYTES)
 }
 
 /// The first bytes: 15, unless there are fewer.
@@ -112,7 +118,19 @@ fn uncut(front: Vec<u8>) -> Result<Vec<u8>, Ending>
 fn is_behind_cut(front: &[u8]) -> bool
     ensures { result ≡ is_behind_cut front.now }
 {
+    is_plain_cut(front) || is_sealed_cut(front)
+}
+
+fn is_plain_cut(front: &[u8]) -> bool
+    ensures { result ≡ is_plain_cut front.now }
+{
     front.starts_with(CUT_NUMBERS) || front.starts_with(CUT_BYTES)
+}
+
+fn is_sealed_cut(front: &[u8]) -> bool
+    ensures { result ≡ is_sealed_cut front.now }
+{
+    front.starts_with(SEALED_CUT_NUMBERS) || front.starts_with(SEALED_CUT_BYTES)
 }
 
 /// Asks the reader once, adds what it gave, and answers whether it was at its end.
@@ -252,13 +270,14 @@ fn compact_of<M: Message + Written>(alloc: Global, check: &mut Check<M>) -> Resu
         → IsLawfulJournal M.VERSION M.meaning bytes (count_of check.old.checker)
         → Tells M.VERSION M.meaning M.text wants.Compacted bytes (ending_of result) }
 {
+    let sealed = check.sum().is_some();
     match check.restore(1) {
-        Some(restored) => Ok(Ending::Compacted(compacted(alloc, restored)?)),
+        Some(restored) => Ok(Ending::Compacted(compacted(alloc, restored, sealed)?)),
         None => Err(Ending::NoMemory),
     }
 }
 
-/// How many entries a whole and lawful journal has, and the lines of the objects if they are wanted.
+/// How many entries a whole and lawful journal has, its last sum if it is sealed, and the lines of the objects if they are wanted.
 fn verdict_of<M: Message + Written>(
     alloc: Global,
     check: &mut Check<M>,
@@ -270,8 +289,23 @@ fn verdict_of<M: Message + Written>(
         → Tells M.VERSION M.meaning M.text wanted bytes (ending_of result) }
 {
     let count = check.entries();
+    let mut lines = sum_line(alloc, check.sum())?;
     let objects = state_of(alloc, check, wanted)?;
-    Ok(Ending::Lawful(count, objects))
+    lines.push_str(&objects)?;
+    Ok(Ending::Lawful(count, lines))
+}
+
+/// The line of a journal's last sum, if it has sums.
+fn sum_line(alloc: Global, sum: Option<Sum>) -> Result<String, AllocError>
+    ensures { IfOk result (λ line. string_bytes line ≡ told_sum sum) }
+{
+    let mut line = String::new(alloc);
+    if let Some(sum) = sum {
+        line.push_str("sum ")?;
+        sum.write(&mut line)?;
+        line.push_str("\n")?;
+    }
+    Ok(line)
 }
 
 /// The lines of the objects, if they are wanted.

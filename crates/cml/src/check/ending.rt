@@ -12,7 +12,8 @@ use thiserror::Error;
 /// says that, or has the short journal.
 #[derive(Debug, Drop, Error)]
 pub enum Ending {
-    /// All entries are lawful. The number says how many they are. The lines of the objects are behind, if they are asked for.
+    /// All entries are lawful. The number says how many they are. Behind it are the line of the last sum, if the journal is sealed,
+    /// and the lines of the objects, if they are asked for.
     #[error("cml: lawful {0}")]
     Lawful(u64, String),
     /// The entry at this position is the first unlawful one. Behind it are its line, and the right answer to its call.

@@ -17,6 +17,6 @@ returns-in-Ok-clause-made g c =
           c.in-Ok.ensures.whose;
     } in
     IfOk-weaker c.text_of.result
-    (λ text. IsTextOf g.M.Written.VERSION g.M.Written.text (reverse c.in-Ok.new.history) (string_bytes text))
-    (λ text. IsCompactOf g.M.Written.VERSION g.M.Written.text c.args.restored (string_bytes text))
+    (λ text. IsTextOf g.M.Written.VERSION g.M.Written.text c.args.sealed (reverse c.in-Ok.new.history) (string_bytes text))
+    (λ text. IsCompactOf g.M.Written.VERSION g.M.Written.text c.args.sealed c.args.restored (string_bytes text))
     (λ text told. record { new = c.in-Ok.new; is = short; told = told }) c.text_of.ensures.text
