@@ -76,9 +76,9 @@ module _ {M : Type 0} where
     pub kept : KeepsSeats old new
 
   -- what becomes of a room whose short journal is made
-  abbrev pub Leaves : Bool → RoomShown M → RoomShown M → Type 0
-  Leaves true old new = CutsShortRoom old new
-  Leaves false old new = ShowsSameRoom old new
+  abbrev pub LeavesShort : Bool → RoomShown M → RoomShown M → Type 0
+  LeavesShort true old new = CutsShortRoom old new
+  LeavesShort false old new = ShowsSameRoom old new
 
   -- the entries leave what all calls of the room leave, and the last seat made all of them
   abbrev pub IsShortOf : RoomShown M → List (Entry M) → Type 0
@@ -87,7 +87,7 @@ module _ {M : Type 0} where
   -- a handle to such entries is written, with how many they are
   pub record CompactsRoom (cuts : Bool) (wrap : Resource M → Kept) (to : Slot) (code after : ℕ) (old new : RoomShown M) : Type 0 where
     pub gives : WritesTaken (IsShortOf old) wrap to after code
-    pub leaves : Leaves cuts old new
+    pub leaves : LeavesShort cuts old new
 
   -- why it is not: there is no memory, or the entries would be more than 2^32
   abbrev pub IsNotShort : RoomShown M → Code → Type 0

@@ -52,7 +52,7 @@ pub use Texts.{HandsJournal, HandsText, IsUnwritten}
 pub use ReadJournals.{EndsSo, IsReadTo, OpensBytes, OpensNumbers, TakesPart, Tells, TellsEnd, entries_read, lines_read, told_halt}
 pub use ReadJournals.{told_so_far}
 pub use Restoring.{IsRoomOn, OpensOn, Restores, RestoresBy, RestoresKept, left_halted, left_stopped, told_stopped}
-pub use Compacting.{CompactsNone, CompactsRoom, CutsShortRoom, IsNotShort, IsShortOf, Leaves, MakesShort, Shortens, ShortensBy, ShortensKept}
+pub use Compacting.{CompactsNone, CompactsRoom, CutsShortRoom, IsNotShort, IsShortOf, LeavesShort, MakesShort, Shortens, ShortensBy, ShortensKept}
 pub use Compacting.{ShowsSameRoom, WritesShort, WritesTaken}
 pub use declared.handle.Slot.{Slot}
 pub use declared.keeper.Held.{Held}

@@ -1,7 +1,7 @@
 //! The short journal of a room.
 ghost use Rattle.std.specs.Prelude.{◌≡◌, ◌^◌, true, false, IfOk, IfErr, MatchResult};
 ghost use Rattle.cml_compact.specs.{Stops, compact_size};
-ghost use Rattle.cml_c.specs.{IsShortOf, Leaves, MakesShort, OnEitherKept, OnRoom, ShowsSameRoom};
+ghost use Rattle.cml_c.specs.{IsShortOf, LeavesShort, MakesShort, OnEitherKept, OnRoom, ShowsSameRoom};
 
 use crate::code::Code;
 use crate::handle::{Handle, Slot};
@@ -83,7 +83,7 @@ fn compact_in<M: Sort>(
 fn short_journal<M: Sort>(room: &mut RoomOf<M>, cuts: bool) -> Result<Vec<Entry<M>>, Refusal>
     ensures short { IfOk result (λ entries. IsShortOf room.old entries.items) }
     ensures err { IfErr result (Stops (2 ^ 32) (compact_size room.old.board.history)) }
-    ensures leaves { MatchResult result (λ _. Leaves cuts room.old room.new) (λ _. ShowsSameRoom room.old room.new) }
+    ensures leaves { MatchResult result (λ _. LeavesShort cuts room.old room.new) (λ _. ShowsSameRoom room.old room.new) }
 {
     if cuts {
         room.compact_and_cut(MOST)
