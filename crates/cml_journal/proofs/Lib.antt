@@ -8,8 +8,11 @@ pub mod PartLemmas
 pub mod FeedLemmas
 pub mod LineEndsLemmas
 pub mod StreamLemmas
+pub mod LineAddsLemmas
 pub mod SealedLemmas
 pub mod CleanLemmas
 pub mod AgainLemmas
+pub mod AgainPieceLemmas
+pub mod AgainStreamLemmas
 pub mod PositionLemmas
 pub mod CheckLemmas

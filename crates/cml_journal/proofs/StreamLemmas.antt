@@ -1,37 +1,28 @@
 -- What was read to the end of a stream was written so.
-use Rattle.std.proofs.Common.{◌≡◌, ℕ, ◌+◌, ◌^◌, ◌%◌, Bool, true, false, ◌==◌, nat_lt, if◌then◌else◌, List, [], ◌∷◌, ◌++◌, length, Option}
-use Rattle.std.proofs.Common.{Some, None, Result, Ok, Err, refl, sym, ap, subst, ◌∙◌, arith, append_assoc, length-append, ◌⊎◌, inl, inr}
-use Rattle.std.proofs.Common.{is_some}
+use Rattle.std.proofs.Common.{◌≡◌, ℕ, ◌+◌, if◌then◌else◌, List, [], ◌∷◌, ◌++◌, length, Option}
+use Rattle.std.proofs.Common.{Some, None, refl, sym, ap, subst, ◌∙◌, arith, append_assoc, length-append, ◌⊎◌, inl, inr}
 use Rattle.std.specs.Prelude.{codes}
-use Rattle.std.specs.List.{flat_map, list_any}
-use Rattle.std.specs.Option.{option_and_then, option_map, option_to_list}
+use Rattle.std.specs.List.{flat_map}
+use Rattle.std.specs.Option.{option_and_then, option_map}
 use Rattle.std.specs.Str.{bytes_eq}
-use Rattle.std.proofs.lemmas.Bool.{eqb-true}
-use Rattle.std.proofs.lemmas.List.{append-nil, nil_from_length}
 use Rattle.std.proofs.lemmas.List.Concat.{flat_map-append}
 use Rattle.std.proofs.lemmas.Option.{none-some, same_Some}
 use Rattle.cml_board.specs.{Entry}
-use Rattle.cml_grammar.specs.{is_bad_byte}
 use Rattle.std.specs.Fmt.{decimal}
-use Rattle.cml_sums.specs.{Sum, Summed, nothing_summed, and_bytes, sum_by, sum_of, sum_word, sum_in}
-use Rattle.cml_journal.specs.{What, Form, Link, Stage, number_of, IsWritten, line_of, ◌>>=◌, cut, entry_in, numbered_line, with_line_end}
-use Rattle.cml_journal.specs.{text_of, IsTextOf, from_lines, piece_lines, stream_lines, sealed_header, sealed_end, sealed_piece_lines}
+use Rattle.cml_sums.specs.{Sum, Summed, nothing_summed, and_bytes, sum_by, sum_of}
+use Rattle.cml_journal.specs.{Form, Link, Stage, number_of, line_of, cut, numbered_line, with_line_end}
+use Rattle.cml_journal.specs.{text_of, from_lines, piece_lines, stream_lines, sealed_header, sealed_end, sealed_piece_lines}
 use Rattle.cml_journal.specs.{piece_sum}
-use Rattle.cml_journal.specs.{sealed_stream_lines, State, fresh, end_by, end_of, numbered, number_before, tailed, headed}
-use Rattle.cml_journal.specs.{headed_by, plain_headed, sealed_headed, begun, entered, ended_by, closed_by, sealed_by, inside, from_by}
-use Rattle.cml_journal.specs.{behind_header, line_step, line_read, sums, sums_line, most, held, turned, no_entry, byte_read, behind}
-use Rattle.cml_journal.specs.{reading}
-use Rattle.cml_journal.specs.declared.fault.What.TheVariants.{BadNumber, BadBytes, NoHeader, Gap, WrongEnd, WrongSum, TooMany, TooLong}
+use Rattle.cml_journal.specs.{sealed_stream_lines, numbered, number_before, tailed}
+use Rattle.cml_journal.specs.{sums}
 use Rattle.cml_journal.specs.declared.reader.Form.TheVariants.{Plain, Sealed}
 use Rattle.cml_journal.specs.declared.reader.Link.TheVariants.{Any, First, Unsealed, Behind}
 use Rattle.cml_journal.specs.declared.reader.Stage.TheVariants.{Waiting, Headed, Inside}
 use Rattle.cml_journal.specs.NumberLaws.{number_only}
 use Rattle.cml_journal.proofs.CutWordsLemmas.{cut_takes}
-use Rattle.cml_journal.proofs.WordLemmas.{bind_ok, ok_is, chosen, passed, not_failed, same_bytes}
-use Rattle.cml_journal.proofs.EntryLemmas.{entry_takes}
+use Rattle.cml_journal.proofs.WordLemmas.{chosen, same_bytes}
 use Rattle.cml_journal.proofs.PieceLemmas.{piece_text, sealed_piece_text, sealed_front}
 use Rattle.cml_sums.proofs.SumsLemmas.{parts_summed, nothing_more, whole_sum}
-use Rattle.cml_sums.proofs.WordsLemmas.{word_takes}
 
 pub numbered_takes : (word line : List ℕ) (n : ℕ) → numbered word line ≡ Some n → line ≡ numbered_line word n
 numbered_takes word line n e = by (cut line) refl e
@@ -47,10 +38,10 @@ numbered_takes word line n e = by (cut line) refl e
           | inr h ↦ absurd (none-some n h.1)
         ]
 
-abbrev paired : List ℕ → ℕ → ℕ × List ℕ
+abbrev pub paired : List ℕ → ℕ → ℕ × List ℕ
 paired rest n = (n, rest)
 
-number_before_takes : (text : List ℕ) (x : ℕ × List ℕ) → number_before text ≡ Some x → text ≡ decimal x.0 ++ 32 ∷ x.1
+pub number_before_takes : (text : List ℕ) (x : ℕ × List ℕ) → number_before text ≡ Some x → text ≡ decimal x.0 ++ 32 ∷ x.1
 number_before_takes text x e = by (cut text) refl e
   where
     of_number : (parts : List ℕ × List ℕ) → cut text ≡ Some parts → (o : Option ℕ) → number_of parts.0 ≡ o
@@ -82,7 +73,7 @@ tailed_takes word line x e = by (cut line) refl e
         ]
 
 -- where a piece may begin
-abbrev StartsAt : Option ℕ → ℕ → Type 0
+abbrev pub StartsAt : Option ℕ → ℕ → Type 0
 StartsAt None from = Unit {0}
 StartsAt (Some position) from = from ≡ position
 
@@ -94,27 +85,27 @@ Allows Unsealed after = ⊥
 Allows (Behind sum) after = after ≡ Some sum
 
 -- whether the first piece may be plain
-abbrev AllowsPlain : Link → Type 0
+abbrev pub AllowsPlain : Link → Type 0
 AllowsPlain Any = Unit {0}
 AllowsPlain First = Unit {0}
 AllowsPlain Unsealed = Unit {0}
 AllowsPlain (Behind sum) = ⊥
 
 -- a text of plain pieces, or of sealed ones
-abbrev IsText : {M : Type 0} → ℕ → (M → List ℕ) → Link → ℕ → List (List (Entry M)) → List ℕ → Type 0
+abbrev pub IsText : {M : Type 0} → ℕ → (M → List ℕ) → Link → ℕ → List (List (Entry M)) → List ℕ → Type 0
 IsText version text link from pieces bytes =
     (AllowsPlain link × (bytes ≡ text_of (stream_lines version text from pieces)))
     ⊎ ((after : Option Sum) × Allows link after × (bytes ≡ text_of (sealed_stream_lines version text after from pieces)))
 
 -- a text of whole pieces
-record Whole {M : Type 0} (version : ℕ) (text : M → List ℕ) (before : Option ℕ) (link : Link) (bytes : List ℕ)
+pub record Whole {M : Type 0} (version : ℕ) (text : M → List ℕ) (before : Option ℕ) (link : Link) (bytes : List ℕ)
     (entries : List (Entry M)) (end : ℕ) : Type 0 where
-  from : ℕ
-  pieces : List (List (Entry M))
-  starts : StartsAt before from
-  whole : IsText version text link from pieces bytes
-  given : entries ≡ flat_map (λ piece. piece) pieces
-  ends : end ≡ from + length entries
+  pub from : ℕ
+  pub pieces : List (List (Entry M))
+  pub starts : StartsAt before from
+  pub whole : IsText version text link from pieces bytes
+  pub given : entries ≡ flat_map (λ piece. piece) pieces
+  pub ends : end ≡ from + length entries
 
 abbrev pub entry_lines : {M : Type 0} → (M → List ℕ) → List (Entry M) → List ℕ
 entry_lines text entries = flat_map (λ entry. with_line_end (line_of text entry)) entries
@@ -139,57 +130,57 @@ sums_none Plain summed = refl
 sums_none Sealed summed = nothing_more summed
 
 -- the rest of a piece from this position on, and whole pieces behind it
-record Rest {M : Type 0} (version : ℕ) (text : M → List ℕ) (form : Form) (summed : Summed) (position : ℕ) (bytes : List ℕ)
+pub record Rest {M : Type 0} (version : ℕ) (text : M → List ℕ) (form : Form) (summed : Summed) (position : ℕ) (bytes : List ℕ)
     (entries : List (Entry M)) (end : ℕ) : Type 0 where
-  first : List (Entry M)
-  more : List ℕ
-  others : List (Entry M)
-  parts : bytes ≡ (entry_lines text first
+  pub first : List (Entry M)
+  pub more : List ℕ
+  pub others : List (Entry M)
+  pub parts : bytes ≡ (entry_lines text first
       ++ with_line_end (closing form (sums form summed (entry_lines text first)) (position + length first))) ++ more
-  given : entries ≡ first ++ others
-  later : Whole version text (Some (position + length first)) (link_behind form (sums form summed (entry_lines text first))) more others end
+  pub given : entries ≡ first ++ others
+  pub later : Whole version text (Some (position + length first)) (link_behind form (sums form summed (entry_lines text first))) more others end
 
 -- what is behind a header
-record Opened {M : Type 0} (version : ℕ) (text : M → List ℕ) (form : Form) (summed : Summed) (before : Option ℕ) (bytes : List ℕ)
+pub record Opened {M : Type 0} (version : ℕ) (text : M → List ℕ) (form : Form) (summed : Summed) (before : Option ℕ) (bytes : List ℕ)
     (entries : List (Entry M)) (end : ℕ) : Type 0 where
-  from : ℕ
-  more : List ℕ
-  starts : StartsAt before from
-  parts : bytes ≡ text_of (from_lines from) ++ more
-  rest : Rest version text form (sums form summed (text_of (from_lines from))) from more entries end
+  pub from : ℕ
+  pub more : List ℕ
+  pub starts : StartsAt before from
+  pub parts : bytes ≡ text_of (from_lines from) ++ more
+  pub rest : Rest version text form (sums form summed (text_of (from_lines from))) from more entries end
 
-abbrev Claim : {M : Type 0} → ℕ → (M → List ℕ) → Stage → Summed → List ℕ → List (Entry M) → ℕ → Type 0
+abbrev pub Claim : {M : Type 0} → ℕ → (M → List ℕ) → Stage → Summed → List ℕ → List (Entry M) → ℕ → Type 0
 Claim version text (Waiting before link) summed = Whole version text before link
 Claim version text (Headed before form) summed = Opened version text form summed before
 Claim version text (Inside position form) summed = Rest version text form summed position
 
 -- before a piece nothing is summed
-abbrev Ready : Stage → Summed → Type 0
+abbrev pub Ready : Stage → Summed → Type 0
 Ready (Waiting before link) summed = summed ≡ nothing_summed
 Ready (Headed before form) summed = Unit {0}
 Ready (Inside position form) summed = Unit {0}
 
 -- ---- what a line adds
 -- a header, what is behind it, and its first piece
-regrouped : (header from lines closing more : List ℕ)
+pub regrouped : (header from lines closing more : List ℕ)
     → header ++ (from ++ ((lines ++ closing) ++ more)) ≡ (((header ++ from) ++ lines) ++ closing) ++ more
 regrouped header from lines closing more =
     sym (append_assoc header from ((lines ++ closing) ++ more))
     ∙ sym (append_assoc (header ++ from) (lines ++ closing) more)
     ∙ ap (λ (w : List ℕ). w ++ more) (sym (append_assoc (header ++ from) lines closing))
 
-plain_later : {M : Type 0} (version : ℕ) (text : M → List ℕ) (from : ℕ) (pieces : List (List (Entry M))) (bytes : List ℕ)
+pub plain_later : {M : Type 0} (version : ℕ) (text : M → List ℕ) (from : ℕ) (pieces : List (List (Entry M))) (bytes : List ℕ)
     → IsText version text Unsealed from pieces bytes → bytes ≡ text_of (stream_lines version text from pieces)
 plain_later version text from pieces bytes (inl plain) = plain.1
 plain_later version text from pieces bytes (inr sealed) = absurd sealed.1
 
-sealed_later : {M : Type 0} (version : ℕ) (text : M → List ℕ) (sum : Sum) (from : ℕ) (pieces : List (List (Entry M))) (bytes : List ℕ)
+pub sealed_later : {M : Type 0} (version : ℕ) (text : M → List ℕ) (sum : Sum) (from : ℕ) (pieces : List (List (Entry M))) (bytes : List ℕ)
     → IsText version text (Behind sum) from pieces bytes → bytes ≡ text_of (sealed_stream_lines version text (Some sum) from pieces)
 sealed_later version text sum from pieces bytes (inl plain) = absurd plain.0
 sealed_later version text sum from pieces bytes (inr sealed) =
     sealed.2 ∙ ap (λ (after : Option Sum). text_of (sealed_stream_lines version text after from pieces)) sealed.1
 
-header_adds : {M : Type 0} (version : ℕ) (text : M → List ℕ) (before : Option ℕ) (link : Link) (bytes : List ℕ)
+pub header_adds : {M : Type 0} (version : ℕ) (text : M → List ℕ) (before : Option ℕ) (link : Link) (bytes : List ℕ)
     (entries : List (Entry M)) (end : ℕ) (summed : Summed)
     → AllowsPlain link → Opened version text Plain summed before bytes entries end
     → Whole version text before link (with_line_end (numbered_line (codes "journal") version) ++ bytes) entries end
@@ -234,7 +225,7 @@ piece_summed {M} version text after from entries =
     ∙ whole_sum ((header ++ opening) ++ lines)
     ∙ ap sum_of (sealed_front version text after from entries)
 
-sealed_adds : {M : Type 0} (version : ℕ) (text : M → List ℕ) (before : Option ℕ) (link : Link) (after : Option Sum) (bytes : List ℕ)
+pub sealed_adds : {M : Type 0} (version : ℕ) (text : M → List ℕ) (before : Option ℕ) (link : Link) (after : Option Sum) (bytes : List ℕ)
     (entries : List (Entry M)) (end : ℕ) → Allows link after
     → Opened version text Sealed (sums Sealed nothing_summed (with_line_end (sealed_header (version + 2) after))) before bytes entries end
     → Whole version text before link (with_line_end (sealed_header (version + 2) after) ++ bytes) entries end
@@ -271,7 +262,7 @@ sealed_adds {M} version text before link after bytes entries end allowed b =
       ends = omega (arith, later.ends, later.starts, ap length rest.given, length-append rest.first rest.others);
     }
 
-end_adds : {M : Type 0} (version : ℕ) (text : M → List ℕ) (form : Form) (summed : Summed) (position : ℕ) (bytes : List ℕ)
+pub end_adds : {M : Type 0} (version : ℕ) (text : M → List ℕ) (form : Form) (summed : Summed) (position : ℕ) (bytes : List ℕ)
     (entries : List (Entry M)) (end : ℕ)
     → Whole version text (Some position) (link_behind form summed) bytes entries end
     → Rest version text form summed position (with_line_end (closing form summed position) ++ bytes) entries end
@@ -289,7 +280,7 @@ end_adds {M} version text form summed position bytes entries end w =
           (subst (λ (s : Summed). Whole version text (Some position) (link_behind form s) bytes entries end) summed_so w);
     }
 
-entry_adds : {M : Type 0} (version : ℕ) (text : M → List ℕ) (form : Form) (summed : Summed) (position : ℕ) (entry : Entry M)
+pub entry_adds : {M : Type 0} (version : ℕ) (text : M → List ℕ) (form : Form) (summed : Summed) (position : ℕ) (entry : Entry M)
     (bytes : List ℕ) (entries : List (Entry M)) (end : ℕ)
     → Rest version text form (sums form summed (with_line_end (line_of text entry))) (position + 1) bytes entries end
     → Rest version text form summed position (with_line_end (line_of text entry) ++ bytes) (entry ∷ entries) end
@@ -316,363 +307,3 @@ entry_adds {M} version text form summed position entry bytes entries end r =
           (subst (λ (s : Summed). Whole version text (Some (position + 1 + length r.first)) (link_behind form s) r.more r.others end)
           summed_so r.later);
     }
-
--- ---- what each line adds, by its stage
--- what a line adds that was read as this
-abbrev Adds : {M : Type 0} → ℕ → (M → List ℕ) → Stage → Summed → List ℕ → Stage × Option (Entry M) → Type 0
-Adds {M} version text stage summed line told =
-    (bytes : List ℕ) (entries : List (Entry M)) (end : ℕ)
-    → Claim version text told.0 (sums_line told.0 summed line) bytes entries end
-    → Claim version text stage summed (with_line_end line ++ bytes) (option_to_list told.1 ++ entries) end
-
-entered_adds : {M : Type 0} (version : ℕ) (text : M → List ℕ) (fits : M → Bool) (read : List ℕ → Option M)
-    (written : IsWritten text fits read) (form : Form) (summed : Summed) (position : ℕ) (line : List ℕ) (told : Stage × Option (Entry M))
-    → entered read form position line ≡ Ok told → Adds version text (Inside position form) summed line told
-unfolding entered
-entered_adds {M} version text fits read written form summed position line told f =
-    let a = bind_ok (entry_in read line)
-    (λ entry. if nat_lt (position + 1) (2 ^ 64) then Ok (Inside (position + 1) form, Some entry) else Err TooMany) told f in
-    let line_is = (entry_takes text fits read written line a.0 a.1).0 in
-    let (few, same) = passed (nat_lt (position + 1) (2 ^ 64)) (Inside (position + 1) form, Some a.0) told TooMany a.2 in
-    subst (Adds version text (Inside position form) summed line) same
-    (λ bytes entries end claim.
-    subst (λ (l : List ℕ). Rest version text form summed position (with_line_end l ++ bytes) (a.0 ∷ entries) end) (sym line_is)
-    (entry_adds version text form summed position a.0 bytes entries end
-    (subst (λ (l : List ℕ). Rest version text form (sums form summed (with_line_end l)) (position + 1) bytes entries end) line_is claim)))
-
-inside_adds : {M : Type 0} (version : ℕ) (text : M → List ℕ) (fits : M → Bool) (read : List ℕ → Option M)
-    (written : IsWritten text fits read) (form : Form) (summed : Summed) (position : ℕ) (line : List ℕ) (told : Stage × Option (Entry M))
-    → inside read form summed position line ≡ Ok told → Adds version text (Inside position form) summed line told
-unfolding inside
-inside_adds {M} version text fits read written Plain summed position line told e = by (numbered (codes "end") line) refl e
-  where
-    by : (o : Option ℕ) → numbered (codes "end") line ≡ o → ended_by read position o line ≡ Ok told
-        → Adds version text (Inside position Plain) summed line told
-    by (Some n) is f =
-        let (ends, same) = passed (n == position) (Waiting (Some position) Unsealed, None) told WrongEnd f in
-        let whole : line ≡ numbered_line (codes "end") position = numbered_takes (codes "end") line n is
-        ∙ ap (numbered_line (codes "end")) (eqb-true n position ends) in
-        subst (Adds version text (Inside position Plain) summed line) same
-        (λ bytes entries end claim. subst (λ (l : List ℕ). Rest version text Plain summed position (with_line_end l ++ bytes) entries end)
-        (sym whole) (end_adds version text Plain summed position bytes entries end claim))
-    by None is f = entered_adds version text fits read written Plain summed position line told f
-inside_adds {M} version text fits read written Sealed summed position line told e = by (tailed (codes "end") line) refl e
-  where
-    sum : Sum
-    sum = sum_by summed
-
-    by : (o : Option (ℕ × List ℕ)) → tailed (codes "end") line ≡ o → closed_by read sum position o line ≡ Ok told
-        → Adds version text (Inside position Sealed) summed line told
-    by (Some found) is f =
-        let one = at_place (found.0 == position) (sealed_by position sum found.1) told f in
-        let (named, same) = passed (bytes_eq found.1 (sum_word sum)) (Waiting (Some position) (Behind sum), None) told WrongSum one.1 in
-        let whole : line ≡ sealed_end position sum = tailed_takes (codes "end") line found is
-        ∙ ap (λ (n : ℕ). numbered_line (codes "end") n ++ 32 ∷ found.1) (eqb-true found.0 position one.0)
-        ∙ ap (λ (w : List ℕ). numbered_line (codes "end") position ++ 32 ∷ w) (same_bytes found.1 (sum_word sum) named) in
-        subst (Adds version text (Inside position Sealed) summed line) same
-        (λ bytes entries end claim. subst (λ (l : List ℕ). Rest version text Sealed summed position (with_line_end l ++ bytes) entries end)
-        (sym whole) (end_adds version text Sealed summed position bytes entries end claim))
-      where
-        at_place : (t : Bool) (r : Result (Stage × Option (Entry M)) What) (y : Stage × Option (Entry M))
-            → (if t then r else Err WrongEnd) ≡ Ok y → (t ≡ true) × (r ≡ Ok y)
-        at_place true r y g = (refl, g)
-        at_place false r y g = absurd cc
-    by None is f = entered_adds version text fits read written Sealed summed position line told f
-
-begun_starts : (before : Option ℕ) (from position : ℕ) → begun before from ≡ Ok position → StartsAt before position × (position ≡ from)
-begun_starts None from position e = (tt, sym (ok_is from position e))
-begun_starts (Some q) from position e =
-    let (here, same) = passed (from == q) from position Gap e in
-    (sym same ∙ eqb-true from q here, sym same)
-
-behind_adds : {M : Type 0} (version : ℕ) (text : M → List ℕ) (fits : M → Bool) (read : List ℕ → Option M)
-    (written : IsWritten text fits read) (form : Form) (summed : Summed) (before : Option ℕ) (line : List ℕ)
-    (told : Stage × Option (Entry M))
-    → behind_header read form summed before line ≡ Ok told → Adds version text (Headed before form) summed line told
-unfolding behind_header
-behind_adds {M} version text fits read written form summed before line told e = by (numbered (codes "from") line) refl e
-  where
-    by : (o : Option ℕ) → numbered (codes "from") line ≡ o → from_by read form summed before o line ≡ Ok told
-        → Adds version text (Headed before form) summed line told
-    by None is f =
-        let a = bind_ok (begun before 0) (λ position. inside read form summed position line) told f in
-        let starts = begun_starts before 0 a.0 a.1 in
-        let adds = inside_adds version text fits read written form summed a.0 line told a.2 in
-        let nothing : text_of (from_lines a.0) ≡ [] = ap (λ (n : ℕ). text_of (from_lines n)) starts.1 in
-        let same : sums form summed (text_of (from_lines a.0)) ≡ summed = ap (sums form summed) nothing ∙ sums_none form summed in
-        λ bytes entries end claim. record {
-          from = a.0;
-          more = with_line_end line ++ bytes;
-          starts = starts.0;
-          parts = ap (λ (w : List ℕ). w ++ (with_line_end line ++ bytes)) (sym nothing);
-          rest = subst (λ (s : Summed). Rest version text form s a.0 (with_line_end line ++ bytes) (option_to_list told.1 ++ entries) end)
-              (sym same) (adds bytes entries end claim);
-        }
-    by (Some n) is f =
-        let opened : Result (Stage × Option (Entry M)) What = begun before n >>= λ position. Ok (Inside position form, None) in
-        let (some, opens) = not_failed (n == 0) BadNumber opened told f in
-        let a = bind_ok (begun before n) (λ position. Ok (Inside position form, None)) told opens in
-        let starts = begun_starts before n a.0 a.1 in
-        let within : Stage × Option (Entry M) = (Inside a.0 form, None) in
-        let whole : line ≡ numbered_line (codes "from") n = numbered_takes (codes "from") line n is in
-        let named : text_of (from_lines n) ≡ with_line_end line =
-        ap (λ t. text_of (if t then [] else numbered_line (codes "from") n ∷ [])) some
-        ∙ append-nil (with_line_end (numbered_line (codes "from") n)) ∙ ap with_line_end (sym whole) in
-        let there : text_of (from_lines a.0) ≡ with_line_end line = ap (λ (m : ℕ). text_of (from_lines m)) starts.1 ∙ named in
-        subst (Adds version text (Headed before form) summed line) (ok_is within told a.2)
-        (λ bytes entries end claim. record {
-          from = a.0;
-          more = bytes;
-          starts = starts.0;
-          parts = ap (λ (w : List ℕ). w ++ bytes) (sym there);
-          rest = subst (λ (w : List ℕ). Rest version text form (sums form summed w) a.0 bytes entries end) (sym there) claim;
-        })
-
--- a header that was read, and the sum that it names
-record Heads {M : Type 0} (before : Option ℕ) (link : Link) (word : Option (List ℕ)) (told : Stage × Option (Entry M)) : Type 0 where
-  after : Option Sum
-  allowed : Allows link after
-  words : word ≡ option_map sum_word after
-  same : (Headed before Sealed, None) ≡ told
-
-some_sum : (word : List ℕ) (o : Option Sum) → sum_in word ≡ o → is_some o ≡ true → (sum : Sum) × (word ≡ sum_word sum)
-some_sum word None e t = absurd (cc)
-some_sum word (Some sum) e t = (sum, word_takes word sum e)
-
-sealed_heads : {M : Type 0} (before : Option ℕ) (link : Link) (word : Option (List ℕ)) (told : Stage × Option (Entry M))
-    → sealed_headed {M = M} before link word ≡ Ok told → Heads before link word told
-sealed_heads {M} before Any None told e =
-    let is = passed true (Headed before Sealed, None) told WrongSum e in
-    record { after = None; allowed = tt; words = refl; same = is.1 }
-sealed_heads {M} before Any (Some word) told e =
-    let is = passed (is_some (sum_in word)) (Headed before Sealed, None) told WrongSum e in
-    let found = some_sum word (sum_in word) refl is.0 in
-    record { after = Some found.0; allowed = tt; words = ap (λ (w : List ℕ). Some w) found.1; same = is.1 }
-sealed_heads {M} before First None told e =
-    let is = passed true (Headed before Sealed, None) told WrongSum e in
-    record { after = None; allowed = refl; words = refl; same = is.1 }
-sealed_heads {M} before First (Some word) told e = absurd cc
-sealed_heads {M} before Unsealed word told e = absurd cc
-sealed_heads {M} before (Behind sum) None told e = absurd cc
-sealed_heads {M} before (Behind sum) (Some word) told e =
-    let is = passed (bytes_eq word (sum_word sum)) (Headed before Sealed, None) told WrongSum e in
-    record { after = Some sum; allowed = refl; words = ap (λ (w : List ℕ). Some w) (same_bytes word (sum_word sum) is.0); same = is.1 }
-
-plain_heads : {M : Type 0} (before : Option ℕ) (link : Link) (told : Stage × Option (Entry M))
-    → plain_headed {M = M} before link ≡ Ok told → AllowsPlain link × ((Headed before Plain, None) ≡ told)
-plain_heads {M} before Any told e = let made : Stage × Option (Entry M) = (Headed before Plain, None) in (tt, ok_is made told e)
-plain_heads {M} before First told e = let made : Stage × Option (Entry M) = (Headed before Plain, None) in (tt, ok_is made told e)
-plain_heads {M} before Unsealed told e = let made : Stage × Option (Entry M) = (Headed before Plain, None) in (tt, ok_is made told e)
-plain_heads {M} before (Behind sum) told e = absurd cc
-
--- the line of a header with such a word behind its version
-abbrev header_with : ℕ → Option (List ℕ) → List ℕ
-header_with version None = numbered_line (codes "journal") version
-header_with version (Some word) = numbered_line (codes "journal") version ++ 32 ∷ word
-
-header_named : (version : ℕ) (after : Option Sum) → header_with version (option_map sum_word after) ≡ sealed_header version after
-header_named version None = refl
-header_named version (Some sum) = refl
-
-headed_adds : {M : Type 0} (version : ℕ) (text : M → List ℕ) (before : Option ℕ) (link : Link) (summed : Summed) (line : List ℕ)
-    (told : Stage × Option (Entry M)) → summed ≡ nothing_summed
-    → headed version before link line ≡ Ok told → Adds version text (Waiting before link) summed line told
-unfolding headed
-headed_adds {M} version text before link summed line told empty e =
-    by (numbered (codes "journal") line) (tailed (codes "journal") line) refl refl e
-  where
-    plain : (n : ℕ) → (n == version) ≡ true → line ≡ numbered_line (codes "journal") n → plain_headed {M = M} before link ≡ Ok told
-        → Adds version text (Waiting before link) summed line told
-    plain n known is f =
-        let heads = plain_heads before link told f in
-        let whole = is ∙ ap (numbered_line (codes "journal")) (eqb-true n version known) in
-        subst (Adds version text (Waiting before link) summed line) heads.1
-        (λ bytes entries end claim. subst (λ (l : List ℕ). Whole version text before link (with_line_end l ++ bytes) entries end)
-        (sym whole) (header_adds version text before link bytes entries end summed heads.0 claim))
-
-    sealed : (n : ℕ) (word : Option (List ℕ)) → (n == version + 2) ≡ true → line ≡ header_with n word
-        → sealed_headed {M = M} before link word ≡ Ok told → Adds version text (Waiting before link) summed line told
-    sealed n word known is f =
-        let heads = sealed_heads before link word told f in
-        let whole = is ∙ ap (λ (v : ℕ). header_with v word) (eqb-true n (version + 2) known)
-        ∙ ap (header_with (version + 2)) heads.words ∙ header_named (version + 2) heads.after in
-        subst (Adds version text (Waiting before link) summed line) heads.same
-        (λ bytes entries end claim. subst (λ (l : List ℕ). Whole version text before link (with_line_end l ++ bytes) entries end)
-        (sym whole) (sealed_adds version text before link heads.after bytes entries end heads.allowed
-        (subst (λ (l : List ℕ). Opened version text Sealed (sums Sealed nothing_summed (with_line_end l)) before bytes entries end) whole
-        (subst (λ (s : Summed). Opened version text Sealed (sums Sealed s (with_line_end line)) before bytes entries end) empty claim))))
-
-    by : (o : Option ℕ) (tail : Option (ℕ × List ℕ)) → numbered (codes "journal") line ≡ o → tailed (codes "journal") line ≡ tail
-        → headed_by {M = M} version before link o tail ≡ Ok told → Adds version text (Waiting before link) summed line told
-    by (Some n) tail is other f =
-        elim (chosen (n == version) (plain_headed before link) _ (Ok told) f) [
-          | inl h ↦ plain n h.0 (numbered_takes (codes "journal") line n is) h.1
-          | inr h ↦ elim (chosen (n == version + 2) (sealed_headed before link None) (Err NoHeader) (Ok told) h.1) [
-            | inl k ↦ sealed n None k.0 (numbered_takes (codes "journal") line n is) k.1
-            | inr k ↦ absurd (failed_not told k.1)
-          ]
-        ]
-      where
-        failed_not : (y : Stage × Option (Entry M)) → Err NoHeader ≡ Ok y → ⊥
-        failed_not y g = cc
-    by None (Some found) none is f =
-        elim (chosen (found.0 == version + 2) (sealed_headed before link (Some found.1)) (Err NoHeader) (Ok told) f) [
-          | inl k ↦ sealed found.0 (Some found.1) k.0 (tailed_takes (codes "journal") line found is) k.1
-          | inr k ↦ absurd (failed_not told k.1)
-        ]
-      where
-        failed_not : (y : Stage × Option (Entry M)) → Err NoHeader ≡ Ok y → ⊥
-        failed_not y g = cc
-    by None None none other f = let e : Err NoHeader ≡ Ok told = f in absurd cc
-
-line_adds : {M : Type 0} (version : ℕ) (text : M → List ℕ) (fits : M → Bool) (read : List ℕ → Option M) (written : IsWritten text fits read)
-    (stage : Stage) (summed : Summed) (line : List ℕ) (told : Stage × Option (Entry M)) → Ready stage summed
-    → line_read version read summed stage line ≡ Ok told → Adds version text stage summed line told
-unfolding line_read
-line_adds {M} version text fits read written stage summed line told ready e =
-    by stage ready (not_failed (list_any is_bad_byte line) BadBytes (line_step version read summed stage line) told e).1
-  where
-    by : (s : Stage) → Ready s summed → line_step version read summed s line ≡ Ok told → Adds version text s summed line told
-    by (Waiting before link) empty f = headed_adds version text before link summed line told empty f
-    by (Headed before form) empty f = behind_adds version text fits read written form summed before line told f
-    by (Inside position form) empty f = inside_adds version text fits read written form summed position line told f
-
--- ---- a whole stream
-no_pieces : {M : Type 0} (version : ℕ) (text : M → List ℕ) (link : Link) (from : ℕ) → IsText {M = M} version text link from [] []
-no_pieces version text Any from = inl (tt, refl)
-no_pieces version text First from = inl (tt, refl)
-no_pieces version text Unsealed from = inl (tt, refl)
-no_pieces version text (Behind sum) from = inr (Some sum, refl, refl)
-
-at_end : {M : Type 0} (version : ℕ) (text : M → List ℕ) (stage : Stage) (summed : Summed) (line : List ℕ) (end : ℕ)
-    → end_by stage (length line) ≡ Some end → Claim {M = M} version text stage summed (line ++ []) [] end
-at_end {M} version text (Headed before form) summed line end e = absurd (none-some end e)
-at_end {M} version text (Inside position form) summed line end e = absurd (none-some end e)
-at_end {M} version text (Waiting before link) summed line end e =
-    elim (chosen (length line == 0) before None (Some end) e) [
-      | inl h ↦
-          let nothing : line ++ [] ≡ [] = append-nil line ∙ nil_from_length line (eqb-true (length line) 0 h.0) in
-          subst (λ (o : Option ℕ). Whole {M = M} version text o link (line ++ []) [] end) (sym h.1)
-          (subst (λ (w : List ℕ). Whole {M = M} version text (Some end) link w [] end) (sym nothing)
-          (record { from = end; pieces = []; starts = refl; whole = no_pieces version text link end; given = refl; ends = omega arith }))
-      | inr h ↦ absurd (none-some end h.1)
-    ]
-
-behind_ok : {M : Type 0} (front : List (Entry M)) (r : Result (State × List (Entry M)) What) (y : State × List (Entry M))
-    → behind front r ≡ Ok y → (z : State × List (Entry M)) × (r ≡ Ok z) × ((z.0, front ++ z.1) ≡ y)
-behind_ok {M} front (Ok z) y e = let made : State × List (Entry M) = (z.0, front ++ z.1) in (z, refl, ok_is made y e)
-behind_ok front (Err what) y e = absurd cc
-
--- the state behind a line
-abbrev turned_to : {M : Type 0} → State → Stage × Option (Entry M) → State × Option (Entry M)
-turned_to state step = (
-  record {
-    stage = step.0;
-    lines = (state.lines + 1) % 2 ^ 64;
-    line = [];
-    summed = sums_line step.0 state.summed state.line;
-  },
-  step.1,
-)
-
-abbrev turning_to : {M : Type 0} → State → Stage × Option (Entry M) → Result (State × Option (Entry M)) What
-turning_to state step = Ok (turned_to state step)
-
-ready_behind : (stage : Stage) (summed : Summed) (line : List ℕ) → Ready stage (sums_line stage summed line)
-ready_behind (Waiting before link) summed line = refl
-ready_behind (Headed before form) summed line = tt
-ready_behind (Inside position form) summed line = tt
-
-byte_ready : {M : Type 0} (version : ℕ) (read : List ℕ → Option M) (state : State) (b : ℕ) (x : State × Option (Entry M))
-    → Ready state.stage state.summed → byte_read version read state b ≡ Ok x → Ready x.0.stage x.0.summed
-unfolding turned
-byte_ready {M} version read state b x ready e =
-    elim (chosen (b == 10) (turned version read state) (no_entry (held state b)) (Ok x) e) [
-      | inl h ↦
-          let a = bind_ok (line_read version read state.summed state.stage state.line) (turning_to state) x h.1 in
-          subst (λ (y : State × Option (Entry M)). Ready y.0.stage y.0.summed) (ok_is (turned_to state a.0) x a.2)
-          (ready_behind a.0.0 state.summed state.line)
-      | inr h ↦ kept (nat_lt (length state.line) most) x h.1
-    ]
-  where
-    kept : (t : Bool) (y : State × Option (Entry M))
-        → no_entry (if t then Ok (record state { line = state.line ++ b ∷ [] }) else Err TooLong) ≡ Ok y → Ready y.0.stage y.0.summed
-    kept true y f =
-        let made : State × Option (Entry M) = (record state { line = state.line ++ b ∷ [] }, None) in
-        subst (λ (z : State × Option (Entry M)). Ready z.0.stage z.0.summed) (ok_is made y f) ready
-    kept false y f = absurd cc
-
-byte_adds : {M : Type 0} (version : ℕ) (text : M → List ℕ) (fits : M → Bool) (read : List ℕ → Option M) (written : IsWritten text fits read)
-    (state : State) (b : ℕ) (x : State × Option (Entry M)) (bytes : List ℕ) (entries : List (Entry M)) (end : ℕ)
-    → Ready state.stage state.summed
-    → byte_read version read state b ≡ Ok x → Claim version text x.0.stage x.0.summed (x.0.line ++ bytes) entries end
-    → Claim version text state.stage state.summed (state.line ++ b ∷ bytes) (option_to_list x.1 ++ entries) end
-unfolding turned
-byte_adds {M} version text fits read written state b x bytes entries end ready e claim =
-    elim (chosen (b == 10) (turned version read state) (no_entry (held state b)) (Ok x) e) [
-      | inl h ↦
-          let a = bind_ok (line_read version read state.summed state.stage state.line) (turning_to state) x h.1 in
-          let made : State × Option (Entry M) = turned_to state a.0 in
-          let same : made ≡ x = ok_is made x a.2 in
-          let there : Claim version text a.0.0 (sums_line a.0.0 state.summed state.line) bytes entries end =
-          subst (λ (y : State × Option (Entry M)). Claim version text y.0.stage y.0.summed (y.0.line ++ bytes) entries end) (sym same)
-          claim in
-          let added = line_adds version text fits read written state.stage state.summed state.line a.0 ready a.1 bytes entries end there in
-          let placed : with_line_end state.line ++ bytes ≡ state.line ++ b ∷ bytes = append_assoc state.line (10 ∷ []) bytes
-          ∙ ap (λ (c : ℕ). state.line ++ c ∷ bytes) (sym (eqb-true b 10 h.0)) in
-          subst (λ (y : State × Option (Entry M)). Claim version text state.stage state.summed (state.line ++ b ∷ bytes)
-          (option_to_list y.1 ++ entries) end) same
-          (subst (λ (w : List ℕ). Claim version text state.stage state.summed w (option_to_list a.0.1 ++ entries) end) placed added)
-      | inr h ↦
-          let next : State = record state { line = state.line ++ b ∷ [] } in
-          let made : State × Option (Entry M) = (next, None) in
-          let same : made ≡ x = kept (nat_lt (length state.line) most) next x h.1 in
-          let there : Claim version text state.stage state.summed ((state.line ++ b ∷ []) ++ bytes) entries end =
-          subst (λ (y : State × Option (Entry M)). Claim version text y.0.stage y.0.summed (y.0.line ++ bytes) entries end) (sym same)
-          claim in
-          subst (λ (y : State × Option (Entry M)). Claim version text state.stage state.summed (state.line ++ b ∷ bytes)
-          (option_to_list y.1 ++ entries) end) same
-          (subst (λ (w : List ℕ). Claim version text state.stage state.summed w entries end) (append_assoc state.line (b ∷ []) bytes) there)
-    ]
-  where
-    kept : (t : Bool) (next : State) (y : State × Option (Entry M))
-        → no_entry (if t then Ok next else Err TooLong) ≡ Ok y → (next, None) ≡ y
-    kept true next y f = let made : State × Option (Entry M) = (next, None) in ok_is made y f
-    kept false next y f = absurd cc
-
-stream_takes : {M : Type 0} (version : ℕ) (text : M → List ℕ) (fits : M → Bool) (read : List ℕ → Option M)
-    (written : IsWritten text fits read) (bytes : List ℕ) (state final : State) (entries : List (Entry M)) (end : ℕ)
-    → Ready state.stage state.summed
-    → reading version read state bytes ≡ Ok (final, entries) → end_of final ≡ Some end
-    → Claim version text state.stage state.summed (state.line ++ bytes) entries end
-unfolding reading
-stream_takes {M} version text fits read written [] state final entries end ready e ends =
-    let start : State × List (Entry M) = (state, []) in
-    let same = ok_is start (final, entries) e in
-    subst (λ (es : List (Entry M)). Claim version text state.stage state.summed (state.line ++ []) es end)
-    (ap (λ (x : State × List (Entry M)). x.1) same)
-    (at_end {M = M} version text state.stage state.summed state.line end (ap (λ (x : State × List (Entry M)). end_of x.0) same ∙ ends))
-stream_takes {M} version text fits read written (b ∷ bs) state final entries end ready e ends =
-    let a = bind_ok (byte_read version read state b)
-    (λ first. behind (option_to_list first.1) (reading version read first.0 bs)) (final, entries) e in
-    let (later, is, same) = behind_ok (option_to_list a.0.1) (reading version read a.0.0 bs) (final, entries) a.2 in
-    let claim = stream_takes version text fits read written bs a.0.0 later.0 later.1 end (byte_ready version read state b a.0 ready a.1) is
-    (ap (λ (x : State × List (Entry M)). end_of x.0) same ∙ ends) in
-    subst (λ (es : List (Entry M)). Claim version text state.stage state.summed (state.line ++ b ∷ bs) es end)
-    (ap (λ (x : State × List (Entry M)). x.1) same)
-    (byte_adds version text fits read written state b a.0 bs later.1 end ready a.1 claim)
-
-any_text : {M : Type 0} (version : ℕ) (text : M → List ℕ) (from : ℕ) (pieces : List (List (Entry M))) (bytes : List ℕ)
-    → IsText version text Any from pieces bytes → IsTextOf version text from pieces bytes
-any_text version text from pieces bytes (inl plain) = inl plain.1
-any_text version text from pieces bytes (inr sealed) = inr (sealed.0, sealed.2)
-
--- a stream that was read to its end is pieces
-pub stream_found : {M : Type 0} (version : ℕ) (text : M → List ℕ) (fits : M → Bool) (read : List ℕ → Option M)
-    (written : IsWritten text fits read) (bytes : List ℕ) (final : State) (entries : List (Entry M)) (end : ℕ)
-    → reading version read fresh bytes ≡ Ok (final, entries) → end_of final ≡ Some end
-    → (from : ℕ) × (pieces : List (List (Entry M))) × IsTextOf version text from pieces bytes
-    × (entries ≡ flat_map (λ piece. piece) pieces) × (end ≡ from + length entries)
-stream_found version text fits read written bytes final entries end e ends =
-    let w = stream_takes version text fits read written bytes fresh final entries end refl e ends in
-    (w.from, w.pieces, any_text version text w.from w.pieces bytes w.whole, w.given, w.ends)

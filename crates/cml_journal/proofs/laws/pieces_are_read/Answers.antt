@@ -1,4 +1,4 @@
-use Rattle.cml_journal.proofs.AgainLemmas.{stream_again}
+use Rattle.cml_journal.proofs.AgainStreamLemmas.{stream_again}
 use Rattle.cml_journal.proofs.laws.pieces_are_read.Goals as goal
 
 pub returns : goal.returns

@@ -1,6 +1,6 @@
 use Rattle.std.proofs.Common.{Some, None, refl, arith}
 use Rattle.cml_journal.specs.declared.reader.Link.TheVariants.{Any, First}
-use Rattle.cml_journal.proofs.AgainLemmas.{sealed_stream_again}
+use Rattle.cml_journal.proofs.AgainStreamLemmas.{sealed_stream_again}
 use Rattle.cml_journal.proofs.laws.sealed_pieces_are_read.Goals as goal
 
 pub returns-clause-behind : goal.returns-clause-behind

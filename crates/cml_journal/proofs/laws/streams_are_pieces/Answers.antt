@@ -1,4 +1,4 @@
-use Rattle.cml_journal.proofs.StreamLemmas.{stream_found}
+use Rattle.cml_journal.proofs.LineAddsLemmas.{stream_found}
 use Rattle.cml_journal.proofs.laws.streams_are_pieces.Goals as goal
 
 pub returns : goal.returns
