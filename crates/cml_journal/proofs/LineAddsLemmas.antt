@@ -25,6 +25,7 @@ use Rattle.cml_journal.specs.declared.reader.Stage.TheVariants.{Waiting, Headed,
 use Rattle.cml_journal.proofs.WordLemmas.{bind_ok, ok_is, chosen, passed, not_failed, same_bytes}
 use Rattle.cml_journal.proofs.EntryLemmas.{entry_takes}
 use Rattle.cml_sums.proofs.WordsLemmas.{word_takes}
+use Rattle.cml_journal.specs.{IsJournalOf, waiting_at, sealed_stream_lines, stream_lines}
 use Rattle.cml_journal.proofs.StreamLemmas.{numbered_takes, tailed_takes, StartsAt, Allows, AllowsPlain, IsText, Whole, sums_none, Rest}
 use Rattle.cml_journal.proofs.StreamLemmas.{Opened, Claim, Ready, header_adds, sealed_adds, end_adds, entry_adds}
 
@@ -386,3 +387,25 @@ pub stream_found : {M : Type 0} (version : ℕ) (text : M → List ℕ) (fits : 
 stream_found version text fits read written bytes final entries end e ends =
     let w = stream_takes version text fits read written bytes fresh final entries end refl e ends in
     (w.from, w.pieces, any_text version text w.from w.pieces bytes w.whole, w.given, w.ends)
+
+-- a journal that was read to its end is pieces from position 0 on
+pub journal_found : {M : Type 0} (version : ℕ) (text : M → List ℕ) (fits : M → Bool) (read : List ℕ → Option M)
+    (written : IsWritten text fits read) (bytes : List ℕ) (final : State) (entries : List (Entry M)) (end : ℕ)
+    → reading version read (waiting_at 0) bytes ≡ Ok (final, entries) → end_of final ≡ Some end
+    → (pieces : List (List (Entry M))) × IsJournalOf version text pieces bytes
+    × (entries ≡ flat_map (λ piece. piece) pieces) × (end ≡ length entries)
+journal_found {M} version text fits read written bytes final entries end e ends =
+    let w = stream_takes version text fits read written bytes (waiting_at 0) final entries end refl e ends in
+    (w.pieces, by w.from w.starts w.pieces w.whole, w.given, omega (arith, w.ends, w.starts))
+  where
+    sealed : (after : Option Sum) (from : ℕ) (pieces : List (List (Entry M))) → after ≡ None → from ≡ 0
+        → bytes ≡ text_of (sealed_stream_lines version text after from pieces)
+        → bytes ≡ text_of (sealed_stream_lines version text None 0 pieces)
+    sealed after from pieces first zeroed is =
+        is ∙ ap (λ (o : Option Sum). text_of (sealed_stream_lines version text o from pieces)) first
+        ∙ ap (λ (n : ℕ). text_of (sealed_stream_lines version text None n pieces)) zeroed
+
+    by : (from : ℕ) → from ≡ 0 → (pieces : List (List (Entry M))) → IsText version text First from pieces bytes
+        → IsJournalOf version text pieces bytes
+    by from zeroed pieces (inl plain) = inl (plain.1 ∙ ap (λ (n : ℕ). text_of (stream_lines version text n pieces)) zeroed)
+    by from zeroed pieces (inr found) = inr (sealed found.0 from pieces found.1 zeroed found.2)

@@ -22,7 +22,7 @@ pub use Escapes.{before, byte_at, byte_text, bytes_text, digit_in, escape_at, es
 unfoldable pub use Escapes.{bytes_in}
 pub use Words.{script_word}
 pub use Streams.{WritesSummed, from_lines, head_lines, numbered_line, piece_lines, stream_lines, text_of, with_line_end}
-pub use Streams.{IsTextOf, named_line, piece_sum, sealed_end, sealed_header, sealed_lines, sealed_piece_lines, sealed_stream_lines}
+pub use Streams.{IsJournalOf, IsTextOf, named_line, piece_sum, sealed_end, sealed_header, sealed_lines, sealed_piece_lines, sealed_stream_lines}
 pub use Streams.{stream_sum}
 pub use Lengths.{AreShort, IsShort, IsTooLong, MayBeTooLong}
 pub use Feeding.{IsReadable, IsSealedRead, MaybeSum, Read, State, Step, begun, behind, byte_read, closed_by, end_by, end_of, ended_by}

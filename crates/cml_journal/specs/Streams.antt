@@ -81,6 +81,11 @@ abbrev pub IsTextOf : {M : Type 0} → ℕ → (M → List ℕ) → ℕ → List
 IsTextOf version text from pieces bytes = (bytes ≡ text_of (stream_lines version text from pieces))
     ⊎ ((after : Option Sum) × (bytes ≡ text_of (sealed_stream_lines version text after from pieces)))
 
+-- the text of a journal from position 0 on: plain pieces, or a chain of sealed ones
+abbrev pub IsJournalOf : {M : Type 0} → ℕ → (M → List ℕ) → List (List (Entry M)) → List ℕ → Type 0
+IsJournalOf version text pieces bytes = (bytes ≡ text_of (stream_lines version text 0 pieces))
+    ⊎ (bytes ≡ text_of (sealed_stream_lines version text None 0 pieces))
+
 -- of a text its front was written and summed, if it has to be, and this is left
 abbrev pub WritesSummed : Option (List ℕ) → Option (List ℕ) → List ℕ → List ℕ → Option Summed → Option Summed → Type 0
 WritesSummed held holds text left old new =

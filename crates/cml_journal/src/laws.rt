@@ -3,7 +3,7 @@ ghost use Rattle.std.specs.Prelude.{◌≡◌, ℕ, ◌+◌, ◌^◌, ◌<◌, �
 ghost use Rattle.std.specs.List.{flat_map, AllByRecursion};
 ghost use Rattle.cml_board.specs.{Entry};
 ghost use Rattle.cml_journal.specs.{line_of, HasLine, entry_in, text_of, stream_lines, What, State, fresh, end_of, behind, reading};
-ghost use Rattle.cml_journal.specs.{IsReadable, IsTextOf, IsSealedRead, MaybeSum, waiting_at};
+ghost use Rattle.cml_journal.specs.{IsReadable, IsJournalOf, IsTextOf, IsSealedRead, MaybeSum, waiting_at};
 ghost use Rattle.cml_sums.specs.{Sum};
 
 use crate::written::Written;
@@ -36,6 +36,17 @@ pub fn streams_are_pieces<M: Written>()
         × IsTextOf M.VERSION M.text from pieces bytes
         × (entries ≡ flat_map (λ piece. piece) pieces)
         × (end ≡ from + length entries) }
+{}
+
+/// Shows the same of a journal that was read from position 0 on. If it is sealed, its first header names no sum.
+pub fn journals_are_pieces<M: Written>()
+    ensures { (bytes : List ℕ) (state : State) (entries : List (Entry M)) (end : ℕ)
+        → reading M.VERSION M.meaning (waiting_at 0) bytes ≡ Ok (state, entries)
+        → end_of state ≡ Some end
+        → (pieces : List (List (Entry M)))
+        × IsJournalOf M.VERSION M.text pieces bytes
+        × (entries ≡ flat_map (λ piece. piece) pieces)
+        × (end ≡ length entries) }
 {}
 
 /// Shows that the writing of pieces is read to its end, and gives exactly these entries.

@@ -19,8 +19,8 @@ pub use check::Check;
 pub use cml_sums::Sum;
 pub use fault::{TooLong, Unread, Unwritten, What};
 pub use laws::{
-    lines_are_entries, pieces_are_read, sealed_pieces_are_read, streams_are_pieces,
-    streams_may_be_cut,
+    journals_are_pieces, lines_are_entries, pieces_are_read, sealed_pieces_are_read,
+    streams_are_pieces, streams_may_be_cut,
 };
 pub use pieces::{add_piece, add_piece_in, write_piece};
 pub use reader::Reader;
