@@ -96,7 +96,7 @@ has_sanitizer() {
 # The sanitizers of addresses and of undefined behaviour, and that of threads.
 sanitizers_from_c() {
     if has_sanitizer address,undefined; then
-        for program in calls messages keep compact full threads; do
+        for program in calls messages keep sealed compact full threads; do
             check "nothing wrong with an address: $program" sanitized address,undefined $program
         done
         check 'nothing wrong with an address: requests' sanitized address,undefined requests 20
@@ -115,12 +115,13 @@ refusals_from_c() {
     [ -x "$work/messages" ] && check 'the same with messages of bytes' refuse_each messages 'each call returns'
     [ -x "$work/keep" ] && check 'the same with journals that are kept' refuse_each keep 'each journal is kept'
     [ -x "$work/compact" ] && check 'the same with journals that are made short' refuse_each compact 'each journal is made short'
+    [ -x "$work/sealed" ] && check 'the same with journals that have sums' refuse_each sealed 'each change is seen'
     [ -x "$work/full" ] && check 'the same with journals that are cut by themselves' refuse_each full 'each full journal is cut'
     [ -x "$work/requests" ] && check 'the same with threads that try again' refuse_each_again
 }
 
 rooms_from_c() {
-    for program in calls messages keep compact full threads requests; do
+    for program in calls messages keep sealed compact full threads requests; do
         check "a program in C of rooms is built: $program" compile $program "$rooms"
         [ -x "$work/$program" ] && check "rooms from C: $program" timeout 60 "$work/$program"
     done
@@ -128,7 +129,7 @@ rooms_from_c() {
     [ -x "$work/speed" ] && check 'messages are timed in C' timeout 60 "$work/speed" 2000 1
     refusals_from_c
     if has valgrind 'rooms from C without a fault of memory'; then
-        for program in calls messages keep compact full; do
+        for program in calls messages keep sealed compact full; do
             [ -x "$work/$program" ] && check "without a fault of memory: $program" is_clean "$work/$program"
         done
         [ -x "$work/requests" ] && check 'without a fault of memory: requests' is_clean "$work/requests" 5

@@ -1,5 +1,5 @@
 -- A room whose short journal is made, or is not.
-use Rattle.std.proofs.Common.{refl, ◌^◌, tt}
+use Rattle.std.proofs.Common.{refl, ◌^◌}
 use Rattle.cml_board.specs.{Refusal}
 use Rattle.cml_board.specs.declared.outcome.Refusal.TheVariants.{Gone, Busy, NoSuch, WrongKind, JournalFull, Stalled, NoMemory, Unseen}
 use Rattle.cml_compact.specs.{Stops, compact_size}

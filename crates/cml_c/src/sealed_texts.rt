@@ -91,18 +91,20 @@ fn sum_of(sum: &SeryugoSum) -> Option<Sum>
 }
 
 /// A sum as C has it.
-pub(crate) fn shown(sum: Option<Sum>) -> SeryugoSum
+fn shown(sum: Option<Sum>) -> SeryugoSum
     ensures { sum_in result ≡ sum }
 {
-    match sum {
-        Some(sum) => SeryugoSum {
-            is_there: true,
-            bytes: sum.0,
-        },
-        None => SeryugoSum {
+    let Some(sum) = sum else {
+        let bytes = [0; 32];
+        return SeryugoSum {
             is_there: false,
-            bytes: [0; 32],
-        },
+            bytes,
+        };
+    };
+    let bytes = sum.0;
+    SeryugoSum {
+        is_there: true,
+        bytes,
     }
 }
 

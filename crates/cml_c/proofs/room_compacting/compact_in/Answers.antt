@@ -1,4 +1,4 @@
-use Rattle.std.proofs.Common.{rules, inl, inr, tt}
+use Rattle.std.proofs.Common.{rules, inl, inr}
 use Rattle.cml_c.specs.declared.code.Code.TheVariants.{NoMemory}
 use Rattle.cml_c.proofs.RoomShorteningLemmas.{same_room}
 use Rattle.cml_c.proofs.room_compacting.compact_in.Goals as goal
