@@ -2,9 +2,12 @@
 
 use crate::error::Error;
 use crate::journal::Journal;
+use crate::kept::{Kept, Lines};
 use crate::raw::{self, code, written, Handle};
 use crate::room::{Bytes, Numbers, Room};
+use crate::sum::{RawSum, Sum};
 use crate::version;
+use std::alloc::{handle_alloc_error, Layout};
 use std::cell::RefCell;
 use std::fmt;
 use std::io::{self, BufRead, ErrorKind};
@@ -204,6 +207,31 @@ impl<R: Room> Checker<R> {
         unsafe { raw::seryugo_reading_end(&mut *self.handle.borrow_mut()) == code::DONE }
     }
 
+    /// The sum to go on from, if what was read has sums: pass it to [`Journal::write_sealed_to`] for the next piece. It is the sum of the
+    /// last piece. If that has no end yet, it is the sum to end it with, as [`Kept::sum`] is.
+    ///
+    /// It is `None` if nothing was read yet, if the text has no sums, or if the reading has stopped. If there is no memory, the program
+    /// aborts, as if a `Vec` found none.
+    ///
+    /// ```
+    /// let mut checker = seryugo::Checker::of_numbers()?;
+    /// let sum = "1b2989a040b7f442f39d194b93ae01cb1209205f96808f609e2e7f01432a2f2d";
+    /// checker.read(&b"journal 3\nseat 0 mailbox: made 0\nseat 1 send 0 5: done\n"[..])?;
+    /// checker.read(format!("end 2 {sum}\n").as_bytes())?;
+    /// assert_eq!(checker.sum(), sum.parse().ok());
+    /// # Ok::<(), seryugo::CheckError>(())
+    /// ```
+    pub fn sum(&self) -> Option<Sum> {
+        match unsafe { raw::seryugo_reading_end(&mut *self.handle.borrow_mut()) } {
+            code::UNLAWFUL | code::FAULT | code::NO_MEMORY => return None,
+            _ => {}
+        }
+        match self.kept() {
+            Ok(kept) => kept.sum,
+            Err(_) => handle_alloc_error(Layout::new::<Sum>()),
+        }
+    }
+
     /// A short journal that leaves what the journal leaves which was read: the same objects, with the same messages still to be
     /// received. Whatever may follow the long journal may follow the short one, with the same replies, and nothing else.
     ///
@@ -250,14 +278,10 @@ impl<R: Room> Checker<R> {
         written(|count| call(&mut self.handle.borrow_mut(), count)).unwrap_or_default()
     }
 
-    /// What of the text is in whole lines.
-    pub(crate) fn kept(&self) -> Kept {
-        let entries = self.entries();
-        Kept {
-            entries,
-            bytes: self.lines.whole,
-            ending: self.lines.ending(entries),
-        }
+    /// What of the text is in whole lines. Nothing that was read had a fault.
+    pub(crate) fn kept(&self) -> Result<Kept, Error> {
+        let sum = RawSum::written(|sum| unsafe { raw::seryugo_reading_sum(&mut *self.handle.borrow_mut(), sum) })?;
+        Ok(self.lines.kept(self.entries(), sum))
     }
 
     /// A room with what was read. Nothing that was read had a fault.
@@ -270,71 +294,5 @@ impl<R: Room> Checker<R> {
 impl<R: Room> fmt::Debug for Checker<R> {
     fn fmt(&self, f: &mut fmt::Formatter<'_>) -> fmt::Result {
         f.debug_struct("Checker").field("entries", &self.entries()).finish_non_exhaustive()
-    }
-}
-
-/// The part of a journal's text that has whole lines, as [`Switchboard::restore_torn`](crate::Switchboard::restore_torn) returns it.
-///
-/// ```
-/// use seryugo::{Numbers, RestoreError, Switchboard};
-///
-/// # fn main() -> Result<(), RestoreError> {
-/// let (_, kept) = Switchboard::<Numbers>::restore_torn(&b"journal 1\nseat 0 mailbox: made 0\nseat 0 se"[..], 1_000)?;
-/// assert_eq!((kept.entries, kept.bytes, kept.ending.as_str()), (1, 33, "end 1\n"));
-/// # Ok(())
-/// # }
-/// ```
-#[derive(Clone, Debug, PartialEq, Eq)]
-pub struct Kept {
-    /// How many entries it has.
-    pub entries: u64,
-    /// How many bytes it has. Cut the text there.
-    pub bytes: u64,
-    /// The lines that end its last piece. Write them behind these bytes, and the text is a whole journal. They are empty if the
-    /// last piece has its end.
-    pub ending: String,
-}
-
-/// Where the text's lines end.
-#[derive(Default)]
-struct Lines {
-    bytes: u64,
-    /// How many bytes the whole lines have.
-    whole: u64,
-    /// The first byte of the line that has no end yet, and that of the last line that has one.
-    open: Option<u8>,
-    last: Option<u8>,
-}
-
-impl Lines {
-    fn note(&mut self, part: &[u8]) {
-        let Some(end) = part.iter().rposition(|byte| *byte == b'\n') else {
-            self.begin(part);
-            return;
-        };
-        let lines = &part[..end];
-        match lines.iter().rposition(|byte| *byte == b'\n') {
-            Some(before) => self.last = lines.get(before + 1).copied(),
-            None => self.last = self.open.or(lines.first().copied()),
-        }
-        self.whole = self.bytes + end as u64 + 1;
-        self.open = None;
-        self.bytes = self.whole;
-        self.begin(&part[end + 1..]);
-    }
-
-    /// Bytes of a line that doesn't end among them.
-    fn begin(&mut self, part: &[u8]) {
-        self.open = self.open.or(part.first().copied());
-        self.bytes += part.len() as u64;
-    }
-
-    /// What ends the last piece, by how its last line begins: with `journal`, `end`, or another word.
-    fn ending(&self, entries: u64) -> String {
-        match self.last {
-            None | Some(b'e') => String::new(),
-            Some(b'j') if entries > 0 => format!("from {entries}\nend {entries}\n"),
-            Some(_) => format!("end {entries}\n"),
-        }
     }
 }

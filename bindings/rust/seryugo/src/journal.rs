@@ -5,6 +5,7 @@ use crate::error::Error;
 use crate::raw::Handle;
 use crate::received::Received;
 use crate::room::{Bytes, Room};
+use crate::sum::Sum;
 use std::cell::RefCell;
 use std::fmt;
 use std::io::{self, ErrorKind, Write};
@@ -117,6 +118,8 @@ impl<R: Room> Journal<R> {
     /// behind the other, and [`Checker`](crate::Checker) and [`Switchboard::restore`](crate::Switchboard::restore) read them. It
     /// flushes nothing.
     ///
+    /// Not all damage of such a text is seen. That of a [sealed](Journal::write_sealed_to) one is.
+    ///
     /// Errors: `InvalidData`, with [`Error::TooLong`] inside, if a message is so long that no reader would take its line, and then
     /// nothing is written; `OutOfMemory` if there is no memory for the text, or it would have 2^32 bytes or more; and what `to`
     /// fails with.
@@ -134,12 +137,79 @@ impl<R: Room> Journal<R> {
     /// # }
     /// ```
     pub fn write_to(&self, to: &mut impl Write) -> io::Result<()> {
-        let text = Received::text_of(&mut self.handle.borrow_mut(), self.first).map_err(|error| match error {
-            Error::TooLong => io::Error::new(ErrorKind::InvalidData, error),
-            // No journal has a position of 2^64, so that nothing else but memory can be refused.
-            _ => ErrorKind::OutOfMemory.into(),
-        })?;
+        self.write_at(self.first, to)
+    }
+
+    /// Writes the piece as [`write_to`](Journal::write_to) does, with its first entry at this position of the text, in place of
+    /// [`first`](Journal::first).
+    ///
+    /// Errors: those of `write_to`; and `InvalidInput` if the position behind the last entry would be 2^64 or more.
+    ///
+    /// ```
+    /// # fn main() -> Result<(), Box<dyn std::error::Error>> {
+    /// # let board = seryugo::Switchboard::of_numbers(1_000)?;
+    /// board.seat()?.mailbox::<u64>()?;
+    /// let mut text = Vec::new();
+    /// board.take_journal()?.write_at(7, &mut text)?;
+    /// assert_eq!(text, b"journal 1\nfrom 7\nseat 0 mailbox: made 0\nend 8\n");
+    /// # Ok(())
+    /// # }
+    /// ```
+    pub fn write_at(&self, position: u64, to: &mut impl Write) -> io::Result<()> {
+        let text = Received::text_of(&mut self.handle.borrow_mut(), position).map_err(unwritten)?;
         to.write_all(text.as_slice())
+    }
+
+    /// Writes the entries as a piece with a sum, by which damage is always seen. `after` is the sum of the piece before, and `None` for
+    /// the first piece of a text. Returns the sum of this piece.
+    ///
+    /// All pieces of a text have sums, or none has. If a reader finds a byte changed, or a piece left out, doubled or exchanged, it has a
+    /// fault. The last sum names the whole text: keep it elsewhere, and nobody can write another text in its place unseen.
+    ///
+    /// Errors: those of [`write_to`](Journal::write_to). After one the piece isn't written: the next one follows `after`.
+    ///
+    /// ```
+    /// use seryugo::{Numbers, Switchboard};
+    ///
+    /// # fn main() -> Result<(), Box<dyn std::error::Error>> {
+    /// let board = Switchboard::of_numbers(1_000)?;
+    /// let mut seat = board.seat()?;
+    /// let mailbox = seat.mailbox::<u64>()?;
+    /// let mut text = Vec::new();
+    /// let sum = board.take_journal()?.write_sealed_to(None, &mut text)?;
+    /// assert!(text.ends_with(format!("end 1 {sum}\n").as_bytes()));
+    /// seat.send(mailbox, 5)?;
+    /// board.take_journal()?.write_sealed_to(Some(sum), &mut text)?;
+    /// assert!(Switchboard::<Numbers>::restore(&text[..], 1_000).is_ok());
+    /// text[30] ^= 1;
+    /// assert!(Switchboard::<Numbers>::restore(&text[..], 1_000).is_err());
+    /// # Ok(())
+    /// # }
+    /// ```
+    pub fn write_sealed_to(&self, after: Option<Sum>, to: &mut impl Write) -> io::Result<Sum> {
+        self.write_sealed_at(self.first, after, to)
+    }
+
+    /// Writes the piece as [`write_sealed_to`](Journal::write_sealed_to) does, with its first entry at this position of the text, in
+    /// place of [`first`](Journal::first).
+    ///
+    /// Errors: those of [`write_at`](Journal::write_at).
+    ///
+    /// ```
+    /// # fn main() -> Result<(), Box<dyn std::error::Error>> {
+    /// # let board = seryugo::Switchboard::of_numbers(1_000)?;
+    /// board.seat()?.mailbox::<u64>()?;
+    /// let mut text = Vec::new();
+    /// let sum = board.take_journal()?.write_sealed_at(7, Some([9; 32].into()), &mut text)?;
+    /// let header = format!("journal 3 {}\n", "09".repeat(32));
+    /// assert_eq!(text, format!("{header}from 7\nseat 0 mailbox: made 0\nend 8 {sum}\n").as_bytes());
+    /// # Ok(())
+    /// # }
+    /// ```
+    pub fn write_sealed_at(&self, position: u64, after: Option<Sum>, to: &mut impl Write) -> io::Result<Sum> {
+        let (text, sum) = Received::sealed_text_of(&mut self.handle.borrow_mut(), position, after).map_err(unwritten)?;
+        to.write_all(text.as_slice())?;
+        Ok(sum)
     }
 
     /// Each entry, oldest first.
@@ -157,6 +227,15 @@ impl<R: Room> Journal<R> {
             journal: self,
             places: 0..self.len,
         }
+    }
+}
+
+/// Why there is no text.
+fn unwritten(error: Error) -> io::Error {
+    match error {
+        Error::TooLong => io::Error::new(ErrorKind::InvalidData, error),
+        Error::OutOfBounds => io::Error::new(ErrorKind::InvalidInput, error),
+        _ => ErrorKind::OutOfMemory.into(),
     }
 }
 

@@ -81,6 +81,7 @@
 #![warn(missing_docs)]
 
 mod apart;
+mod appending;
 mod backoff;
 mod bytes;
 mod calls;
@@ -92,6 +93,7 @@ mod feed;
 mod inside;
 mod iter;
 mod journal;
+mod kept;
 mod lane;
 mod message;
 mod names;
@@ -106,6 +108,7 @@ mod room;
 #[cfg(feature = "scripts")]
 mod script;
 mod seat;
+mod sum;
 mod switchboard;
 mod version;
 mod waiting;
@@ -113,12 +116,13 @@ mod want;
 mod when_full;
 mod yields;
 
-pub use checker::{CheckError, Checker, Kept};
+pub use checker::{CheckError, Checker};
 pub use entry::{Call, Entry, Reply, Who};
 pub use error::{Error, SendError};
 pub use feed::Feed;
 pub use iter::{Iter, TryIter};
 pub use journal::{Entries, Journal};
+pub use kept::Kept;
 pub use lane::{Lane, UnclosedLane};
 pub use message::Message;
 pub use names::{Channel, IVar, MVar, Mailbox, Object, Port, Source, Target, Variable};
@@ -127,6 +131,7 @@ pub use room::{Bytes, Carries, Numbers, Room};
 #[cfg(feature = "scripts")]
 pub use script::{replay, BadLimit, End, Replayed, MOST_ENTRIES};
 pub use seat::Seat;
+pub use sum::{BadSum, Sum};
 pub use switchboard::Switchboard;
 pub use version::Version;
 pub use when_full::WhenFull;

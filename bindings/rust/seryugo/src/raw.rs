@@ -2,6 +2,7 @@
 //! is dropped. `numbers` and `bytes` have the others.
 
 use crate::error::Error;
+use crate::sum::RawSum;
 use std::mem::ManuallyDrop;
 use std::os::raw::c_void;
 use std::ptr;
@@ -84,6 +85,7 @@ extern "C" {
     pub fn seryugo_reading_take_from(reading: *mut Handle, at: *const c_void, length: usize) -> u32;
     pub fn seryugo_reading_entries(reading: *mut Handle, count: *mut u64) -> u32;
     pub fn seryugo_reading_lines(reading: *mut Handle, lines: *mut u64) -> u32;
+    pub fn seryugo_reading_sum(reading: *mut Handle, sum: *mut RawSum) -> u32;
     pub fn seryugo_reading_end(reading: *mut Handle) -> u32;
     pub fn seryugo_room_restore(reading: *mut Handle, limit: u64, room: *mut Handle) -> u32;
     pub fn seryugo_reading_compact(reading: *mut Handle, journal: *mut Handle, count: *mut u64) -> u32;

@@ -5,6 +5,7 @@ use crate::error::Error;
 use crate::numbers::RawMaker;
 use crate::raw::{done, Handle};
 use crate::room::Bytes;
+use crate::sum::{RawSum, Sum};
 use std::mem::MaybeUninit;
 use std::os::raw::c_void;
 use std::slice;
@@ -63,6 +64,14 @@ impl Received {
         let mut text = Slot::new();
         done(unsafe { seryugo_journal_text(journal, from, text.as_mut_ptr()) })?;
         Ok(unsafe { Received::taken(&mut text) })
+    }
+
+    /// The same with sums: behind the piece that has the first sum. Returns this piece's sum, too.
+    pub fn sealed_text_of(journal: &mut Handle, from: u64, after: Option<Sum>) -> Result<(Received, Sum), Error> {
+        let mut text = Slot::new();
+        let mut sum = RawSum::from(after);
+        done(unsafe { seryugo_sealed_text(journal, from, &mut sum, text.as_mut_ptr()) })?;
+        Ok((unsafe { Received::taken(&mut text) }, sum.sum()))
     }
 
     #[inline]
@@ -161,4 +170,5 @@ unsafe fn bytes_at(place: &RawPlace) -> &[u8] {
 extern "C" {
     fn seryugo_bytes_release(owner: Share);
     fn seryugo_journal_text(journal: *mut Handle, from: u64, text: *mut RawBytes) -> u32;
+    fn seryugo_sealed_text(journal: *mut Handle, from: u64, sum: *mut RawSum, text: *mut RawBytes) -> u32;
 }

@@ -1,7 +1,8 @@
 //! A switchboard that goes on from a journal's text.
 
-use crate::checker::{CheckError, Checker, Kept};
+use crate::checker::{CheckError, Checker};
 use crate::error::Error;
+use crate::kept::Kept;
 use crate::room::Room;
 use crate::switchboard::Switchboard;
 use std::fmt;
@@ -57,6 +58,8 @@ impl<R: Room> Switchboard<R> {
     /// Find the objects again by their numbers ([`mailbox`](Switchboard::mailbox) and so on). The seats, lanes and feeds of the
     /// journal are gone. New ones have numbers that the journal doesn't have.
     ///
+    /// If the journal has sums, the next piece needs the last one: call [`restore_torn`](Switchboard::restore_torn), which returns it.
+    ///
     /// Errors: the journal isn't lawful, or has a fault, or ends in the middle.
     ///
     /// ```
@@ -83,14 +86,16 @@ impl<R: Room> Switchboard<R> {
     pub fn restore(journal: impl BufRead, limit: u64) -> Result<Switchboard<R>, RestoreError> {
         let checker = checked(journal)?;
         if !checker.is_whole() {
-            return Err(RestoreError::Torn(checker.kept()));
+            return Err(RestoreError::Torn(checker.kept().map_err(CheckError::from)?));
         }
         restored(checker, limit)
     }
 
     /// The same of a journal that may end in the middle, as after a crash. The switchboard goes on from the last whole line.
     ///
-    /// Before you write the next piece, cut the text to the bytes that were kept, and write their ending.
+    /// Before you write the next piece, cut the text to the bytes that were kept, and write their ending. If the text has sums, write
+    /// the next piece by [`Journal::write_sealed_to`](crate::Journal::write_sealed_to) behind [`Kept::sum`]. This holds of a whole text
+    /// too.
     ///
     /// ```
     /// use seryugo::{Numbers, Switchboard};
@@ -108,7 +113,7 @@ impl<R: Room> Switchboard<R> {
     /// ```
     pub fn restore_torn(journal: impl BufRead, limit: u64) -> Result<(Switchboard<R>, Kept), RestoreError> {
         let checker = checked(journal)?;
-        let kept = checker.kept();
+        let kept = checker.kept().map_err(CheckError::from)?;
         Ok((restored(checker, limit)?, kept))
     }
 }

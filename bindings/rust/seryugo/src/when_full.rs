@@ -1,12 +1,13 @@
 //! What becomes of a full journal.
 
+use crate::appending::Appending;
 use crate::error::Error;
 use crate::journal::Journal;
 use crate::raw::{self, done, written, Handle};
 use crate::room::{Bytes, Room};
 use std::fmt;
 use std::fs::File;
-use std::io::{self, Seek, SeekFrom};
+use std::io;
 use std::mem;
 
 /// What a switchboard does if a call finds its journal full. See [`Switchboard::when_full`](crate::Switchboard::when_full).
@@ -81,7 +82,12 @@ impl<R: Room> WhenFull<R> {
         WhenFull::Give(Box::new(taker))
     }
 
-    /// Writes the entries to a file, and syncs it before the call is made. If that fails, it cuts the file to what it had.
+    /// Appends the entries to a file, and syncs it before the call is made. If that fails, it cuts the file to what it had.
+    ///
+    /// An empty file gets pieces with sums, as [`Journal::write_sealed_to`] writes them. A file that has such pieces, or pieces without
+    /// sums, gets more of them. Open it for reading too: the last line, which has the last sum, is read before the first piece is
+    /// written. If that isn't the end of a piece, nothing is written: cut off first what is torn
+    /// ([`restore_torn`](crate::Switchboard::restore_torn)).
     ///
     /// Send no message of 371,000 bytes or more. It may be [`TooLong`](Error::TooLong) to be written: then each call from there on fails
     /// with [`NotKept`](Error::NotKept). At the end call [`keep`](crate::Switchboard::keep): a switchboard that is dropped writes nothing.
@@ -95,8 +101,9 @@ impl<R: Room> WhenFull<R> {
     /// # Ok(())
     /// # }
     /// ```
-    pub fn file(mut file: File) -> WhenFull<R> {
-        WhenFull::call(move |journal| append(&mut file, journal))
+    pub fn file(file: File) -> WhenFull<R> {
+        let mut file = Appending::to(file);
+        WhenFull::call(move |journal| file.append(journal))
     }
 }
 
@@ -109,17 +116,6 @@ impl<R: Room> fmt::Debug for WhenFull<R> {
             WhenFull::Give(_) => "Give(..)",
         })
     }
-}
-
-/// Writes a journal where the file ends. A torn piece would make all behind it unreadable, so that none is left there.
-fn append<R: Room>(file: &mut File, journal: &Journal<R>) -> io::Result<()> {
-    let end = file.seek(SeekFrom::End(0))?;
-    let written = journal.write_to(file).and_then(|()| file.sync_data());
-    if written.is_err() {
-        // If this fails too, the error still says why the entries weren't written.
-        let _ = file.set_len(end);
-    }
-    written
 }
 
 /// Keeps the entries of full journals for the switchboard's owner.
