@@ -79,8 +79,9 @@ killed() {
 
 # A piece is begun, of which the disk has only some bytes.
 tear() {
-    end=$(sed -n '$s/^end //p' "$journal")
-    [ "${end:-0}" -eq 0 ] || printf 'journal 1\nfrom %s\nseat 1 send 2 ' "$end" | head -c "$(any 40)" >> "$journal"
+    end=$(sed -n '$s/^end \([0-9]*\) .*/\1/p' "$journal")
+    sum=$(sed -n '$s/^end [0-9]* //p' "$journal")
+    [ "${end:-0}" -eq 0 ] || printf 'journal 3 %s\nfrom %s\nseat 1 send 2 ' "$sum" "$end" | head -c "$(any 120)" >> "$journal"
 }
 
 # ends MESSAGES: one run that ends.

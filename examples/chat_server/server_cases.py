@@ -2,6 +2,7 @@
 clients.
 """
 
+import hashlib
 import os
 import pathlib
 import random
@@ -15,6 +16,17 @@ import time
 FOLDER = pathlib.Path(__file__).resolve().parent
 sys.path.insert(0, str(FOLDER.parents[1] / "tests/lib"))
 from cases import TOP, Cases, wait_until  # noqa: E402
+
+
+def sealed(*lines):
+    """A journal of one piece with these entries, in lines."""
+    text = "".join(f"{line}\n" for line in ("journal 4", *lines))
+    return f"{text}end {len(lines)} {hashlib.sha256(text.encode()).hexdigest()}\n"
+
+
+def last_words(path):
+    """The words of a journal's last line: `end`, how many entries there are, and the last sum."""
+    return path.read_text().splitlines()[-1].split()
 
 
 class Client:
@@ -189,7 +201,7 @@ class ServerCases(Cases):
     def lawful(self, name):
         """A case: the journal is lawful, and as long as its last line says."""
         if self.checker:
-            length = self.journal.read_text().splitlines()[-1].removeprefix("end ")
+            length = last_words(self.journal)[1]
             with open(self.journal, "rb") as journal:
                 checked = self.run_program(*self.checker, stdin=journal)
             self.expect(f"the journal is lawful: {name}", checked, 0, f"lawful {length}", "")
@@ -212,6 +224,12 @@ class ServerCases(Cases):
         self.refuses(name, 5, error, "--listen", "127.0.0.1:0", "--journal", other)
         with self.case(f"{name}: the file stays"):
             self.assertEqual(other.read_text(), text)
+
+    def settles(self):
+        """Waits until the server has written all that it made."""
+        size = None
+        while size != (size := self.journal.stat().st_size):
+            time.sleep(1.5)
 
     def setUp(self):
         self.journal = self.work / f"journal.{self._testMethodName}"

@@ -12,7 +12,7 @@ import re
 import sys
 import time
 
-from server_cases import ServerCases
+from server_cases import Client, ServerCases, last_words, sealed
 from test_compaction import Compaction
 
 from cases import has, left_out, main, wait_until  # isort: skip
@@ -23,6 +23,9 @@ LEAST_RATE = 2000
 # How often the server is killed while a hundred clients talk, and how many connections that must
 # cost at the least.
 KILLS, LEAST_LOST = 6, 100
+
+# How many bytes of a file are changed, one at a time.
+CHANGES = 200
 
 
 class ChatServer(ServerCases):
@@ -86,31 +89,66 @@ class ChatServer(ServerCases):
         )
         in_use = f"chat_server: {self.journal}: another server has the file"
         self.refuses("a file in use", 6, in_use, *anywhere, "--journal", self.journal)
-        missing = "line 1 has `Shopping`, and `journal 2` was expected there"
-        self.no_journal("a text", "Shopping\nmilk\n", missing)
-        self.no_journal("a text of one line without its end", "milk")
-        numbers = "journal 1\nseat 0 mailbox: made 0\nend 1\n"
-        self.no_journal("a journal of numbers", numbers, "line 1 is `journal 1`: its messages are")
-        later = "line 1 is `journal 9`: this server reads version 2"
-        self.no_journal("a journal of a later version", "journal 9\nend 0\n", later)
-        self.no_journal(
-            "a journal of another program", "journal 2\nseat 0 mailbox: made 0\nend 1\n"
-        )
-        begun = "journal 2\nseat 0 mvar =chat%202: made 0\n"
-        unlawful = "line 3 has `seat 0 recv 0: =a`, which no switchboard answers behind the 1 entries"
-        self.no_journal("an unlawful journal", f"{begun}seat 0 recv 0: =a\nend 2\n", unlawful)
-        damaged = "line 3 has `seat O put 0 =a: done`, and an entry, as"
-        self.no_journal("a damaged journal", f"{begun}seat O put 0 =a: done\nend 2\n", damaged)
-        self.no_journal(
-            "a journal with a record of nothing", f"{begun}seat 0 mvar =room%20a: made 1\nend 2\n"
-        )
-        sent = f"{begun}seat 0 mailbox: made 1\nseat 0 send 1 =ann%20hello: done\n"
-        self.no_journal("a message without a number", f"{sent}end 3\n", "a message of the journal")
-        sent = sent.replace("=ann", "=7%20ann")
-        gap = f"{sent}seat 0 send 1 =9%20ann%20hello: done\nend 4\n"
-        self.no_journal("a message that is missing", gap, "a message of the journal")
+        self.no_journals()
         self.expect("help", self.run_program(self.program, "--help"), 0, True, "")
         self.crash()
+
+    def no_journals(self):
+        """Cases: files that are no journals of a chat server."""
+        missing = "line 1 has `Shopping`, and `journal 4` was expected there"
+        self.no_journal("a text", "Shopping\nmilk\n", missing)
+        self.no_journal("a text of one line without its end", "milk", "line 1 has `milk`")
+        numbers = "journal 1\nseat 0 mailbox: made 0\nend 1\n"
+        self.no_journal("a journal of numbers", numbers, "line 1 is `journal 1`: its messages are")
+        plain = "journal 2\nseat 0 mvar =chat%202: made 0\nend 1\n"
+        self.no_journal("a journal without sums", plain, "line 1 is `journal 2`: it has no sums")
+        later = "line 1 is `journal 9`: this server reads version 4"
+        self.no_journal("a journal of a later version", "journal 9\nend 0\n", later)
+        self.no_journal("a journal of another program", sealed("seat 0 mailbox: made 0"))
+        chat = "seat 0 mvar =chat%202: made 0"
+        unlawful = "line 3 has `seat 0 recv 0: =a`, which no switchboard answers behind the 1 entries"
+        self.no_journal("an unlawful journal", sealed(chat, "seat 0 recv 0: =a"), unlawful)
+        damaged = "line 3 has `seat O put 0 =a: done`, and an entry, as"
+        self.no_journal("a damaged journal", sealed(chat, "seat O put 0 =a: done"), damaged)
+        room = "seat 0 mvar =room%20a: made 1"
+        self.no_journal("a journal with a record of nothing", sealed(chat, room))
+        sent = (chat, "seat 0 mailbox: made 1", "seat 0 send 1 =7%20ann%20hello: done")
+        unnumbered = sealed(*sent[:2], "seat 0 send 1 =ann%20hello: done")
+        self.no_journal("a message without a number", unnumbered, "a message of the journal")
+        gap = sealed(*sent, "seat 0 send 1 =9%20ann%20hello: done")
+        self.no_journal("a message that is missing", gap, "a message of the journal")
+        other = sealed(*sent).replace("hello", "hallo")
+        changed = "isn't the sum of the lines 1 to 4: they aren't as they were\n"
+        self.no_journal("a letter that was changed", other, "line 5 has `end 3 ")
+        with self.case("a letter that was changed: the lines are named"):
+            words = (self.program, "--listen", "127.0.0.1:0", "--journal", self.work / "other")
+            self.assertEqual(self.run_program(*words).errors()[-len(changed) :], changed)
+
+    def test_each_change_is_seen(self):
+        """A change of any byte of the file is refused at the start, with a line."""
+        self.begin("--entry-limit", 20)
+        ann, ben = (Client(self.address, name) for name in ("ann", "ben"))
+        for client in ann, ben:
+            client.ask("/join kitchen")
+        for number in range(7, 60):
+            ann.ask(f"We need {number} eggs, and {number * number} g of flour.")
+        ann.quit()
+        self.settles()
+        self.crash()
+        whole = self.journal.read_bytes()
+        other = self.work / "changed"
+        words = (self.program, "--listen", "127.0.0.1:0", "--journal", other)
+        refused = f"chat_server: {other} is no journal of a chat server: line "
+        # A text without its last line feed is torn, and no entry of it is lost.
+        places = sorted(random.sample(range(len(whole) - 1), CHANGES))
+        for place in places:
+            changed = bytearray(whole)
+            changed[place] ^= random.choice((1, 2, 4, 8, 16, 32, 64, 128))
+            other.write_bytes(changed)
+            ended = self.run_program(*words)
+            with self.case(f"byte {place} is changed to {changed[place]}"):
+                self.assertEqual(ended.status, 5, ended.errors())
+                self.assertEqual(ended.errors()[: len(refused)], refused)
 
     def test_restarts(self):
         """What one server leaves and the next one finds.
@@ -120,10 +158,10 @@ class ChatServer(ServerCases):
         self.begin()
         self.loads("before")
         self.crash()
-        end = self.journal.read_text().splitlines()[-1].removeprefix("end ")
-        torn = f"journal 2\nfrom {end}\nseat 1 send 2 =kept-ben%20never"
+        _, end, last = last_words(self.journal)
+        torn = f"journal 4 {last}\nfrom {end}\nseat 1 send 2 =kept-ben%20never"
         with open(self.journal, "a") as journal:
-            journal.write(torn[: random.randrange(50)])
+            journal.write(torn[: random.randrange(120)])
         self.begin()
         self.loads("after")
         self.crash()
@@ -136,7 +174,7 @@ class ChatServer(ServerCases):
         that was ended by its port alone.
         """
         lines = [
-            "journal 2",
+            "journal 4",
             "seat 0 mvar =chat%202: made 0",
             "seat 0 mailbox: made 1",
             "seat 0 channel: made 2",

@@ -46,12 +46,6 @@ class Compaction(ServerCases):
                     return
             self.fail(self.server.errors())
 
-    def settles(self):
-        """Waits until the server has written all that it made."""
-        size = None
-        while size != (size := self.journal.stat().st_size):
-            time.sleep(1.5)
-
     def test_numbers_go_on(self):
         """Clients that wait, that went, and that come back get each message, with its number."""
         options = ("--compact-from", 20000, "--history-limit", 50)
@@ -156,7 +150,7 @@ class Compaction(ServerCases):
         other = self.work / "left_over"
         other.write_text("it stays")
         for leave in (
-            lambda: self.beside.write_text("journal 2\nseat 0 mvar =chat%2"),
+            lambda: self.beside.write_text("journal 4\nseat 0 mvar =chat%2"),
             lambda: self.beside.symlink_to(other),
         ):
             leave()

@@ -252,7 +252,7 @@ mod tests {
     use std::{env, process};
 
     fn text_of(numbers: std::ops::RangeInclusive<u64>) -> Vec<u8> {
-        let mut text = b"journal 2\nseat 0 mailbox: made 0\n".to_vec();
+        let mut text = b"journal 4\nseat 0 mailbox: made 0\n".to_vec();
         for number in numbers {
             text.extend_from_slice(format!("seat 0 send 0 ={number}%20ann%20line%20{number}: done\n").as_bytes());
             text.extend_from_slice(format!("seat 0 send 7 ={number}%20ben%20{number}: done\n").as_bytes());

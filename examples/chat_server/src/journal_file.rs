@@ -2,16 +2,15 @@
 
 use crate::damage;
 use crate::failure::Failure;
-use crate::journal_text::moved;
 use crate::progress::Progress;
-use seryugo::{CheckError, Journal, Kept, RestoreError, Switchboard};
+use seryugo::{CheckError, Journal, Kept, RestoreError, Sum, Switchboard};
 use std::fs::{self, OpenOptions, TryLockError};
 use std::io::{self, BufRead, ErrorKind, Read, Seek, SeekFrom, Write};
 use std::os::unix::fs::MetadataExt;
 use std::path::{Path, PathBuf};
 
-/// How a journal of bytes begins.
-const HEADER: &[u8] = b"journal 2\n";
+/// How a journal of bytes begins whose pieces have sums.
+const HEADER: &[u8] = b"journal 4\n";
 
 /// The file is made short if the short journal has at most this part of its entries.
 const PART: u64 = 4;
@@ -24,6 +23,8 @@ pub struct JournalFile {
     file: fs::File,
     length: u64,
     entries: u64,
+    /// The sum of the last piece, which the next one names.
+    sum: Option<Sum>,
     /// A file with fewer entries isn't made short.
     look_at: u64,
 }
@@ -41,6 +42,9 @@ impl JournalFile {
         let file = open_locked(path)?;
         let real = fs::canonicalize(path).map_err(fail)?;
         let length = file.metadata().map_err(fail)?.len();
+        if !begins_a_journal(&file).map_err(fail)? {
+            return Err(failure(path, &file, CheckError::Fault(1).into()));
+        }
         let (board, kept) = Switchboard::restore_torn(Progress::new(&file, path, length), limit)
             .map_err(|error| failure(path, &file, error))?;
         let file = JournalFile {
@@ -49,34 +53,18 @@ impl JournalFile {
             file,
             length: kept.bytes,
             entries: board.entries(),
+            sum: kept.sum,
             look_at: 0,
         };
-        if kept.bytes == 0 && !file.begins_a_journal().map_err(fail)? {
-            return Err(Failure::NoJournal(path.to_owned(), "its first line isn't `journal 2`".to_owned()));
-        }
         Ok((Opened { file, kept }, board))
-    }
-
-    /// Whether a file without a whole line is empty, or was torn in its first line.
-    fn begins_a_journal(&self) -> io::Result<bool> {
-        let mut text = Vec::new();
-        (&self.file).seek(SeekFrom::Start(0))?;
-        (&self.file).take(HEADER.len() as u64).read_to_end(&mut text)?;
-        Ok(HEADER.starts_with(&text))
     }
 
     /// Adds the text of a piece that is to be appended, and counts its entries. If a short journal was made in vain, the piece counts
     /// from the beginning of that one, but its text from the file's.
     pub fn add_text(&mut self, text: &mut Vec<u8>, piece: &Journal) -> Result<(), Failure> {
-        let mut own = Vec::new();
-        piece.write_to(&mut own).map_err(|error| self.failure(error))?;
-        let (first, entries) = (piece.first(), piece.len() as u64);
-        if first != self.entries {
-            let foreign = || self.failure(io::Error::new(ErrorKind::InvalidData, "a piece of the journal isn't one"));
-            own = moved(&own, entries, first, self.entries).ok_or_else(foreign)?;
-        }
-        text.append(&mut own);
-        self.entries += entries;
+        let written = piece.write_sealed_at(self.entries, self.sum, text);
+        self.sum = Some(written.map_err(|error| self.failure(error))?);
+        self.entries += piece.len() as u64;
         Ok(())
     }
 
@@ -103,11 +91,11 @@ impl JournalFile {
         self.entries >= PART * entries
     }
 
-    /// Puts this text of a short journal in the file's place. The disk has all of it before the name is the new file's, so that a
+    /// Puts this text of a short journal, with this sum, in the file's place. The disk has all of it before the name is the new file's, so that a
     /// killed server leaves the one file or the other.
     ///
     /// Errors: the new file can't be written. Then the old one stays.
-    pub fn replace(&mut self, text: &[u8], entries: u64) -> io::Result<()> {
+    pub fn replace(&mut self, text: &[u8], entries: u64, sum: Sum) -> io::Result<()> {
         let beside = beside(&self.real);
         let replaced = self.write_beside(&beside, text).and_then(|file| {
             fs::rename(&beside, &self.real)?;
@@ -116,6 +104,7 @@ impl JournalFile {
         match replaced {
             Ok(file) => {
                 (self.file, self.length, self.entries) = (file, text.len() as u64, entries);
+                self.sum = Some(sum);
                 self.look_at = PART * entries;
                 Ok(())
             }
@@ -204,6 +193,14 @@ fn open_locked(path: &Path) -> Result<fs::File, Failure> {
             Err(error) => return Err(fail(error)),
         }
     }
+}
+
+/// Whether a file is empty, begins as a journal does, or was torn in its first line. It is read from there on.
+fn begins_a_journal(mut file: &fs::File) -> io::Result<bool> {
+    let mut text = Vec::new();
+    file.take(HEADER.len() as u64).read_to_end(&mut text)?;
+    file.seek(SeekFrom::Start(0))?;
+    Ok(HEADER.starts_with(&text))
 }
 
 /// The path of the file that is to replace this one.

@@ -44,14 +44,6 @@ pub fn decode(word: &[u8]) -> Option<Vec<u8>> {
     Some(bytes)
 }
 
-/// A piece's text with so many entries from position `first` on, as it is from position `at` on. Neither is 0.
-pub fn moved(piece: &[u8], entries: u64, first: u64, at: u64) -> Option<Vec<u8>> {
-    let lines = piece.strip_prefix(format!("journal 2\nfrom {first}\n").as_bytes())?;
-    let lines = lines.strip_suffix(format!("end {}\n", first + entries).as_bytes())?;
-    let (head, end) = (format!("journal 2\nfrom {at}\n"), format!("end {}\n", at + entries));
-    Some([head.as_bytes(), lines, end.as_bytes()].concat())
-}
-
 #[cfg(test)]
 mod tests {
     use super::*;
@@ -65,7 +57,7 @@ mod tests {
         assert_eq!(multicast, Some(Line::Multicast(3, b"=7%20ann%20hello")));
         for other in [
             "",
-            "journal 2",
+            "journal 4",
             "end 4",
             "from 4",
             "seat 0 mailbox: made 0",
@@ -97,16 +89,6 @@ mod tests {
             b"=18446744073709551616%20ann",
         ] {
             assert_eq!(number(wrong), None);
-        }
-    }
-
-    #[test]
-    fn a_piece_is_moved() {
-        let text = b"journal 2\nfrom 9\nseat 0 mailbox: made 3\nend 10\n";
-        let wanted = b"journal 2\nfrom 99\nseat 0 mailbox: made 3\nend 100\n";
-        assert_eq!(moved(text, 1, 9, 99).as_deref(), Some(&wanted[..]));
-        for (entries, first) in [(1, 8), (2, 9), (0, 9)] {
-            assert_eq!(moved(text, entries, first, 99), None);
         }
     }
 }

@@ -287,7 +287,7 @@ fn replace(file: &mut JournalFile, history: &History, short: &Journal) -> Result
         return Ok(());
     }
     let mut text = Vec::new();
-    let replaced = short.write_to(&mut text).and_then(|()| file.replace(&text, entries));
+    let replaced = short.write_sealed_to(None, &mut text).and_then(|sum| file.replace(&text, entries, sum));
     if let Err(error) = replaced {
         tell_goes_on(&error);
         return Ok(());

@@ -1,6 +1,6 @@
 //! The file that keeps the journal.
 
-use seryugo::{Journal, Numbers, Switchboard};
+use seryugo::{Journal, Numbers, Sum, Switchboard};
 use std::error::Error;
 use std::fs::{self, OpenOptions};
 use std::io::{self, BufReader, Seek, SeekFrom, Write};
@@ -10,6 +10,8 @@ use std::path::Path;
 pub struct File {
     journal: fs::File,
     kept: fs::File,
+    /// The sum of the last piece, which the next one names.
+    sum: Option<Sum>,
 }
 
 impl File {
@@ -21,17 +23,22 @@ impl File {
         let mut journal = options.open(folder.join("journal"))?;
         let kept = options.open(folder.join("kept"))?;
         let (board, whole) = Switchboard::restore_torn(BufReader::with_capacity(1 << 16, &journal), limit)?;
+        if whole.bytes > 0 && whole.sum.is_none() {
+            return Err("the journal has no sums".into());
+        }
         journal.set_len(whole.bytes)?;
         journal.write_all(whole.ending.as_bytes())?;
         journal.sync_data()?;
-        Ok((File { journal, kept }, board))
+        let sum = whole.sum;
+        Ok((File { journal, kept, sum }, board))
     }
 
-    /// Appends a piece. Once it is on the disk, says so.
+    /// Appends a piece with its sum. Once it is on the disk, says so.
     pub fn keep(&mut self, journal: &Journal<Numbers>) -> io::Result<()> {
-        journal.write_to(&mut self.journal)?;
+        let sum = journal.write_sealed_to(self.sum, &mut self.journal)?;
         self.journal.flush()?;
         self.journal.sync_data()?;
+        self.sum = Some(sum);
         let entries = journal.first() + journal.len() as u64;
         let bytes = self.journal.seek(SeekFrom::End(0))?;
         // One write, so that a process that is killed leaves the whole line or none.

@@ -4,7 +4,7 @@
 //!     keep_journal FOLDER [MESSAGES]
 //!
 //! Thread k sends to mailbox k + 1 and receives from mailbox k. Its n-th message is n. FOLDER/journal has the journal, in pieces of
-//! 10,000 entries. Once a piece is on the disk, a line of FOLDER/kept says so: `kept 20000 entries 538897 bytes`. With MESSAGES
+//! 10,000 entries, each with a sum. Once a piece is on the disk, a line of FOLDER/kept says so: `kept 20000 entries 538897 bytes`. With MESSAGES
 //! each thread ends behind so many messages. `tests/keep_journal.sh` kills it ten times.
 
 mod file;
