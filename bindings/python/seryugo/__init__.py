@@ -15,7 +15,9 @@ lock go meanwhile.
         print("Ben received", ben.recv(letters))
 """
 
-from ._keeping import append_to, drop_entries
+from ._appending import append_to
+from ._keeping import drop_entries
+from ._kept import Kept
 from ._restoring import compacted
 from ._version import __version__
 from .errors import (
@@ -63,6 +65,7 @@ __all__ = [
     "IVar",
     "Journal",
     "JournalFull",
+    "Kept",
     "MVar",
     "Mailbox",
     "Maker",

@@ -2,9 +2,7 @@
 
 from __future__ import annotations
 
-import contextlib
-import os
-from typing import TYPE_CHECKING, BinaryIO, Callable, Optional
+from typing import TYPE_CHECKING, Callable, Optional
 
 from . import _library as library
 from .journal import Journal
@@ -51,31 +49,3 @@ class Keeper:
 
 def drop_entries(journal: Journal) -> None:
     """Drop the entries of a full journal: the sink of a switchboard that needs none."""
-
-
-def append_to(file: BinaryIO) -> Sink:
-    """Return a sink that appends entries to a file as text, and syncs the file.
-
-    If that fails, the file ends where it ended before. A message of 371,000 bytes or more may be
-    `TooLong` to be written: then each call from there on fails.
-    """
-
-    def append(journal: Journal) -> None:
-        number = file.fileno()
-        end = os.lseek(number, 0, os.SEEK_END)
-        try:
-            _write_all(number, journal.text())
-            os.fsync(number)
-        except BaseException:
-            # If this fails too, the exception still says why the entries weren't written.
-            with contextlib.suppress(OSError):
-                os.ftruncate(number, end)
-            raise
-
-    return append
-
-
-def _write_all(number: int, text: bytes) -> None:
-    rest = memoryview(text)
-    while rest:
-        rest = rest[os.write(number, rest) :]

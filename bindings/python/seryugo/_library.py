@@ -8,6 +8,7 @@ import subprocess
 from ctypes import (
     POINTER,
     Structure,
+    c_bool,
     c_char,
     c_char_p,
     c_size_t,
@@ -22,6 +23,9 @@ from . import _version
 
 # The most bytes of a message that lie in the struct.
 IN_PLACE = 78
+
+# How many bytes a sum has.
+SUM_LENGTH = 32
 
 # What a call returns if it isn't refused. `errors` has the refusals.
 DONE = 0
@@ -52,6 +56,12 @@ class Bytes(Structure):
         ("owner", Share),
         ("in_place", c_uint8 * IN_PLACE),
     ]
+
+
+class Sum(Structure):
+    """A sum over a piece of text, if it is there."""
+
+    _fields_ = [("is_there", c_bool), ("bytes", c_uint8 * SUM_LENGTH)]
 
 
 class Place(Structure):
@@ -211,11 +221,13 @@ checker_verdict = _short("checker_verdict", _HANDLE, _NUMBER)
 
 # A journal as text.
 journal_text = _long("journal_text", _HANDLE, c_uint64, POINTER(Bytes))
+sealed_text = _long("sealed_text", _HANDLE, c_uint64, POINTER(Sum), POINTER(Bytes))
 reading_open = _short("bytes_reading_open", _HANDLE)
 reading_take = _long("reading_take_from", _HANDLE, c_char_p, c_size_t)
 reading_entries = _short("reading_entries", _HANDLE, _NUMBER)
 reading_lines = _short("reading_lines", _HANDLE, _NUMBER)
 reading_end = _short("reading_end", _HANDLE)
+reading_sum = _short("reading_sum", _HANDLE, POINTER(Sum))
 room_restore = _long("room_restore", _HANDLE, c_uint64, _HANDLE)
 reading_compact = _long("reading_compact", _HANDLE, _HANDLE, _NUMBER)
 

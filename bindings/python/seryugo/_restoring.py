@@ -4,22 +4,26 @@ from __future__ import annotations
 
 from contextlib import contextmanager
 from ctypes import byref, c_uint64
-from typing import Iterable, Iterator
+from typing import Iterable, Iterator, Optional, Tuple
 
 from . import _library as library
 from . import errors
-from ._library import DONE
+from ._kept import Kept, Lines
+from ._library import DONE, NOTHING
 from .journal import Journal
 
 
-def restored(parts: Iterable[bytes], limit: int, is_torn_fine: bool) -> library.Handle:
-    """Open a room on a text of these parts, one behind the other."""
-    room = library.Handle()
-    with _read_from(parts, is_torn_fine) as reading:
+def restored(
+    parts: Iterable[bytes], limit: int, is_torn_fine: bool
+) -> Tuple[library.Handle, Kept]:
+    """Open a room on a text of these parts, and say what is kept of the text."""
+    room, lines = library.Handle(), Lines()
+    with _read_from(parts, is_torn_fine, lines) as reading:
+        kept = lines.kept(_entries(reading), _sum(reading))
         code = library.room_restore(byref(reading), limit, byref(room))
         if code != DONE:
             raise errors.of_code(code)
-    return room
+    return room, kept
 
 
 def compacted(parts: Iterable[bytes], is_torn_fine: bool = False) -> Journal:
@@ -33,20 +37,22 @@ def compacted(parts: Iterable[bytes], is_torn_fine: bool = False) -> Journal:
     up to its last whole line.
     """
     journal = Journal({})
-    with _read_from(parts, is_torn_fine) as reading:
+    with _read_from(parts, is_torn_fine, Lines()) as reading:
         journal._shorten(byref(reading), library.reading_compact)
     return journal
 
 
 @contextmanager
-def _read_from(parts: Iterable[bytes], is_torn_fine: bool) -> Iterator[library.Handle]:
+def _read_from(
+    parts: Iterable[bytes], is_torn_fine: bool, lines: Lines
+) -> Iterator[library.Handle]:
     """Read these parts to their end, and close the reading behind the block."""
     reading = library.Handle()
     code = library.reading_open(byref(reading))
     if code != DONE:
         raise errors.of_code(code)
     try:
-        _read(reading, parts)
+        _read(reading, parts, lines)
         code = library.reading_end(byref(reading))
         if code == errors.Torn.code and not is_torn_fine:
             raise errors.Torn
@@ -55,22 +61,37 @@ def _read_from(parts: Iterable[bytes], is_torn_fine: bool) -> Iterator[library.H
         library.close(reading)
 
 
-def _read(reading: library.Handle, parts: Iterable[bytes]) -> None:
+def _read(reading: library.Handle, parts: Iterable[bytes], lines: Lines) -> None:
     for part in parts:
         if not isinstance(part, bytes):
             raise TypeError(f"a part of a text is bytes, and not {type(part).__name__}")
         code = library.reading_take(byref(reading), part, len(part))
         if code != DONE:
             raise _stopped(reading, code)
+        lines.note(part)
+
+
+def _entries(reading: library.Handle) -> int:
+    count = c_uint64()
+    library.reading_entries(byref(reading), byref(count))
+    return count.value
+
+
+def _sum(reading: library.Handle) -> Optional[bytes]:
+    """Return the sum of the last piece that was read, or of its whole lines."""
+    last = library.Sum()
+    code = library.reading_sum(byref(reading), byref(last))
+    if code not in (DONE, NOTHING):
+        raise errors.of_code(code)
+    return bytes(last.bytes) if last.is_there else None
 
 
 def _stopped(reading: library.Handle, code: int) -> errors.SeryugoError:
     """Return why a reading has stopped."""
-    count = c_uint64()
     if code == errors.Fault.code:
+        count = c_uint64()
         library.reading_lines(byref(reading), byref(count))
         return errors.Fault(count.value + 1)
     if code == errors.Unlawful.code:
-        library.reading_entries(byref(reading), byref(count))
-        return errors.Unlawful(count.value)
+        return errors.Unlawful(_entries(reading))
     return errors.of_code(code)

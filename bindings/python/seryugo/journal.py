@@ -7,7 +7,7 @@ import threading
 import weakref
 from ctypes import byref, c_uint64
 from dataclasses import dataclass
-from typing import Any, Callable, Dict, Iterator, Optional
+from typing import Any, Callable, Dict, Iterator, Optional, Tuple
 
 from . import _library as library
 from . import errors
@@ -133,6 +133,30 @@ class Journal:
         if code != DONE:
             raise errors.of_code(code)
         return library.taken_over(text)
+
+    def sealed_text(self, after: Optional[bytes]) -> Tuple[bytes, bytes]:
+        """Return the entries as a piece with a sum, by which damage is always seen, and the sum.
+
+        `after` is the sum of the piece before, and `None` for the first piece of a text. All
+        pieces of a text have sums, or none has. If a reader finds a byte changed, or a piece left
+        out, doubled or exchanged, it fails with `Fault`. The last sum names the whole text: keep
+        it elsewhere, and nobody can write another text in its place unseen.
+
+        Fails with `TooLong` as `text` does. Then the next piece follows `after`.
+        """
+        text, last = library.Bytes(), library.Sum()
+        if after is not None:
+            if not isinstance(after, bytes):
+                raise TypeError(f"a sum is bytes, and not {type(after).__name__}")
+            if len(after) != library.SUM_LENGTH:
+                raise ValueError(f"a sum has {library.SUM_LENGTH} bytes, and not {len(after)}")
+            last.is_there = True
+            last.bytes[:] = after
+        with self._lock:
+            code = library.sealed_text(self._handle, self.start, byref(last), byref(text))
+        if code != DONE:
+            raise errors.of_code(code)
+        return library.taken_over(text), bytes(last.bytes)
 
     def _begin(self, cut: int) -> Start:
         """Return the start of a text that this short journal begins. It stands for so many entries.

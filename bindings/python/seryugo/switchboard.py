@@ -9,6 +9,7 @@ from typing import Any, Callable, Iterable, Optional, Type, Union
 from . import _library as library
 from . import errors
 from ._keeping import Keeper, Sink
+from ._kept import Kept
 from ._library import CLOSED, DONE, NOTHING
 from ._messages import Codec, T, codec_of
 from ._restoring import restored
@@ -43,6 +44,7 @@ class Switchboard:
         if code != DONE:
             raise errors.of_code(code)
         self._room = Room(room)
+        self._restored_from: Optional[Kept] = None
         self._keep_by(when_full)
 
     @classmethod
@@ -60,12 +62,22 @@ class Switchboard:
         them, but no seats. Name an object again by its number, as `mailbox(0, str)` does.
 
         Fails with `Fault`, `Unlawful` or `Torn`. If `is_torn_fine`, a text that ends too early
-        is read up to its last whole line. `entries` says how many these are.
+        is read up to its last whole line. `restored_from` says how many entries these are, how
+        to end the text, and which sum the next piece follows.
         """
         board = cls.__new__(cls)
-        board._room = Room(restored(parts, _bounded(limit), is_torn_fine))
+        room, board._restored_from = restored(parts, _bounded(limit), is_torn_fine)
+        board._room = Room(room)
         board._keep_by(when_full)
         return board
+
+    @property
+    def restored_from(self) -> Optional[Kept]:
+        """What is kept of the text that this was restored from, or None if it began anew.
+
+        Later calls don't change it.
+        """
+        return self._restored_from
 
     def mailbox(self, number: int, of: Type[T]) -> Mailbox[T]:
         """Name the mailbox of this number again. `of` is the type that its messages had."""

@@ -1,0 +1,91 @@
+"""A file to which the pieces of a journal are appended."""
+
+from __future__ import annotations
+
+import contextlib
+import os
+import weakref
+from typing import BinaryIO, Callable, NamedTuple, Optional
+
+from ._keeping import Sink
+from ._kept import sum_of
+from .journal import Journal
+
+# The most bytes that a piece's last line has, with the line feed before it.
+_LAST_LINE = 96
+
+
+class _Before(NamedTuple):
+    """What the next piece follows: pieces with sums or without, and the last piece's sum.
+
+    `journal` leads to the journal that was written last.
+    """
+
+    is_sealed: bool
+    sum: Optional[bytes]
+    journal: Callable[[], Optional[Journal]] = lambda: None
+
+
+def append_to(file: BinaryIO) -> Sink:
+    """Return a sink that appends entries to a file as text, and syncs the file.
+
+    An empty file gets pieces with sums, as `Journal.sealed_text` makes them. A file that has such
+    pieces, or pieces without sums, gets more of them. Open it for reading too: the last line,
+    which has the last sum, is read before the first piece is written. If that isn't the end of a
+    piece, each call fails with a `ValueError`: cut off first what is torn
+    (`Switchboard.restored_from`).
+
+    If a write fails, the file ends where it ended before. A message of 371,000 bytes or more may
+    be `TooLong` to be written: then each call from there on fails.
+    """
+    return _Appending(file)
+
+
+class _Appending:
+    def __init__(self, file: BinaryIO) -> None:
+        self._file = file
+        # Until something is written, nobody has looked.
+        self._before: Optional[_Before] = None
+
+    def __call__(self, journal: Journal) -> None:
+        number = self._file.fileno()
+        end = os.lseek(number, 0, os.SEEK_END)
+        before = self._before or _found(number, end)
+        if before.journal() is journal:
+            # Ctrl-C came just as this had written it.
+            return
+        try:
+            self._before = _write(number, before, journal)
+        except BaseException:
+            self._before = before
+            # If this fails too, the exception still says why the entries weren't written.
+            with contextlib.suppress(OSError):
+                os.ftruncate(number, end)
+            raise
+
+
+def _write(number: int, before: _Before, journal: Journal) -> _Before:
+    """Write a piece, and return what the next one follows."""
+    last = None
+    if before.is_sealed:
+        text, last = journal.sealed_text(before.sum)
+    else:
+        text = journal.text()
+    rest = memoryview(text)
+    while rest:
+        rest = rest[os.write(number, rest) :]
+    os.fsync(number)
+    return _Before(before.is_sealed, last, weakref.ref(journal))
+
+
+def _found(number: int, end: int) -> _Before:
+    """Return what follows in a file that ends here, by its last line."""
+    if end == 0:
+        return _Before(True, None)
+    lines = os.pread(number, _LAST_LINE, max(0, end - _LAST_LINE)).split(b"\n")
+    words = lines[-2].split(b" ") if len(lines) > 2 and not lines[-1] else []
+    if len(words) in (2, 3) and words[0] == b"end" and words[1].isdigit():
+        last = sum_of(words[2]) if len(words) == 3 else None
+        if last or len(words) == 2:
+            return _Before(last is not None, last)
+    raise ValueError("the file doesn't end with a piece of a journal")
