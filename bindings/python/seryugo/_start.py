@@ -3,7 +3,7 @@
 from __future__ import annotations
 
 from ctypes import c_uint64
-from typing import Optional
+from typing import Callable, Optional
 
 # What a count has until the library writes it. No list is so long.
 UNWRITTEN = 2**64 - 1
@@ -12,14 +12,18 @@ UNWRITTEN = 2**64 - 1
 class Start:
     """A text begins with a short journal, or with nothing.
 
-    A call that makes a later start has the library write its length. Since a signal's handler may
-    raise an exception as soon as the library returns, the length says whether it did.
+    A call that makes a later start has the library write its length, or cut the journal. Since a
+    signal's handler may raise an exception as soon as the library returns, the length or the cut
+    says whether it did.
     """
 
-    def __init__(self, cut: int, length: c_uint64) -> None:
+    def __init__(
+        self, cut: int, length: c_uint64, is_made: Optional[Callable[[], bool]] = None
+    ) -> None:
         """Begin with a short journal of this length, which stands for so many entries."""
         self._cut = cut
         self._length = length
+        self._is_made = is_made or (lambda: length.value != UNWRITTEN)
         self._later: Optional[Start] = None
 
     def follow_by(self, later: Start) -> None:
@@ -29,7 +33,7 @@ class Start:
     def latest(self) -> Start:
         """Return the start that was made last: this one or the one that follows."""
         later = self._later
-        return self if later is None or later._length.value == UNWRITTEN else later
+        return later if later is not None and later._is_made() else self
 
     def place(self, position: int) -> int:
         """Return where an entry is in the text. Its position counts since the room was made."""

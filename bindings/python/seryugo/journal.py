@@ -166,6 +166,16 @@ class Journal:
         self._count.value = UNWRITTEN
         return Start(cut, self._count)
 
+    def _begin_once_cut(self, cut: int, room: Any) -> Start:
+        """Return the same, where nothing is begun until the room's journal is cut there."""
+        now = c_uint64()
+
+        def is_cut() -> bool:
+            library.cut_at(room, byref(now))
+            return now.value >= cut
+
+        return Start(cut, self._count, is_cut)
+
     def _shorten(self, made: Any, compact: Callable[..., int]) -> None:
         """Take the entries of a short journal that leaves what a reading has read, or a room has.
 

@@ -4,7 +4,7 @@ from __future__ import annotations
 
 import operator
 from ctypes import byref, c_uint64
-from typing import Any, Callable, Iterable, Optional, Type, Union
+from typing import Any, Callable, Iterable, Optional, Type, TypeVar, Union
 
 from . import _library as library
 from . import errors
@@ -17,6 +17,8 @@ from ._room import Room
 from .journal import Entry, Journal, entry_of
 from .objects import Channel, IVar, Mailbox, MVar, Object, Port, Source, Variable, name_in
 from .seat import Seat
+
+R = TypeVar("R")
 
 # What the library takes as a number. ctypes drops what a larger one has above its 64 bits.
 _MOST = 2**64 - 1
@@ -139,6 +141,9 @@ class Switchboard:
         after it: `start` counts from its beginning. `cut_at` and `entry` go on to count since the
         switchboard was made. It also stands for entries that `when_full` didn't take.
 
+        If there is a `when_full`, and other threads call, use `compact_with`: else another thread
+        may hand what follows to `when_full` before you have the short journal.
+
         If Ctrl-C comes just as it returns, call it again: the next short journal stands for all.
         """
         room = self._room
@@ -153,6 +158,34 @@ class Switchboard:
             if room.keeper:
                 room.keeper.forget()
             return journal
+
+        return room.within(compacted)
+
+    def compact_with(self, keep: Callable[[Journal], R]) -> R:
+        """Make a short journal as `compact` does, and call `keep` with it.
+
+        If that returns, cut the journal as `compact_and_cut` does, and return the same. Other
+        threads wait meanwhile, so that `when_full` is handed nothing between. `keep` must not
+        call the switchboard: it would wait for ever. If `keep` raises an exception, nothing is
+        cut.
+
+        If Ctrl-C comes just as `keep` returns, what it wrote may stand for nothing yet: call this
+        again.
+        """
+        room = self._room
+
+        def compacted() -> R:
+            entries = c_uint64()
+            library.entries(room.handle, byref(entries))
+            journal = Journal(room.codecs)
+            journal._shorten(room.handle, library.compact)
+            kept = keep(journal)
+            begun = journal._begin_once_cut(entries.value, room.handle)
+            room.text_start().follow_by(begun)
+            library.cut_open(room.handle)
+            if room.keeper:
+                room.keeper.forget()
+            return kept
 
         return room.within(compacted)
 

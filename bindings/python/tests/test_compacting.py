@@ -163,6 +163,75 @@ class Compacting(unittest.TestCase):
         board.keep()
         self.assertEqual(Switchboard.restore([sink.text]).entries, 3)
 
+    def test_nothing_is_cut_if_the_short_journal_is_not_kept(self):
+        self.passes(0, 10)
+
+        def fails(journal):
+            self.assertEqual(journal.start, 0)
+            raise OSError("the disk is full")
+
+        with self.assertRaises(OSError):
+            self.board.compact_with(fails)
+        self.assertEqual((self.board.cut_at, self.board.take_journal().start), (0, 0))
+
+    def test_a_sink_follows_each_short_journal_while_threads_call(self):
+        kept = {"text": b"", "sum": None}
+
+        def sink(journal):
+            text, kept["sum"] = journal.sealed_text(kept["sum"])
+            kept["text"] += text
+
+        def begin(journal):
+            kept["text"], kept["sum"] = journal.sealed_text(None)
+            return len(journal)
+
+        board = Switchboard(3, when_full=sink)
+        ann, ben = board.seat(), board.seat()
+        mailbox = ann.mailbox(int)
+
+        def send():
+            with ann:
+                for number in range(1_000):
+                    ann.send(mailbox, number)
+
+        def receive():
+            with ben:
+                for number in range(990):
+                    self.assertEqual(ben.recv(mailbox), number)
+
+        threads = [threading.Thread(target=call) for call in (send, receive)]
+        for thread in threads:
+            thread.start()
+        while any(thread.is_alive() for thread in threads):
+            self.assertGreaterEqual(board.compact_with(begin), 1)
+        for thread in threads:
+            thread.join()
+        board.keep()
+        restored = Switchboard.restore([kept["text"]])
+        self.assertEqual(restored.owed(restored.mailbox(0, int)), 10)
+
+    def test_ctrl_c_as_the_journal_is_cut_behind_what_is_kept(self):
+        cut_open = _library.cut_open
+
+        def interrupted(*arguments):
+            cut_open(*arguments)
+            raise KeyboardInterrupt
+
+        before = mock.Mock(side_effect=KeyboardInterrupt)
+        for is_cut, call in (False, before), (True, interrupted):
+            board = Switchboard(10)
+            with board.seat() as seat:
+                mailbox = seat.mailbox(int)
+                for number in range(3):
+                    seat.send(mailbox, number)
+                    seat.recv(mailbox)
+                with mock.patch.object(_library, "cut_open", call):
+                    with self.assertRaises(KeyboardInterrupt):
+                        board.compact_with(lambda journal: journal.text())
+                seat.send(mailbox, 5)
+            journal = board.take_journal()
+            self.assertEqual((journal.start, len(journal)), (1, 1) if is_cut else (0, 8))
+
     def test_ctrl_c_before_the_journal_is_cut_changes_nothing(self):
         self.passes(0, 10)
         with mock.patch.object(_library, "compact_and_cut", side_effect=KeyboardInterrupt):

@@ -130,7 +130,9 @@ impl<R: Room> Switchboard<R> {
     /// after it: [`Journal::first`] counts from its beginning. [`cut_at`](Switchboard::cut_at) and [`entry`](Switchboard::entry) go on
     /// to count since the switchboard was made.
     ///
-    /// It also stands for entries that no sink took ([`when_full`](Switchboard::when_full)): they are dropped.
+    /// It also stands for entries that no sink took ([`when_full`](Switchboard::when_full)): they are dropped. If a sink takes full
+    /// journals, and other threads call, use [`compact_with`](Switchboard::compact_with): else another thread may hand what follows to
+    /// the sink before you have the short journal. Without a sink nobody takes what follows but you, and other threads wait less.
     ///
     /// Errors: `NoMemory`. Then nothing is cut.
     ///
@@ -154,6 +156,55 @@ impl<R: Room> Switchboard<R> {
     /// ```
     pub fn compact_and_cut(&self) -> Result<Journal<R>, Error> {
         self.lock().compact_and_cut()
+    }
+
+    /// Makes a short journal as [`compact`](Switchboard::compact) does, and hands it to this function. If the function returns `Ok`,
+    /// cuts the journal as [`compact_and_cut`](Switchboard::compact_and_cut) does. Other threads wait meanwhile, so that a sink is
+    /// handed nothing between. The function runs under the lock, so it must not call the switchboard.
+    ///
+    /// So write the short journal in the function, and have the sink write to that text from now on.
+    ///
+    /// Errors: what the function fails with, and then nothing is cut; and `OutOfMemory`, before the function was called.
+    ///
+    /// ```
+    /// use seryugo::{Sum, Switchboard, WhenFull};
+    /// use std::sync::{Arc, Mutex};
+    ///
+    /// # fn main() -> Result<(), Box<dyn std::error::Error>> {
+    /// /// A text, and its last sum.
+    /// type Kept = (Vec<u8>, Option<Sum>);
+    ///
+    /// let kept = Arc::new(Mutex::new(Kept::default()));
+    /// let kept_by_sink = kept.clone();
+    /// let sink = WhenFull::call(move |journal| {
+    ///     let (text, sum) = &mut *kept_by_sink.lock().unwrap();
+    ///     *sum = Some(journal.write_sealed_to(*sum, text)?);
+    ///     Ok(())
+    /// });
+    /// let board = Switchboard::of_numbers(2)?.when_full(sink);
+    /// let mut seat = board.seat()?;
+    /// let mailbox = seat.mailbox::<u64>()?;
+    /// for number in 0..10 {
+    ///     seat.send(mailbox, number)?;
+    ///     seat.recv(mailbox)?;
+    /// }
+    /// board.compact_with(|short| {
+    ///     let mut text = Vec::new();
+    ///     let sum = short.write_sealed_to(None, &mut text)?;
+    ///     *kept.lock().unwrap() = (text, Some(sum));
+    ///     Ok(())
+    /// })?;
+    /// seat.send(mailbox, 10)?;
+    /// board.keep()?;
+    /// let (text, _) = &*kept.lock().unwrap();
+    /// let text = String::from_utf8_lossy(text);
+    /// assert!(text.starts_with("journal 3\nseat 0 mailbox: made 0\nend 1 "));
+    /// assert!(text.contains("\nfrom 1\nseat 0 send 0 10: done\nend 2 "));
+    /// # Ok(())
+    /// # }
+    /// ```
+    pub fn compact_with<T>(&self, keep: impl FnOnce(&Journal<R>) -> io::Result<T>) -> io::Result<T> {
+        self.lock().compact_with(keep)
     }
 
     /// The journal's entry at this position, counted from 0 since the switchboard was made. It has copies of the messages. If there

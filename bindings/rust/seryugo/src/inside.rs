@@ -4,9 +4,9 @@ use crate::error::Error;
 use crate::journal::Journal;
 use crate::raw::{self, code, done, written, Handle};
 use crate::room::Room;
-use crate::when_full::{cut_short, journal_by, taken, Keeper, Start, Take, WhenFull};
+use crate::when_full::{cut_behind, cut_short, journal_by, taken, Keeper, Start, Take, WhenFull};
 use std::collections::BTreeMap;
-use std::io;
+use std::io::{self, ErrorKind};
 use std::panic::{self, AssertUnwindSafe};
 
 /// A drain or a pump moves at most so many messages: no ring has room for more.
@@ -147,11 +147,25 @@ impl<R: Room> Inside<R> {
     /// Returns a short journal, and cuts the journal. The short one stands for the entries that nobody took, too.
     pub fn compact_and_cut(&mut self) -> Result<Journal<R>, Error> {
         let (journal, start) = cut_short(&mut self.handle)?;
+        self.begin(start);
+        Ok(journal)
+    }
+
+    /// Hands over a short journal. If that goes well, it cuts the journal as `compact_and_cut` does.
+    pub fn compact_with<T>(&mut self, keep: impl FnOnce(&Journal<R>) -> io::Result<T>) -> io::Result<T> {
+        let journal = self.compact().map_err(uncompacted)?;
+        let kept = keep(&journal)?;
+        let start = cut_behind(&mut self.handle, journal.len() as u64).map_err(uncompacted)?;
+        self.begin(start);
+        Ok(kept)
+    }
+
+    /// From now on a short journal stands for all before.
+    fn begin(&mut self, start: Start) {
         self.start = start;
         if let Some(keeper) = &mut self.keeper {
             keeper.forget();
         }
-        Ok(journal)
     }
 
     /// Returns why the sink refused entries last. Returns it once.
@@ -325,6 +339,14 @@ impl<R: Room> Inside<R> {
         let lost = sent.saturating_sub(self.moved.remove(&lane).unwrap_or_default());
         self.lost = self.lost.saturating_add(lost);
         lost
+    }
+}
+
+/// Why there is no short journal.
+fn uncompacted(error: Error) -> io::Error {
+    match error {
+        Error::NoMemory => ErrorKind::OutOfMemory.into(),
+        error => io::Error::other(error),
     }
 }
 

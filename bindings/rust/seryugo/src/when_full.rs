@@ -209,6 +209,13 @@ impl Start {
     }
 }
 
+/// Cuts the journal of a room, of which a short journal was made that has so many entries. Returns where the text begins then.
+pub(crate) fn cut_behind(room: &mut Handle, short: u64) -> Result<Start, Error> {
+    done(unsafe { raw::seryugo_cut_open(room) })?;
+    let cut = written(|count| unsafe { raw::seryugo_cut_at(room, count) })?;
+    Ok(Start { cut, short })
+}
+
 /// The entries of a room's journal, which this call cuts.
 pub(crate) fn taken<R: Room>(room: &mut Handle, start: Start, take: Take) -> Result<Journal<R>, Error> {
     let first = written(|count| unsafe { raw::seryugo_cut_at(room, count) })?;

@@ -3,13 +3,14 @@
 mod common;
 
 use common::{let_them_wait, within_a_minute, Board, Channel, MVar, Mailbox, Port};
-use seryugo::{Checker, Error, Journal, Numbers, Object, Room, Switchboard, WhenFull};
+use seryugo::{Checker, Error, Journal, Numbers, Object, Room, Sum, Switchboard, WhenFull};
 use std::future::Future;
-use std::io::ErrorKind;
+use std::io::{self, ErrorKind};
+use std::panic::{catch_unwind, AssertUnwindSafe};
 use std::pin::pin;
 use std::sync::atomic::{AtomicBool, AtomicU64, Ordering};
 use std::sync::mpsc::{channel, Receiver};
-use std::sync::Arc;
+use std::sync::{Arc, Mutex};
 use std::task::{Context, Poll, Waker};
 use std::thread;
 
@@ -183,6 +184,78 @@ fn a_sink_that_fails_behind_it_loses_nothing() {
         text.extend(piece);
     }
     assert_eq!(Switchboard::<seryugo::Bytes>::restore(&text[..], LIMIT).unwrap().entries(), 21);
+}
+
+#[test]
+fn nothing_is_cut_if_the_short_journal_is_not_kept() {
+    let (sender, pieces) = channel();
+    let board = Board::of_numbers(LIMIT).unwrap().when_full(WhenFull::give(move |journal| match sender.send(journal) {
+        Ok(()) => Ok(()),
+        Err(refused) => Err(refused.0),
+    }));
+    let mut seat = board.seat().unwrap();
+    let mailbox = seat.mailbox().unwrap();
+    seat.send(mailbox, 5).unwrap();
+    seat.recv(mailbox).unwrap();
+    let kept = board.compact_with(|short| -> io::Result<()> {
+        assert_eq!((short.first(), short.len()), (0, 1));
+        Err(ErrorKind::StorageFull.into())
+    });
+    assert_eq!(kept.unwrap_err().kind(), ErrorKind::StorageFull);
+    let panicked = catch_unwind(AssertUnwindSafe(|| board.compact_with(|_| -> io::Result<()> { panic!("a test") })));
+    assert!(panicked.is_err());
+    assert_eq!(board.cut_at(), 0);
+    board.keep().unwrap();
+    seat.send(mailbox, 6).unwrap();
+    let text = board.compact_with(|short| Ok(text_of(short))).unwrap();
+    assert_eq!(board.cut_at(), 4);
+    seat.send(mailbox, 7).unwrap();
+    board.keep().unwrap();
+    let pieces: Vec<Journal<Numbers>> = pieces.try_iter().collect();
+    assert_eq!(pieces.iter().map(|piece| (piece.first(), piece.len())).collect::<Vec<_>>(), [(0, 3), (2, 1)]);
+    leaves_the_same(&[text, text_of(&pieces[1])].concat(), &board);
+}
+
+/// A sink is handed nothing between a short journal and the cut, so that it needs no position to know what a piece follows.
+#[test]
+fn a_sink_follows_each_short_journal_while_threads_call() {
+    type Kept = (Vec<u8>, Option<Sum>);
+    within_a_minute(|| {
+        let kept = Arc::new(Mutex::new(Kept::default()));
+        let by_sink = kept.clone();
+        let board = Board::of_numbers(3).unwrap().when_full(WhenFull::call(move |journal| {
+            let (text, sum) = &mut *by_sink.lock().unwrap();
+            *sum = Some(journal.write_sealed_to(*sum, text)?);
+            Ok(())
+        }));
+        let mut seats = common::seats(&board, 4);
+        let mailboxes: Vec<Mailbox> = seats.iter_mut().map(|seat| seat.mailbox().unwrap()).collect();
+        thread::scope(|scope| {
+            let mut running = Vec::new();
+            for (number, mut seat) in seats.into_iter().enumerate() {
+                let (to, from) = (mailboxes[(number + 1) % 4], mailboxes[number]);
+                running.push(scope.spawn(move || {
+                    for message in 0..20 * EACH {
+                        seat.send(to, message).unwrap();
+                        assert_eq!(seat.recv(from), Ok(message));
+                    }
+                }));
+            }
+            while running.iter().any(|thread| !thread.is_finished()) {
+                let shortened = board.compact_with(|short| {
+                    let mut text = Vec::new();
+                    let sum = short.write_sealed_to(None, &mut text)?;
+                    *kept.lock().unwrap() = (text, Some(sum));
+                    Ok(())
+                });
+                shortened.unwrap();
+                lawful(&kept.lock().unwrap().0);
+                let_them_wait();
+            }
+        });
+        board.keep().unwrap();
+        leaves_the_same(&kept.lock().unwrap().0, &board);
+    });
 }
 
 /// A text to which pieces are added as a sink gives them.
