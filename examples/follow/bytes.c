@@ -37,24 +37,27 @@ void bytes_store(struct seryugo *room, uint64_t seat, uint64_t variable, struct 
 }
 
 /* Appends a journal's text, and closes the journal. */
-static void append_text(struct seryugo journal, uint64_t from, struct text *into)
+static void append_text(struct seryugo journal, uint64_t from, struct seryugo_sum *sum, struct text *into)
 {
     struct seryugo_bytes piece;
 
-    append(seryugo_journal_text(&journal, from, &piece), &piece, into, "a piece of the journal");
+    append(seryugo_sealed_text(&journal, from, sum, &piece), &piece, into, "a piece of the journal");
     seryugo_close(journal);
 }
 
-void bytes_piece(struct seryugo *room, uint64_t from, struct text *into)
+void bytes_piece(struct seryugo *room, uint64_t from, struct seryugo_sum *sum, struct text *into)
 {
     struct seryugo journal;
     uint64_t count;
 
     require_done(seryugo_take_journal(room, &journal, &count), "the journal that is taken");
-    append_text(journal, from, into);
+    append_text(journal, from, sum, into);
 }
 
-void bytes_short(struct seryugo journal, struct text *into)
+struct seryugo_sum bytes_short(struct seryugo journal, struct text *into)
 {
-    append_text(journal, 0, into);
+    struct seryugo_sum sum = { 0 };
+
+    append_text(journal, 0, &sum, into);
+    return sum;
 }

@@ -15,10 +15,11 @@ bool bytes_held(struct seryugo *room, uint64_t variable, struct text *into);
 /* Stores a message in a full m-variable. */
 void bytes_store(struct seryugo *room, uint64_t seat, uint64_t variable, struct span message);
 
-/* Takes the journal, and appends its text: one piece, whose first entry is at position `from`. */
-void bytes_piece(struct seryugo *room, uint64_t from, struct text *into);
+/* Takes the journal, and appends its text: one piece, whose first entry is at position `from`. `sum` is that of the piece before, and
+ * then of this one. */
+void bytes_piece(struct seryugo *room, uint64_t from, struct seryugo_sum *sum, struct text *into);
 
-/* Appends the text of a short journal, and closes the journal. */
-void bytes_short(struct seryugo journal, struct text *into);
+/* Appends the text of a short journal, and closes the journal. Returns the sum. */
+struct seryugo_sum bytes_short(struct seryugo journal, struct text *into);
 
 #endif

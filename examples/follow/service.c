@@ -60,11 +60,28 @@ static uint64_t restore_object(struct service *service, uint64_t object)
     return next;
 }
 
+/* The sum of the last piece that was read, if there is one. */
+static struct seryugo_sum last_sum(struct seryugo *reading)
+{
+    struct seryugo_sum sum = { 0 };
+    uint64_t lines;
+    uint32_t code = seryugo_reading_sum(reading, &sum);
+
+    require_done(seryugo_reading_lines(reading, &lines), "a count");
+    if (code != SERYUGO_NOTHING) {
+        require_done(code, "a sum");
+    } else if (lines != 0) {
+        fail(STATUS_FAULT, "the journal has no sums: an earlier version of this program wrote it");
+    }
+    return sum;
+}
+
 void service_open(struct service *service, struct seryugo *reading)
 {
     uint64_t object = 0, kind;
 
     memset(service, 0, sizeof *service);
+    service->sum = last_sum(reading);
     require_done(seryugo_room_restore(reading, LIMIT, &service->room), "a room on the journal");
     require_done(seryugo_new_seat(&service->room, &service->seat), "a seat");
     while (seryugo_kind(&service->room, object, &kind) == SERYUGO_DONE) {
@@ -250,7 +267,7 @@ void service_take_piece(struct service *service, struct text *piece)
     uint64_t from;
 
     require_done(seryugo_cut_at(&service->room, &from), "the journal's position");
-    bytes_piece(&service->room, from - service->cut + service->count, piece);
+    bytes_piece(&service->room, from - service->cut + service->count, &service->sum, piece);
 }
 
 uint64_t service_entries(struct service *service)
@@ -276,7 +293,7 @@ bool service_shorten(struct service *service, uint64_t most, struct text *text)
         seryugo_close(journal);
         return false;
     }
-    bytes_short(journal, text);
+    service->sum = bytes_short(journal, text);
     service->cut = cut;
     service->count = count;
     return true;

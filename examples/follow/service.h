@@ -21,9 +21,12 @@ struct service {
     /* The text in the stream begins with a short journal that stands for `cut` entries, and has `count`. At first both are 0. */
     uint64_t cut;
     uint64_t count;
+    /* The sum of the last piece, which the next one names. */
+    struct seryugo_sum sum;
 };
 
-/* Opens the service on what was read, and spends the reading. If the journal is another program's, the process ends. */
+/* Opens the service on what was read, and spends the reading. If the journal is another program's, or has no sums, the process
+ * ends. */
 void service_open(struct service *service, struct seryugo *reading);
 
 /* Performs a request, and appends the answer's line. A request that was performed before is answered as it was then. Returns

@@ -31,6 +31,18 @@ def free_port():
     return next(port for port in ports if all(is_free(port + near) for near in range(5)))
 
 
+def sealed(*pieces):
+    """The pieces of a journal with these entries, each of which has `/` for its line feed."""
+    texts, after, end = [], "", 0
+    for entries in pieces:
+        begun = f"from {end}/" if end else ""
+        text = f"journal 4{after}/{begun}{entries}"
+        end += entries.count("/")
+        after = " " + hashlib.sha256(text.replace("/", "\n").encode()).hexdigest()
+        texts.append(f"{text}end {end}{after}/")
+    return texts
+
+
 class Client:
     """A client that asks again and again, until its standard input ends."""
 

@@ -18,7 +18,7 @@ import subprocess
 import sys
 import time
 
-from service import FOLDER, PLACES, Client, Service, free_port  # noqa: I001
+from service import FOLDER, PLACES, Client, Service, free_port, sealed  # noqa: I001
 from test_short import Short
 from cases import TOP, has, left_out, main, wait_until
 
@@ -270,39 +270,49 @@ class Follow(Service):
             "other",
             "stream other: entry 1-1 is something else: neither",
         )
-        self.add("orphan", "2-2", "journal 2/end 0/")
+        self.add("orphan", "2-2", sealed("")[0])
         self.refuses_stream(
             "a piece without a leader", "orphan", "stream orphan: piece 2-2 is no leader's"
         )
-        made = "journal 2/seat 0 mailbox: made 0/"
+        made = "seat 0 mailbox: made 0/"
+        queue = "seat 0 mvar =queue%20a: made 0/seat 0 mailbox: made 1/"
+        first, _, third = sealed(queue, made, made)
+        changed = sealed(queue + "seat 0 send 1 =hello: done/")[0].replace("hello", "hallo")
         faulty = [
             (
                 "a torn line",
                 "torn",
-                [made + "seat 0 send 0 =a: d"],
+                [f"journal 4/{made}seat 0 send 0 =a: d"],
                 "piece 1-2 is torn behind line 2",
             ),
-            ("a piece without its end", "endless", [made], "piece 1-2 is torn behind line 2"),
+            (
+                "a piece without its end",
+                "endless",
+                [f"journal 4/{made}"],
+                "piece 1-2 is torn behind line 2",
+            ),
             (
                 "a piece that is doubled",
                 "doubled",
-                [made + "end 1/"] * 2,
-                "piece 1-3 has a fault: line 5 .*behind 1 entries",
+                sealed(made) * 2,
+                "piece 1-3 has a fault: line 4 .*behind 1 entries",
             ),
             (
                 "a piece that is missing",
                 "missing",
-                [
-                    "journal 2/seat 0 mvar =queue%20a: made 0/seat 0 mailbox: made 1/end 2/",
-                    None,
-                    "journal 2/from 3/end 3/",
-                ],
-                "piece 1-4 has a fault: line 6 .*behind 2 entries",
+                [first, None, third],
+                "piece 1-4 has a fault: line 5 .*behind 2 entries",
+            ),
+            (
+                "a letter that was changed",
+                "changed",
+                [changed],
+                "piece 1-2 has a fault: line 5 .*behind 3 entries",
             ),
             (
                 "an entry that is unlawful",
                 "unlawful",
-                [made + "seat 0 poll 0: =a/end 2/"],
+                sealed(made + "seat 0 poll 0: =a/"),
                 "piece 1-2 is unlawful at entry 1",
             ),
             (
@@ -318,11 +328,15 @@ class Follow(Service):
                 if piece is not None:
                     self.add(stream, f"1-{number}", piece)
             self.refuses_stream(name, stream, f"stream {stream}: {error}")
-        self.ask_redis("XADD", "stranger", "1-1", "leader", "x")
-        self.add("stranger", "1-2", made + "end 1/")
-        self.refuses_stream(
-            "another program's journal", "stranger", "object 0 of the journal is another program's"
-        )
+        others = [
+            ("another program's journal", sealed(made)[0], "object 0 of the journal is another"),
+            ("a journal without sums", f"journal 2/{queue}end 2/", "the journal has no sums"),
+        ]
+        for place, (name, piece, error) in enumerate(others):
+            stream = f"other{place}"
+            self.ask_redis("XADD", stream, "1-1", "leader", "x")
+            self.add(stream, "1-2", piece)
+            self.refuses_stream(name, stream, error)
         self.ask_redis("CONFIG", "SET", "appendfsync", "everysec")
         self.refuses_stream(
             "a Redis that keeps less", "word", "appendfsync is everysec, not always"

@@ -4,7 +4,7 @@ import re
 import signal
 import subprocess
 
-from service import Service
+from service import Service, sealed
 from cases import wait_until  # noqa: I001
 
 # A stream is made short once it has so many entries of the journal.
@@ -180,17 +180,16 @@ class Short(Service):
 
     def test_wrong_short(self):
         """A short piece that isn't what the pieces before it leave, or that has a fault."""
-        made = "journal 2/seat 0 mvar =queue%20a: made 0/seat 0 mailbox: made 1/"
-        wrong = [
-            ("another", made + "end 2/", r"short piece 1-3 isn't what the pieces before it leave"),
-            ("torn", made, r"short piece 1-3 isn't what the pieces before it leave"),
-        ]
+        made = "seat 0 mvar =queue%20a: made 0/seat 0 mailbox: made 1/"
+        torn = f"journal 4/{made}"
+        other = "short piece 1-3 isn't what the pieces before it leave"
+        wrong = [("another", sealed(made)[0], other), ("torn", torn, other)]
         for name, short, error in wrong:
             self.ask_redis("XADD", name, "1-1", "leader", "x")
-            self.add(name, "1-2", made + "seat 0 send 1 =x: done/end 3/")
+            self.add(name, "1-2", sealed(made + "seat 0 send 1 =x: done/")[0])
             self.add(name, "1-3", short, "short")
             self.refuses_stream(f"a short piece: {name}", name, f"stream {name}: {error}")
-        self.add("alone", "3-7", made, "short")
+        self.add("alone", "3-7", torn, "short")
         self.refuses_stream("a torn one that begins", "alone", "stream alone: piece 3-7 is torn")
 
     def test_lost(self):
