@@ -91,8 +91,8 @@ impl JournalFile {
         self.entries >= PART * entries
     }
 
-    /// Puts this text of a short journal, with this sum, in the file's place. The disk has all of it before the name is the new file's, so that a
-    /// killed server leaves the one file or the other.
+    /// Puts this text of a short journal, with this sum, in the file's place. The disk has all of it before the name is the new file's,
+    /// so that a killed server leaves the one file or the other.
     ///
     /// Errors: the new file can't be written. Then the old one stays.
     pub fn replace(&mut self, text: &[u8], entries: u64, sum: Sum) -> io::Result<()> {

@@ -95,7 +95,7 @@ impl<R: Room> Switchboard<R> {
     ///
     /// Before you write the next piece, cut the text to the bytes that were kept, and write their ending. If the text has sums, write
     /// the next piece by [`Journal::write_sealed_to`](crate::Journal::write_sealed_to) behind [`Kept::sum`]. This holds of a whole text
-    /// too.
+    /// too. A piece without its end has no sum yet: a change among its lines that leaves a lawful journal isn't seen.
     ///
     /// ```
     /// use seryugo::{Numbers, Switchboard};
