@@ -516,9 +516,10 @@ uint32_t seryugo_take_journal_open(struct seryugo *room, struct seryugo *journal
 /*
  * Writes a handle to a short journal, and how many entries it has. It leaves what all calls of the room leave: the same objects, with
  * the same messages still to be received. Whatever may follow these calls may follow it, with the same replies. The room's last seat
- * makes all its entries. The room stays as it was. It takes time for each object and each message that is kept, under the room's lock.
+ * makes all its entries, even if it has made none so far. (seryugo_reading_compact takes the last seat that has made one.) The room stays
+ * as it was. It takes time for each object and each message that is kept, under the room's lock.
  *
- * SERYUGO_NO_MEMORY: *journal and *count are as they were.
+ * SERYUGO_NO_MEMORY, or SERYUGO_JOURNAL_FULL for more than 2^32 entries: *journal and *count are as they were.
  */
 uint32_t seryugo_compact(struct seryugo *room, struct seryugo *journal, uint64_t *count);
 
@@ -557,9 +558,9 @@ struct seryugo_sum {
     uint8_t bytes[32];
 };
 
-/* The same with sums, by which damage is always seen: the text's last line has the sum of its lines before, and its first line the sum
- * of the piece before. So no byte can be changed, and no piece left out, doubled or exchanged, unseen, and the last sum names the whole
- * journal. Keep it elsewhere, and nobody can rewrite the past.
+/* The same with sums, by which damage is seen: the text's last line has the sum of its lines before, and its first line the sum of the
+ * piece before. So a reading sees each changed byte, and a piece that is doubled, exchanged or left out before another. The last sum names
+ * the whole journal: keep it elsewhere to see whether last pieces are missing, and nobody can rewrite the past.
  *
  * *sum is the sum of the piece before, which seryugo_sealed_text or seryugo_reading_sum wrote. Begin a text with none. The call writes
  * the sum of this piece there. If it hands over no text, *sum is as it was. All pieces of a text have sums, or none has. */
@@ -649,7 +650,7 @@ uint32_t seryugo_reading_end(struct seryugo *reading);
 
 /* Writes the sum of the last piece that was read. If the text is torn, and its last piece has no end yet, writes the sum of that
  * piece's whole lines: end it by a line `end N` with this sum, in 64 hex digits. SERYUGO_NOTHING: the text has no sums, nothing was read,
- * or the last whole line is a header. SERYUGO_NO_MEMORY: *sum is as it was. */
+ * or the last whole line is a header. If the reading has stopped, its sum is of no use. SERYUGO_NO_MEMORY: *sum is as it was. */
 uint32_t seryugo_reading_sum(struct seryugo *reading, struct seryugo_sum *sum);
 
 /* Opens a room on what was read, and writes a handle to it. The room is as if it had answered all these calls, and had cut its

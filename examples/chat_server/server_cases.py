@@ -201,10 +201,10 @@ class ServerCases(Cases):
     def lawful(self, name):
         """A case: the journal is lawful, and as long as its last line says."""
         if self.checker:
-            length = last_words(self.journal)[1]
+            _, length, last_sum = last_words(self.journal)
             with open(self.journal, "rb") as journal:
                 checked = self.run_program(*self.checker, stdin=journal)
-            self.expect(f"the journal is lawful: {name}", checked, 0, f"lawful {length}", "")
+            self.expect(f"the journal is lawful: {name}", checked, 0, f"lawful {length}\nsum {last_sum}", "")
 
     def refuses(self, name, status, error, *words):
         """A case: the program ends with this status, and with an error that begins so."""

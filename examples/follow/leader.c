@@ -103,6 +103,7 @@ void lead(const struct lease *lease, uint64_t epoch, struct service *service, in
     connections_open(&leader.connections, listener, address);
     printf("leads by epoch %" PRIu64 " behind %" PRIu64 " entries\n", epoch, service_entries(service));
     while (!is_stopping) {
+        uint64_t before = service_entries(leader.service);
         bool kept = false;
 
         connections_wait(&leader.connections, lease->milliseconds / 4);
@@ -111,7 +112,8 @@ void lead(const struct lease *lease, uint64_t epoch, struct service *service, in
             kept = true;
         }
         connections_release(&leader.connections);
-        if (kept) {
+        /* The leader's seat makes the short journal, as a follower's does, only once the seat has made an entry. */
+        if (kept && service_entries(leader.service) != before) {
             shorten(&leader);
         }
         renew(&leader);

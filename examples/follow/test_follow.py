@@ -245,7 +245,9 @@ class Follow(Service):
             self.checker, input=journal, capture_output=True, check=False
         ).stdout.decode()
         entries = sum(b":" in line for line in journal.splitlines())
-        self.holds("the journal is lawful", checked == f"lawful {entries}\n", checked, entries)
+        last_sum = journal.decode().split()[-1]
+        told = f"lawful {entries}\nsum {last_sum}\n"
+        self.holds("the journal is lawful", checked == told, checked, entries)
         for size, front in self.fronts:
             self.holds(
                 f"the first {size} bytes are still there",

@@ -85,7 +85,8 @@ class Short(Service):
         checked = subprocess.run(self.checker, input=journal, capture_output=True, check=False)
         entries = sum(b":" in line for line in journal.splitlines())
         with self.case("the journal is lawful"):
-            self.assertEqual(checked.stdout.decode(), f"lawful {entries}\n")
+            last_sum = journal.decode().split()[-1]
+            self.assertEqual(checked.stdout.decode(), f"lawful {entries}\nsum {last_sum}\n")
             self.assertLess(entries, 2 * FROM + 80)
         self.serve(3, self.stream, options=OPTIONS)
         self.wait_for("a new follower", lambda: self.says(3, r"follows behind \d+ entries"))
@@ -176,6 +177,42 @@ class Short(Service):
         self.ask_redis("DEL", f"{self.stream}:lease")
         self.serve(2, self.stream, 1500, OPTIONS)
         self.goes_on(2)
+        self.end()
+
+    def test_begins_with_old_requests(self):
+        """A new leader answers old requests alone before the stream is to be made short.
+
+        The leader's seat has made no entry then. A follower that has read all pieces must go on.
+        """
+        self.serve(1, self.stream, 1500, OPTIONS)
+        self.wait_for("a leader", lambda: self.says(1, "leads by epoch 1 "))
+        # With 50 texts no short piece is short enough. The old leader tries again at 200 entries.
+        words = [f"9 {number} put q {number}" for number in range(1, 51)]
+        words += [f"9 {number} get q" for number in range(51, 96)]
+        for word in words:
+            self.run_program(self.program, "ask", self.port + 1, word)
+        for place in 2, 3:
+            self.serve(place, self.stream, 1500, OPTIONS)
+            self.wait_for("a follower", lambda place=place: self.says(place, "follows behind "))
+        self.servers[3].signal(signal.SIGSTOP)
+        self.servers[1].kill()
+        self.wait_for("a new leader", lambda: self.says(2, r"leads by epoch \d+ "))
+        self.servers[3].signal(signal.SIGCONT)
+        asked = self.run_program(self.program, "ask", self.port + 2, "9 last")
+        with self.case("it answers what was asked before"):
+            self.assertEqual(asked.said(), "9 last 95\n")
+        asked = self.run_program(self.program, "ask", self.port + 2, "9 96 get q")
+        with self.case("it answers what is asked anew"):
+            self.assertEqual(asked.said(), "9 96 message 46\n")
+        self.wait_for("the stream is short", lambda: self.first()[1] == "short")
+        self.servers[2].signal(signal.SIGTERM)
+        self.servers[2].ends()
+        follower = self.servers[3]
+        self.wait_for(
+            "the follower leads",
+            lambda: self.says(3, r"leads by epoch \d+ ") or not follower.runs(),
+        )
+        self.holds("the follower goes on", follower.runs(), follower.errors())
         self.end()
 
     def test_wrong_short(self):
