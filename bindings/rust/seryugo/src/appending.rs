@@ -11,8 +11,8 @@ const LAST_LINE: u64 = 96;
 
 pub(crate) struct Appending {
     file: File,
-    /// Until something is written, nobody has looked.
-    form: Option<Form>,
+    /// Where the file ended after the last piece, and what follows it.
+    left: Option<(u64, Form)>,
 }
 
 /// What the next piece follows.
@@ -26,19 +26,17 @@ enum Form {
 
 impl Appending {
     pub fn to(file: File) -> Appending {
-        Appending { file, form: None }
+        Appending { file, left: None }
     }
 
     /// Writes a journal where the file ends. A torn piece would make all behind it unreadable, so that none is left there.
     pub fn append<R: Room>(&mut self, journal: &Journal<R>) -> io::Result<()> {
         let end = self.file.seek(SeekFrom::End(0))?;
-        let form = match self.form {
-            Some(form) => form,
-            None => form_of(&mut self.file, end)?,
-        };
+        let form = self.form_at(end)?;
+        self.file.seek(SeekFrom::Start(end))?;
         match self.write(form, journal) {
             Ok(form) => {
-                self.form = Some(form);
+                self.left = self.file.stream_position().ok().map(|end| (end, form));
                 Ok(())
             }
             Err(error) => {
@@ -46,6 +44,15 @@ impl Appending {
                 let _ = self.file.set_len(end);
                 Err(error)
             }
+        }
+    }
+
+    /// What follows where the file ends. It looks each time, since the file's owner may have put a short journal in place of the text.
+    fn form_at(&mut self, end: u64) -> io::Result<Form> {
+        match (form_of(&mut self.file, end), self.left) {
+            // The file is open for writing alone, and ends with what this wrote.
+            (Err(error), Some((left, form))) if error.kind() != ErrorKind::InvalidData && left == end => Ok(form),
+            (found, _) => found,
         }
     }
 
@@ -60,7 +67,7 @@ impl Appending {
     }
 }
 
-/// What follows in a file of this length, by its last line. Leaves the file at its end.
+/// What follows in a file of this length, by its last line.
 fn form_of(file: &mut File, length: u64) -> io::Result<Form> {
     if length == 0 {
         return Ok(Form::Sealed(None));

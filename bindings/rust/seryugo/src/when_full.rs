@@ -85,9 +85,13 @@ impl<R: Room> WhenFull<R> {
     /// Appends the entries to a file, and syncs it before the call is made. If that fails, it cuts the file to what it had.
     ///
     /// An empty file gets pieces with sums, as [`Journal::write_sealed_to`] writes them. A file that has such pieces, or pieces without
-    /// sums, gets more of them. Open it for reading too: the last line, which has the last sum, is read before the first piece is
-    /// written. If that isn't the end of a piece, nothing is written: cut off first what is torn
+    /// sums, gets more of them. Open it for reading too: the last line, which has the last sum, is read before a piece is written. If
+    /// that isn't the end of a piece, nothing is written: cut off first what is torn
     /// ([`restore_torn`](crate::Switchboard::restore_torn)).
+    ///
+    /// It goes on with this file, also if another one gets its name. So [`compact_with`](crate::Switchboard::compact_with) may write a
+    /// short journal in place of the file's text, but a crash meanwhile loses the text. To rename a new file to the old one's name, use
+    /// a sink that you can give the new one.
     ///
     /// Send no message of 371,000 bytes or more. It may be [`TooLong`](Error::TooLong) to be written: then each call from there on fails
     /// with [`NotKept`](Error::NotKept). At the end call [`keep`](crate::Switchboard::keep): a switchboard that is dropped writes nothing.

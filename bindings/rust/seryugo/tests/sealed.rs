@@ -259,6 +259,33 @@ fn a_new_file_need_not_be_read() {
 }
 
 #[test]
+fn a_file_goes_on_behind_a_short_journal() {
+    let scratch = Scratch::new("short");
+    for sealed in [true, false] {
+        let mut file = scratch.open();
+        let board = Switchboard::of_numbers(2).unwrap().when_full(WhenFull::file(file.try_clone().unwrap()));
+        let mut seat = board.seat().unwrap();
+        for _ in 0..5 {
+            seat.mailbox().unwrap();
+        }
+        let put_short = |short: &Journal<Numbers>| {
+            file.set_len(0)?;
+            match sealed {
+                true => short.write_sealed_to(None, &mut file).map(|_| ()),
+                false => short.write_to(&mut file),
+            }
+        };
+        board.compact_with(put_short).unwrap();
+        for _ in 0..5 {
+            seat.mailbox().unwrap();
+        }
+        board.keep().unwrap();
+        let checker = checked(Checker::of_numbers().unwrap(), &scratch.text()).unwrap();
+        assert_eq!((checker.entries(), checker.is_whole(), checker.sum().is_some()), (10, true, sealed));
+    }
+}
+
+#[test]
 fn a_torn_file_gets_no_piece() {
     let scratch = Scratch::new("torn");
     let sum = Sum::from([9; 32]);
