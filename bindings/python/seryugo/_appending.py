@@ -16,14 +16,21 @@ _LAST_LINE = 96
 
 
 class _Before(NamedTuple):
-    """What the next piece follows: pieces with sums or without, and the last piece's sum.
-
-    `journal` leads to the journal that was written last.
-    """
+    """What the next piece follows: pieces with sums or without, and the last piece's sum."""
 
     is_sealed: bool
     sum: Optional[bytes]
-    journal: Callable[[], Optional[Journal]] = lambda: None
+
+
+class _Last(NamedTuple):
+    """What was written last: where the file ended then, and what follows.
+
+    `journal` leads to the journal that was written.
+    """
+
+    end: int
+    before: _Before
+    journal: Callable[[], Optional[Journal]]
 
 
 def append_to(file: BinaryIO) -> Sink:
@@ -31,9 +38,12 @@ def append_to(file: BinaryIO) -> Sink:
 
     An empty file gets pieces with sums, as `Journal.sealed_text` makes them. A file that has such
     pieces, or pieces without sums, gets more of them. Open it for reading too: the last line,
-    which has the last sum, is read before the first piece is written. If that isn't the end of a
-    piece, each call fails with a `ValueError`: cut off first what is torn
-    (`Switchboard.restored_from`).
+    which has the last sum, is read before a piece is written. If that isn't the end of a piece,
+    the call fails with a `ValueError`: cut off first what is torn (`Switchboard.restored_from`).
+
+    It goes on with this file, also if another one gets its name. So `Switchboard.compact_with`
+    may write a short journal in place of the file's text, but a crash meanwhile loses the text.
+    To rename a new file to the old one's name, use a function that you can give the new one.
 
     If a write fails, the file ends where it ended before. A message of 371,000 bytes or more may
     be `TooLong` to be written: then each call from there on fails.
@@ -44,28 +54,41 @@ def append_to(file: BinaryIO) -> Sink:
 class _Appending:
     def __init__(self, file: BinaryIO) -> None:
         self._file = file
-        # Until something is written, nobody has looked.
-        self._before: Optional[_Before] = None
+        self._last: Optional[_Last] = None
 
     def __call__(self, journal: Journal) -> None:
-        number = self._file.fileno()
-        end = os.lseek(number, 0, os.SEEK_END)
-        before = self._before or _found(number, end)
-        if before.journal() is journal:
+        last = self._last
+        if last and last.journal() is journal:
             # Ctrl-C came just as this had written it.
             return
+        number = self._file.fileno()
+        end = os.lseek(number, 0, os.SEEK_END)
+        before = self._before(number, end)
         try:
-            self._before = _write(number, before, journal)
+            self._last = _write(number, before, journal)
         except BaseException:
-            self._before = before
+            self._last = last
             # If this fails too, the exception still says why the entries weren't written.
             with contextlib.suppress(OSError):
                 os.ftruncate(number, end)
             raise
 
+    def _before(self, number: int, end: int) -> _Before:
+        """Return what follows where the file ends.
 
-def _write(number: int, before: _Before, journal: Journal) -> _Before:
-    """Write a piece, and return what the next one follows."""
+        This looks each time, since a short journal may be in place of the text.
+        """
+        try:
+            return _found(number, end)
+        except OSError:
+            # The file is open for writing alone, and ends with what this wrote.
+            if self._last and self._last.end == end:
+                return self._last.before
+            raise
+
+
+def _write(number: int, before: _Before, journal: Journal) -> _Last:
+    """Write a piece where the file ends, and return what was written."""
     last = None
     if before.is_sealed:
         text, last = journal.sealed_text(before.sum)
@@ -75,7 +98,8 @@ def _write(number: int, before: _Before, journal: Journal) -> _Before:
     while rest:
         rest = rest[os.write(number, rest) :]
     os.fsync(number)
-    return _Before(before.is_sealed, last, weakref.ref(journal))
+    end = os.lseek(number, 0, os.SEEK_CUR)
+    return _Last(end, _Before(before.is_sealed, last), weakref.ref(journal))
 
 
 def _found(number: int, end: int) -> _Before:

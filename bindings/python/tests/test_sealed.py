@@ -154,6 +154,22 @@ class Appended(unittest.TestCase):
             self.write(file)
         self.assertEqual(self.text(), before)
 
+    def test_a_file_goes_on_behind_a_short_journal(self):
+        def put(journal):
+            self.file.truncate(0)
+            self.file.seek(0)
+            self.file.write(journal.sealed_text(None)[0])
+
+        board = Switchboard(2, append_to(self.file))
+        with board.seat() as seat:
+            for _ in range(2):
+                for _ in range(5):
+                    seat.mailbox(int)
+                board.compact_with(put)
+            seat.mailbox(int)
+        board.keep()
+        self.assertEqual(Switchboard.restore([self.text()]).entries, 11)
+
     def test_a_torn_file_gets_no_piece(self):
         last = "0" * 64
         for torn in (
