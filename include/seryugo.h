@@ -754,6 +754,9 @@ uint32_t seryugo_is_full(struct seryugo *room);
  *     } while (seryugo_makes_room(&keeper, &room, &code));
  *
  * Lanes and feeds may be open. A parked seat that is refused with SERYUGO_JOURNAL_FULL is free: its call is made again without is_again.
+ *
+ * To put a short journal in place of what the sink has, call seryugo_compact, write its text from position 0, and call seryugo_shorten
+ * with its count: all this under one lock. Don't call seryugo_compact_and_cut.
  */
 
 /* Takes the entries of a taken journal. The first is at position `from`, which is what seryugo_journal_text wants. Returns true if it has
@@ -769,6 +772,8 @@ struct seryugo_keeper {
     uint64_t from;
     uint64_t count;
     bool is_kept;
+    /* What is added, modulo 2^64, to a position that counts since the room was opened. Fill it with 0. */
+    uint64_t shift;
 };
 
 /* Hands over the entries that the keeper keeps. Returns true if it keeps none then. */
@@ -800,8 +805,31 @@ static inline uint32_t seryugo_keep(struct seryugo_keeper *keeper, struct seryug
     if (code != SERYUGO_DONE) {
         return code;
     }
+    keeper->from += keeper->shift;
     keeper->is_kept = true;
     return seryugo_hand_over(keeper) ? (uint32_t)SERYUGO_DONE : (uint32_t)SERYUGO_JOURNAL_FULL;
+}
+
+/* Cuts the journal behind a short one that seryugo_compact wrote under the same lock, with this count. The short journal stands for the
+ * entries that the keeper keeps, too: they are dropped. From then on the sink's `from` counts from the short journal's beginning. It is
+ * never refused. */
+static inline uint32_t seryugo_shorten(struct seryugo_keeper *keeper, struct seryugo *room, uint64_t count)
+{
+    uint64_t cut = 0;
+    uint32_t code = seryugo_cut_open(room);
+
+    if (code == SERYUGO_DONE) {
+        code = seryugo_cut_at(room, &cut);
+    }
+    if (code != SERYUGO_DONE) {
+        return code;
+    }
+    keeper->shift = count - cut;
+    if (keeper->is_kept) {
+        keeper->is_kept = false;
+        seryugo_close(keeper->journal);
+    }
+    return code;
 }
 
 /* Says whether a call that returned this code is to be made again: the journal was full, and has room now. If it has none, *code is what

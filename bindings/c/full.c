@@ -1,13 +1,13 @@
-/* A journal that is cut by itself: it is dropped, or a sink takes its entries, or the sink refuses them for some time. If there is no
- * memory for a call, the program frees all that it has, and ends with status 5. */
+/* A journal that is cut by itself: it is dropped, or a sink takes its entries, or the sink refuses them for some time. A short journal
+ * takes the place of what the sink has. If there is no memory for a call, the program frees all that it has, and ends with status 5. */
 #include "checks.h"
 
 #include <string.h>
 
 /* What is to be freed: at most one of each kind at a time. */
-static struct seryugo room, lane, reading;
+static struct seryugo room, lane, reading, compacted;
 static struct seryugo_bytes text;
-static bool has_room, has_lane, has_reading, has_text;
+static bool has_room, has_lane, has_reading, has_text, has_short;
 
 /* What a sink has. */
 static struct sink {
@@ -25,6 +25,7 @@ static void free_all(void)
 {
     free_one(&has_text, text);
     close_one(&has_reading, reading);
+    close_one(&has_short, compacted);
     close_one(&has_lane, lane);
     close_one(&keeper.is_kept, keeper.journal);
     close_one(&has_room, room);
@@ -177,11 +178,48 @@ static void try_a_sink_that_refuses(void)
     close_small();
 }
 
+/* A short journal takes the place of what the sink has, and of what it has refused. */
+static void put_short(void)
+{
+    uint64_t count;
+
+    RETURNS(DONE, seryugo_compact(&room, &compacted, &count));
+    has_short = true;
+    sink.length = sink.next = 0;
+    (void)append(&sink, &compacted, 0, count);
+    is_done(SERYUGO_DONE, __LINE__);
+    RETURNS(DONE, seryugo_shorten(&keeper, &room, count));
+    IS(false, keeper.is_kept);
+    close_one(&has_short, compacted);
+}
+
+static void try_a_short_journal(void)
+{
+    keeper = (struct seryugo_keeper){ .sink = append, .context = &sink };
+    open_small();
+    send_and_receive(1, 20);
+    put_short();
+    IS(1, sink.next);
+    send_and_receive(21, 40);
+    sink.refuses = true;
+    RETURNS(JOURNAL_FULL, send(41));
+    IS(true, keeper.is_kept);
+    is_done(send(41), __LINE__);
+    sink.refuses = false;
+    put_short();
+    IS(2, sink.next);
+    is_done(send(42), __LINE__);
+    is_done(seryugo_keep(&keeper, &room), __LINE__);
+    is_lawful(3);
+    close_small();
+}
+
 int main(void)
 {
     try_dropping();
     try_a_sink();
     try_a_sink_that_refuses();
+    try_a_short_journal();
     free_all();
     puts("each full journal is cut");
     return 0;
