@@ -71,9 +71,10 @@ class Room:
     def text_start(self) -> Start:
         """Return where the text begins to which the next journal is added.
 
-        Its caller has the lock.
+        Its caller has the lock, and calls this before each cut: an interrupted `compact_with` may
+        have named a start that a later cut doesn't make.
         """
-        self._text = self._text.latest()
+        self._text = self._text.settled()
         return self._text
 
     def do(self, call: Callable[..., int], *arguments: Any) -> int:

@@ -35,6 +35,12 @@ class Start:
         later = self._later
         return later if later is not None and later._is_made() else self
 
+    def settled(self) -> Start:
+        """Return the latest start. A later one that isn't made by now is never made."""
+        latest = self.latest()
+        latest._later = None
+        return latest
+
     def place(self, position: int) -> int:
         """Return where an entry is in the text. Its position counts since the room was made."""
         return position - self._cut + self._length.value

@@ -304,6 +304,7 @@ class Switchboard:
         return room.within(taken)
 
     def _cut(self, cut: Callable[..., int]) -> None:
+        self._room.text_start()
         code = cut(self._room.handle)
         if code != DONE:
             raise errors.of_code(code)

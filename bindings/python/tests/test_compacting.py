@@ -232,6 +232,21 @@ class Compacting(unittest.TestCase):
             journal = board.take_journal()
             self.assertEqual((journal.start, len(journal)), (1, 1) if is_cut else (0, 8))
 
+    def test_ctrl_c_before_the_cut_of_compact_with_changes_nothing_later(self):
+        sink = Sink()
+        board = Switchboard(5, sink)
+        with board.seat() as seat:
+            mailbox = seat.mailbox(int)
+            for number in range(12):
+                seat.send(mailbox, number)
+            with mock.patch.object(_library, "cut_open", side_effect=KeyboardInterrupt):
+                with self.assertRaises(KeyboardInterrupt):
+                    board.compact_with(lambda journal: None)
+            for number in range(12):
+                seat.send(mailbox, number)
+        board.keep()
+        self.assertEqual(Switchboard.restore([sink.text]).entries, 25)
+
     def test_ctrl_c_before_the_journal_is_cut_changes_nothing(self):
         self.passes(0, 10)
         with mock.patch.object(_library, "compact_and_cut", side_effect=KeyboardInterrupt):
