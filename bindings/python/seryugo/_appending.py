@@ -5,7 +5,7 @@ from __future__ import annotations
 import contextlib
 import os
 import weakref
-from typing import BinaryIO, Callable, NamedTuple, Optional
+from typing import BinaryIO, Callable, NamedTuple, Optional, Tuple
 
 from ._keeping import Sink
 from ._kept import sum_of
@@ -40,6 +40,8 @@ def append_to(file: BinaryIO) -> Sink:
     pieces, or pieces without sums, gets more of them. Open it for reading too: the last line,
     which has the last sum, is read before a piece is written. If that isn't the end of a piece,
     the call fails with a `ValueError`: cut off first what is torn (`Switchboard.restored_from`).
+    It fails so too if the file has an entry where the piece begins, as if a new switchboard gets
+    the file of another one.
 
     It goes on with this file, also if another one gets its name. So `Switchboard.compact_with`
     may write a short journal in place of the file's text, but a crash meanwhile loses the text.
@@ -63,7 +65,7 @@ class _Appending:
             return
         number = self._file.fileno()
         end = os.lseek(number, 0, os.SEEK_END)
-        before = self._before(number, end)
+        before = self._before(number, end, journal.start)
         try:
             self._last = _write(number, before, journal)
         except BaseException:
@@ -73,18 +75,22 @@ class _Appending:
                 os.ftruncate(number, end)
             raise
 
-    def _before(self, number: int, end: int) -> _Before:
+    def _before(self, number: int, end: int, start: int) -> _Before:
         """Return what follows where the file ends.
 
-        This looks each time, since a short journal may be in place of the text.
+        This looks each time, since a short journal may be in place of the text. If the file has
+        an entry at this start of the next piece, the text is another one.
         """
         try:
-            return _found(number, end)
+            entries, before = _found(number, end)
         except OSError:
             # The file is open for writing alone, and ends with what this wrote.
             if self._last and self._last.end == end:
                 return self._last.before
             raise
+        if entries > start:
+            raise ValueError("the file has other entries where the next piece begins")
+        return before
 
 
 def _write(number: int, before: _Before, journal: Journal) -> _Last:
@@ -102,14 +108,14 @@ def _write(number: int, before: _Before, journal: Journal) -> _Last:
     return _Last(end, _Before(before.is_sealed, last), weakref.ref(journal))
 
 
-def _found(number: int, end: int) -> _Before:
-    """Return what follows in a file that ends here, by its last line."""
+def _found(number: int, end: int) -> Tuple[int, _Before]:
+    """Return how many entries a file has that ends here, and what follows, by its last line."""
     if end == 0:
-        return _Before(True, None)
+        return 0, _Before(True, None)
     lines = os.pread(number, _LAST_LINE, max(0, end - _LAST_LINE)).split(b"\n")
     words = lines[-2].split(b" ") if len(lines) > 2 and not lines[-1] else []
     if len(words) in (2, 3) and words[0] == b"end" and words[1].isdigit():
         last = sum_of(words[2]) if len(words) == 3 else None
         if last or len(words) == 2:
-            return _Before(last is not None, last)
+            return int(words[1]), _Before(last is not None, last)
     raise ValueError("the file doesn't end with a piece of a journal")

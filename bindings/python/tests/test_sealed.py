@@ -170,6 +170,15 @@ class Appended(unittest.TestCase):
         board.keep()
         self.assertEqual(Switchboard.restore([self.text()]).entries, 11)
 
+    def test_the_file_of_another_switchboard_gets_no_piece(self):
+        self.write()
+        before = self.text()
+        board = Switchboard(10, append_to(self.file))
+        with board.seat() as seat:
+            seat.mailbox(int)
+        self.assertRaises(ValueError, board.keep)
+        self.assertEqual(self.text(), before)
+
     def test_a_torn_file_gets_no_piece(self):
         last = "0" * 64
         for torn in (

@@ -32,7 +32,7 @@ impl Appending {
     /// Writes a journal where the file ends. A torn piece would make all behind it unreadable, so that none is left there.
     pub fn append<R: Room>(&mut self, journal: &Journal<R>) -> io::Result<()> {
         let end = self.file.seek(SeekFrom::End(0))?;
-        let form = self.form_at(end)?;
+        let form = self.form_at(end, journal.first())?;
         self.file.seek(SeekFrom::Start(end))?;
         match self.write(form, journal) {
             Ok(form) => {
@@ -48,11 +48,16 @@ impl Appending {
     }
 
     /// What follows where the file ends. It looks each time, since the file's owner may have put a short journal in place of the text.
-    fn form_at(&mut self, end: u64) -> io::Result<Form> {
+    /// The next piece begins at this position: if the file has an entry there, the text is another one.
+    fn form_at(&mut self, end: u64, first: u64) -> io::Result<Form> {
         match (form_of(&mut self.file, end), self.left) {
+            (Ok((entries, _)), _) if entries > first => {
+                Err(unfit("the file has other entries where the next piece begins"))
+            }
+            (Ok((_, form)), _) => Ok(form),
             // The file is open for writing alone, and ends with what this wrote.
             (Err(error), Some((left, form))) if error.kind() != ErrorKind::InvalidData && left == end => Ok(form),
-            (found, _) => found,
+            (Err(error), _) => Err(error),
         }
     }
 
@@ -67,25 +72,29 @@ impl Appending {
     }
 }
 
-/// What follows in a file of this length, by its last line.
-fn form_of(file: &mut File, length: u64) -> io::Result<Form> {
+fn unfit(why: &str) -> io::Error {
+    io::Error::new(ErrorKind::InvalidData, why)
+}
+
+/// How many entries a file of this length has, and what follows, by its last line.
+fn form_of(file: &mut File, length: u64) -> io::Result<(u64, Form)> {
     if length == 0 {
-        return Ok(Form::Sealed(None));
+        return Ok((0, Form::Sealed(None)));
     }
     file.seek(SeekFrom::Start(length.saturating_sub(LAST_LINE)))?;
     let mut tail = Vec::new();
     file.take(LAST_LINE).read_to_end(&mut tail)?;
-    ended(&tail).ok_or_else(|| io::Error::new(ErrorKind::InvalidData, "the file doesn't end with a piece of a journal"))
+    ended(&tail).ok_or_else(|| unfit("the file doesn't end with a piece of a journal"))
 }
 
-/// What follows a text that ends so.
-fn ended(tail: &[u8]) -> Option<Form> {
+/// How many entries a text has that ends so, and what follows.
+fn ended(tail: &[u8]) -> Option<(u64, Form)> {
     let (_, line) = std::str::from_utf8(tail).ok()?.strip_suffix('\n')?.rsplit_once('\n')?;
     let mut words = line.strip_prefix("end ")?.split(' ');
-    words.next()?.parse::<u64>().ok()?;
+    let entries = words.next()?.parse().ok()?;
     let form = match words.next() {
         Some(sum) => Form::Sealed(Some(sum.parse().ok()?)),
         None => Form::Plain,
     };
-    words.next().is_none().then_some(form)
+    words.next().is_none().then_some((entries, form))
 }

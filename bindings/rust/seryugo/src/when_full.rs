@@ -87,7 +87,8 @@ impl<R: Room> WhenFull<R> {
     /// An empty file gets pieces with sums, as [`Journal::write_sealed_to`] writes them. A file that has such pieces, or pieces without
     /// sums, gets more of them. Open it for reading too: the last line, which has the last sum, is read before a piece is written. If
     /// that isn't the end of a piece, nothing is written: cut off first what is torn
-    /// ([`restore_torn`](crate::Switchboard::restore_torn)).
+    /// ([`restore_torn`](crate::Switchboard::restore_torn)). Nor is anything written if the file has an entry where the piece begins, as
+    /// if a new switchboard gets the file of another one.
     ///
     /// It goes on with this file, also if another one gets its name. So [`compact_with`](crate::Switchboard::compact_with) may write a
     /// short journal in place of the file's text, but a crash meanwhile loses the text. To rename a new file to the old one's name, use

@@ -260,8 +260,8 @@ fn a_new_file_need_not_be_read() {
 
 #[test]
 fn a_file_goes_on_behind_a_short_journal() {
-    let scratch = Scratch::new("short");
     for sealed in [true, false] {
+        let scratch = Scratch::new("short");
         let mut file = scratch.open();
         let board = Switchboard::of_numbers(2).unwrap().when_full(WhenFull::file(file.try_clone().unwrap()));
         let mut seat = board.seat().unwrap();
@@ -283,6 +283,15 @@ fn a_file_goes_on_behind_a_short_journal() {
         let checker = checked(Checker::of_numbers().unwrap(), &scratch.text()).unwrap();
         assert_eq!((checker.entries(), checker.is_whole(), checker.sum().is_some()), (10, true, sealed));
     }
+}
+
+#[test]
+fn the_file_of_another_switchboard_gets_no_piece() {
+    let scratch = Scratch::new("other");
+    write_some(Switchboard::of_numbers(2).unwrap(), scratch.open()).unwrap();
+    let before = scratch.text();
+    assert_eq!(write_some(Switchboard::of_numbers(2).unwrap(), scratch.open()), Err(Error::NotKept));
+    assert_eq!(scratch.text(), before);
 }
 
 #[test]
