@@ -135,7 +135,7 @@ class Journal:
         return library.taken_over(text)
 
     def sealed_text(self, after: Optional[bytes]) -> Tuple[bytes, bytes]:
-        """Return the entries as a piece with a sum, by which damage is always seen, and the sum.
+        """Return the entries as a piece with a sum, which shows damage, and the sum.
 
         `after` is the sum of the piece before, and `None` for the first piece of a text. All
         pieces of a text have sums, or none has. If a reader finds a byte changed, or a piece left

@@ -160,7 +160,7 @@ impl<R: Room> Journal<R> {
         to.write_all(text.as_slice())
     }
 
-    /// Writes the entries as a piece with a sum, by which damage is always seen. `after` is the sum of the piece before, and `None` for
+    /// Writes the entries as a piece with a sum, which shows damage. `after` is the sum of the piece before, and `None` for
     /// the first piece of a text. Returns the sum of this piece.
     ///
     /// All pieces of a text have sums, or none has. If a reader finds a byte changed, or a piece left out, doubled or exchanged, it has a
