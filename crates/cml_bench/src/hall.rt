@@ -249,7 +249,7 @@ impl<M: Numbered, Led: Ledger, R: Runtime> Seated<'_, M, Led, R> {
         Some(())
     }
 
-    /// Drains the lanes and receives what came, or multicasts a batch and pumps the feeds, until so many messages have moved.
+    /// Drains the lanes and receives what came, or multicasts a batch and pumps the feeds, until this many messages have moved.
     fn move_all(&mut self, rings: Rings, all: u64) -> Done {
         let (part, mut next, mut moved) = (self.part, 0u64, 0u64);
         for _ in self.hall.run.rt.forever() {

@@ -22,7 +22,7 @@ use std::time::Duration;
 use std::{env, io};
 use workloads::{Ground, Messages, WORKLOADS, Workload};
 
-/// So many multicasts, each with its receives, are within a journal's limit.
+/// How many multicasts, each with its receives, are within a journal's limit.
 const MOST: u64 = 400_000_000;
 
 const LIMIT: u64 = 4_294_967_296;

@@ -37,7 +37,7 @@ pub trait Numbered: Message {
     /// `None` if there is no memory for it.
     fn of_number(supply: &Supply, number: u64) -> Option<Self>;
 
-    /// The sum with this message behind it. The order of messages changes it.
+    /// The sum with this message after it. The order of messages changes it.
     fn added_to(&self, sum: u64) -> u64;
 }
 

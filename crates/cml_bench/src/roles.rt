@@ -44,7 +44,7 @@ pub enum Role {
     FeedReader,
     /// Multicasts, and pumps this many feeds.
     Pumper(u64),
-    /// Drains so many lanes onto a channel, pumps so many feeds from it, and cuts the journal while all are open.
+    /// Drains this many lanes onto a channel, pumps this many feeds from it, and cuts the journal while all are open.
     Soaker(u64, u64),
 }
 
@@ -60,7 +60,7 @@ pub enum Verb {
     Answer,
 }
 
-/// A call on the object with this number. Then a call on each of so many objects, from that number on.
+/// A call on the object with this number. Then a call on each of this many objects, from that number on.
 #[derive(Clone, Copy)]
 pub struct Turn(Verb, u64, Verb, u64, u64);
 
@@ -80,7 +80,7 @@ pub trait Caller {
 }
 
 impl Role {
-    /// What the thread at this place of so many does, where all together make so many turns. Each reader makes all of them.
+    /// What the thread at this place of `threads` does, where all together make `turns` turns. Each reader makes all of them.
     pub fn part(self, place: u64, threads: u64, turns: u64) -> Part {
         let each = match self {
             Reader => turns,

@@ -17,7 +17,7 @@ pub enum Ground {
     Journal,
     /// A log in a deque, with eight cursors.
     Deque,
-    /// The same in chunks.
+    /// A log in chunks, with eight cursors.
     Chunks,
     /// A lane, beside a bare ring and a board.
     Lane,
@@ -32,7 +32,7 @@ pub enum Messages {
     One,
     /// The digits of numbers.
     Texts,
-    /// The same with 20 digits each.
+    /// The digits of numbers, 20 each.
     LongTexts,
     /// This many bytes.
     Bytes(usize),

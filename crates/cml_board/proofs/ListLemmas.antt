@@ -66,7 +66,7 @@ take_whole zero (x ∷ xs) within = absurd (omega arith)
 take_whole (suc n) [] within = refl
 take_whole (suc n) (x ∷ xs) within = ap (λ zs. x ∷ zs) (take_whole n xs (omega arith))
 
--- an item behind the first
+-- an item after the first
 pub slice_get_drop : {X : Type 0} (n i : ℕ) (xs : List X) → slice_get (drop n xs) i ≡ slice_get xs (n + i)
 slice_get_drop zero i xs = ap (slice_get xs) (omega arith)
 slice_get_drop (suc n) i [] = refl

@@ -1,4 +1,4 @@
--- No object's place is behind the end of what it reads.
+-- No object's place is after the end of what it reads.
 use Rattle.std.proofs.Common.{◌≡◌, ℕ, zero, suc, ◌+◌, ◌-◌, ◌≤◌, inl, inr, List, [], ◌∷◌, length, drop, slice_get, Option}
 use Rattle.std.proofs.Common.{Some, refl, sym, ap, subst, ◌∙◌, arith}
 use Rattle.std.proofs.lemmas.Bool.{cases_lt}
@@ -47,7 +47,7 @@ module _ {M : Type 0} where
   entry_within h o j call (Made n) lawful others = made_within h o j call lawful others
   entry_within h o j call reply lawful others = omega arith
 
-  -- what is sent later comes behind
+  -- what is sent later comes after
   within_later : (entry : Entry M) (before : List (Entry M)) (o : ℕ) (origin : Option Origin) → BeginsWithin before o origin
       → BeginsWithin (entry ∷ before) o origin
   within_later entry before o origin within =
@@ -69,7 +69,7 @@ module _ {M : Type 0} where
             (entry_within before o there.0 entry.call entry.reply lawful.2 (λ k. begins_within before k lawful.2)))
       ]
 
-  -- so no object's place is behind the end
+  -- so no object's place is after the end
   pub stands_within : (h : List (Entry M)) (o : ℕ) → Lawful h
       → start_by (origin_of h o) + length (got h o) ≤ length (sent h (source_by o (origin_of h o)))
   stands_within h o lawful =

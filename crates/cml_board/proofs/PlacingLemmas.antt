@@ -68,7 +68,7 @@ module _ {A M : Type 0} where
   kept_reserved log olds xs i x y stands same read kept =
       seen_kept log xs i x y (omega (arith, log_within log olds i stands, ap length same)) read kept ∙ ap (seen_all log) same
 
-  -- memory was reserved, and a port was added behind it
+  -- memory was reserved, and a port was added after it
   pub adds_port : (log : A → Log M) (olds xs ys : List (Object M A)) (source : Name) (x y : Object M A)
       (key start : ℕ) (from : Log M → ℕ) (was : Log M)
       → HasLog (seen_all log olds) source.0 → xs ≡ olds → x ≡ get_or xs source.0 x → OpensIn (map_log log x) (map_log log y) key from

@@ -34,7 +34,7 @@ module _ {M : Type 0} where
   held_told chunk past [] o = refl
   held_told chunk past (entry ∷ before) o = ap (unwrap_or (left_by entry.call entry.reply o)) (held_told chunk past before o)
 
-  -- at the cut an object stood behind what it had received from its start on
+  -- at the cut an object stood after what it had received from its start on
   pub stood_told : (chunk : ℕ) (past since : List (Entry M)) (o : ℕ) → Lawful (since ++ past)
       → stood_at (base_of chunk past) o (origin_of (since ++ past) o) ≡ start_by (origin_of (since ++ past) o) + length (got past o)
   stood_told chunk past since o lawful = elim (cases_lt o (length (made past))) [
@@ -48,7 +48,7 @@ module _ {M : Type 0} where
         ∙ omega (arith, none)
   ]
 
-  -- and at the end behind what it received since, too
+  -- and at the end after what it received since, too
   place_from_told : (chunk : ℕ) (past since : List (Entry M)) (o : ℕ) → Lawful (since ++ past)
       → place_from (base_of chunk past) (origin_of (since ++ past) o) since o ≡ place (since ++ past) o
   place_from_told chunk past since o lawful = omega (arith, stood_told chunk past since o lawful, length-got_split past since o)

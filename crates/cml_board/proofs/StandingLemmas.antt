@@ -189,7 +189,7 @@ module _ {M : Type 0} where
       let is = owed_is chunk n f objects name source key cursor.stands.log shows reads cursor.stands.found in
       record { cursor = cursor; owed = subst (λ xs. 0 < length xs) (sym is) (some_owed (drop (place_by (f name)) (f source).sent) some) }
 
-  -- nothing is given back that the object has still to read, and its place is no later than the end
+  -- nothing is freed that the object has still to read, and its place is no later than the end
   pub kept_is : (chunk n : ℕ) (f : ℕ → Facts M) (objects : List (Object M (Log M))) (name source key : ℕ) (log : Log M)
       → Shows chunk n f objects
       → cursor_at objects name ≡ Some (source, key) → log_at objects source ≡ Some log

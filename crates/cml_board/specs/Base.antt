@@ -61,7 +61,7 @@ module _ {M : Type 0} where
   abbrev pub place_from : Base M → Option Origin → List (Entry M) → ℕ → ℕ
   place_from base origin since object = stood_at base object origin + length (got since object)
 
-  -- how the object began that a call makes, if these were made before: a new port starts behind all that was multicast on its
+  -- how the object began that a call makes, if these were made before: a new port starts after all that was multicast on its
   -- channel, and a copy at its original's place
   abbrev pub begun_since : Base M → List Origin → List (Entry M) → Call M → List Origin
   begun_since base origins before (NewPort name) = port name.0 (count_since base before name.0) ∷ []

@@ -33,7 +33,7 @@ module _ {M : Type 0} where
   Checks journal (Ok done) = Lawful (reverse journal)
   Checks journal (Err k) = IsFirstUnlawful journal k
 
-  -- a history with the first k entries of the journal's next piece behind it
+  -- a history with the first k entries of the journal's next piece after it
   abbrev pub followed_by : List (Entry M) → List (Entry M) → ℕ → List (Entry M)
   followed_by history piece k = before piece k ++ history
 
@@ -46,7 +46,7 @@ module _ {M : Type 0} where
     pub lawful : Lawful (followed_by history piece k)
     pub unlawful : IsLawfulNext (followed_by history piece k) entry → ⊥
 
-  -- what becomes of an entry's call behind a history that the entry may not follow
+  -- what becomes of an entry's call after a history that the entry may not follow
   abbrev pub Expects : List (Entry M) → Entry M → Expected M → Type 0
   Expects history entry (Reply reply) = Fits history entry.call × (answer history entry.call ≡ Some reply) × (reply ≢ entry.reply)
   Expects history entry WouldWait = Fits history entry.call × (answer history entry.call ≡ None)
@@ -54,7 +54,7 @@ module _ {M : Type 0} where
   Expects history entry (Refused WrongKind) = IsMade history entry.call × ¬ (IsTaken history entry.call)
   Expects history entry (Refused refusal) = ⊥
 
-  -- this becomes of the call of the piece's entry at this position, behind the entries before it
+  -- this becomes of the call of the piece's entry at this position, after the entries before it
   pub record IsExpected (history piece : List (Entry M)) (at : ℕ) (expected : Expected M) : Type 0 where
     pub k : ℕ
     pub entry : Entry M

@@ -1,4 +1,4 @@
--- What a lawful history is. A history is a list of entries, the newest first. The entries before an entry are the tail behind
+-- What a lawful history is. A history is a list of entries, the newest first. The entries before an entry are the tail after
 -- it, so each definition goes back from the newest entry.
 use Rattle.std.specs.Prelude.{ℕ, ◌≡◌, ◌==◌, ◌+◌, Bool, true, false, not, ◌&&◌, List, [], ◌∷◌, ◌++◌, length, drop, slice_get, Option}
 use Rattle.std.specs.Prelude.{Some, is_some, unwrap_or, IsTrue, IsSome, IfSome, ⊤, if◌then◌else◌}
@@ -81,7 +81,7 @@ module _ {M : Type 0} where
   is_open [] object = true
   is_open (entry ∷ before) object = is_open before object && not (closes entry.call entry.reply object)
 
-  -- how the object began that a call makes, if these were made before: a new port starts behind all that was multicast on its
+  -- how the object began that a call makes, if these were made before: a new port starts after all that was multicast on its
   -- channel, and a copy at its original's place
   abbrev pub begun_by : List Origin → List (Entry M) → Call M → List Origin
   begun_by origins before NewMailbox = mailbox ∷ []

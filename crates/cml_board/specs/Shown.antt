@@ -23,13 +23,13 @@ pub record Shown (M : Type 0) : Type 0 where
   pub reserved : ℕ
 
 module _ {M : Type 0} where
-  -- how many entries there may be since the board was made: so many more than were cut away as the limit says, and never
+  -- how many entries there may be since the board was made: as many more than were cut away as the limit says, and never
   -- more than a number tells
   abbrev pub full_at : Shown M → ℕ
   full_at board = min (entries_in board.past + board.limit) 18446744073709551615
 
-  -- the log that an object reads, with its cursor there: no chunk is given back that the cursor's place is in, nor any
-  -- behind it
+  -- the log that an object reads, with its cursor there: no chunk is freed that the cursor's place is in, nor any
+  -- after it
   pub record Reads (board : Shown M) (object source : ℕ) : Type 0 where
     pub key : ℕ
     pub log : Log M

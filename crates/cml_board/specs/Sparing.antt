@@ -8,7 +8,7 @@ use Rattle.cml_board.specs.declared.entry.Entry.{Entry}
 use Rattle.cml_board.specs.Shown.{Shown}
 use Rattle.cml_board.specs.History.{sent, answer}
 
--- one more message would be the last of its chunk, where so many were sent
+-- if this many were sent, one more message is the last of its chunk
 abbrev pub ends_chunk : ℕ → ℕ → Bool
 ends_chunk chunk count = count % chunk == chunk - 1
 

@@ -68,7 +68,7 @@ impl<M: Message, L: MessageLog<M>> Board<M, L> {
         Ok(Board::fresh(alloc, limit))
     }
 
-    /// The same, which takes no memory yet.
+    /// Makes a board with no objects, which takes no memory yet.
     pub(crate) fn fresh(alloc: Global, limit: u64) -> Board<M, L>
         requires least { 1 ≤ limit }
         requires most { limit ≤ 2 ^ 32 }

@@ -36,7 +36,7 @@ pub fn check<M: Message>(
 pub struct Checker<M: Message> {
     alloc: Global,
 
-    // Its journal is cut behind each entry.
+    // Its journal is cut after each entry.
     board: Board<M, BoardLog<M>>,
     makers: Makers,
     unlawful: Option<Unlawful<M>>,

@@ -12,9 +12,9 @@ use std::marker::Model;
 pub struct Makers {
     /// One more than the highest number of a seat that made an entry; 0 if no seat did.
     pub seats: u64,
-    /// The same of lanes.
+    /// One more than the highest number of a lane that made an entry; 0 if no lane did.
     pub lanes: u64,
-    /// The same of feeds.
+    /// One more than the highest number of a feed that made an entry; 0 if no feed did.
     pub feeds: u64,
     /// How many entries lanes and feeds made.
     pub rings: u64,
@@ -58,7 +58,7 @@ impl Makers {
 }
 
 /// A board that begins with the history of another, as a journal gives it, and who made its entries. `Floor`, `Room`, `Hall`
-/// and `Switchboard` go on from it: they number new seats, lanes and feeds behind those of the journal.
+/// and `Switchboard` go on from it: they number new seats, lanes and feeds after those of the journal.
 #[derive(Drop)]
 pub struct Restored<M, L: MessageLog<M>> {
     board: Board<M, L>,

@@ -26,7 +26,7 @@ abbrev pub told_verdict : Result ⊤ ℕ → Code
 told_verdict (Ok done) = Done
 told_verdict (Err at) = Unlawful
 
--- the entries are lawful behind those before, or one is not
+-- the entries are lawful after those before, or one is not
 pub record Judges {M : Type 0} (entries : List (Entry M)) (code : ℕ) (old new : Seen M) : Type 0 where
   pub verdict : Result ⊤ ℕ
   pub feeds : Feeds old entries new verdict
@@ -118,7 +118,7 @@ abbrev pub FeedsParts : Parts → Kept → Kept → ℕ → Type 0
 FeedsParts given old new code = OnBytes (OnChecker (FeedsEntry (entry_with given) code)) ⊤ code old new
     ⊎ CopiesNeither given.sent given.got code old new
 
--- the verdict is told, and how many entries were found lawful, and the checker is as it was
+-- the verdict and how many entries were found lawful are written, and the checker is as it was
 pub record TellsVerdict {M : Type 0} (code after : ℕ) (old new : Seen M) : Type 0 where
   pub told : code ≡ number (told_verdict (verdict_of old))
   pub count : after ≡ count_of old

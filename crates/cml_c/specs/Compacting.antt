@@ -50,7 +50,7 @@ module _ {M : Type 0} (version : ℕ) (meaning : List ℕ → Option M) where
       GivesShort wrap to after reading.value left told
       ⊎ ((after ≡ before) × (HasStopped version meaning reading from to left told ⊎ OpensNone NoMemory Spent from to left told))
 
-  -- the handle leads to a reading, and this becomes of that; else the call is wrong
+  -- the handle leads to a reading, and this becomes of it; else the call is wrong
   abbrev pub Shortens : (Resource M → Kept) → Slot → Slot → ℕ → ℕ → ℕ → Resource M → Resource M → Type 0
   Shortens wrap from to before after told (Reading reading) left = ShortensBy wrap from to before after reading left told
   Shortens wrap from to before after told other left = IsWrong ((to ≡ from) × (after ≡ before)) told other left

@@ -105,7 +105,7 @@ FindsBytes None code from to = (code ≡ number NoSuch) × (to ≡ from)
 abbrev pub IsJournal : {M : Type 0} → RoomShown M → List (Entry M) → Type 0
 IsJournal room journal = reverse journal ++ room.board.past ≡ room.board.history
 
--- this is the entry of a position: that was cut away; or it is a place in the journal, which may have so many entries or not
+-- this is the entry of a position: that was cut away; or it is a place in the journal, which may have that many entries or not
 abbrev pub IsAt : {M : Type 0} → ℕ → RoomShown M → Option (Entry M) → Type 0
 IsAt {M} at room found =
     ((at < entries_in room.board.past) × (found ≡ None))

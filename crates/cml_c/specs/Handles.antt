@@ -53,7 +53,7 @@ OnBoth becomes code (Bytes old) new (Bytes from) to =
     × becomes (List ℕ) false code old left from other
 OnBoth becomes code old new from to = IsWrong (to ≡ from) code old new
 
--- it is a room, a lane, a feed, a checker or a reading, and this becomes of that; else the call is wrong
+-- it is a room, a lane, a feed, a checker or a reading, and this becomes of it; else the call is wrong
 abbrev pub OnRoom : {M : Type 0} → (RoomShown M → RoomShown M → Type 0) → Type 0 → ℕ → Resource M → Resource M → Type 0
 OnRoom {M} becomes same code (Room old) new = (room : Box (Stocked M) Global) × (new ≡ Room room) × becomes old.value.room room.value.room
 OnRoom becomes same code other new = IsWrong same code other new

@@ -14,7 +14,7 @@ use Rattle.cml_c.specs.Handles.{IsWrong, OnBytes, OnRoom, OnLane}
 use Rattle.cml_c.specs.Asking.{chunk}
 use Rattle.cml_c.specs.Messages.{NotCopied}
 
--- a ring may have room for so many messages
+-- a ring may have room for this many messages
 abbrev pub IsCapacity : ℕ → Type 0
 IsCapacity capacity = (1 ≤ capacity) × (capacity ≤ 1024)
 

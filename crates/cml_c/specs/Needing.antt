@@ -20,7 +20,7 @@ MayBeLong (Recv source) message = ⊤
 MayBeLong (Poll source) message = ⊤
 MayBeLong call message = 78 < length message
 
--- behind this history the call is answered with such a message
+-- after this history the call is answered with such a message
 pub record IsGiven (history : List (Entry (List ℕ))) (call : Call (List ℕ)) : Type 0 where
   pub message : List ℕ
   pub answer : answer history call ≡ Some (Got message)

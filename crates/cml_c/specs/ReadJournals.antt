@@ -41,7 +41,7 @@ abbrev pub IsReadTo : {M : Type 0} → ℕ → (List ℕ → Option M) → List 
 IsReadTo version meaning bytes progress None = IsSoFar version meaning bytes progress
 IsReadTo version meaning bytes progress (Some halted) = HaltTells version meaning bytes progress halted
 
--- these bytes are read behind any others; a reading that had stopped stays as it was
+-- these bytes are read after any others; a reading that had stopped stays as it was
 pub record Takes {M : Type 0} (version : ℕ) (meaning : List ℕ → Option M) (bytes : List ℕ) (code : ℕ) (old new : Progress M) : Type 0 where
   pub told : code ≡ number (told_so_far new.halt)
   pub read : (before : List ℕ) → IsSoFar version meaning before old → IsReadTo version meaning (before ++ bytes) new new.halt

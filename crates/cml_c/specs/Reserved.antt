@@ -1,4 +1,4 @@
--- A reservation of so many entries, and a cut, as of a floor.
+-- A reservation of memory for entries, and a cut, as of a floor.
 use Rattle.std.specs.Prelude.{ℕ, ◌≤◌, Result, ⊤}
 use Rattle.cml_board.specs.{Refusal}
 use Rattle.cml_lanes.specs.{FloorShown, Reserves, CutsAFloor}

@@ -77,7 +77,7 @@ module _ {M : Type 0} (version : ℕ) (meaning : List ℕ → Option M) where
       ⊎ (IsLimit limit × (OpensRoom wrap limit to reading.value left told ⊎ HasStopped reading from to left told
       ⊎ OpensNone NoMemory Spent from to left told))
 
-  -- the handle leads to a reading, and this becomes of that; else the call is wrong
+  -- the handle leads to a reading, and this becomes of it; else the call is wrong
   abbrev pub Restores : (Resource M → Kept) → ℕ → Slot → Slot → ℕ → Resource M → Resource M → Type 0
   Restores wrap limit from to told (Reading reading) left = RestoresBy wrap limit from to reading left told
   Restores wrap limit from to told other left = IsWrong (to ≡ from) told other left

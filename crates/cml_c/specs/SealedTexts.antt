@@ -24,8 +24,8 @@ sum_by false bytes = None
 abbrev pub sum_in : SeryugoSum → Option Sum
 sum_in sum = sum_by sum.is_there sum.bytes
 
--- the text of these entries as one piece, behind one with this sum if there is one, is handed over with its sum, and a reading takes
--- each line; or nothing is, for one of these reasons; or no position is behind them
+-- the text of these entries as one piece, after one with this sum if there is one, is handed over with its sum, and a reading takes
+-- each line; or nothing is, for one of these reasons; or no position is after them
 abbrev pub HandsSealed : {M : Type 0} → ℕ → (M → List ℕ) → ℕ → ℕ → SeryugoSum → SeryugoSum → SeryugoBytes → SeryugoBytes
     → List (Entry M) → Type 0
 HandsSealed version text at told before after from to entries =

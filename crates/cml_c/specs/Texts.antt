@@ -20,7 +20,7 @@ IsUnwritten text entries TooLong = (place : ℕ) × IsTooLong text entries place
 IsUnwritten text entries code = ⊥
 
 -- the text of these entries as one piece, whose first has this position, is handed over, and a reading takes each line; or it is
--- not, for one of these reasons; or no position is behind them
+-- not, for one of these reasons; or no position is after them
 abbrev pub HandsText : {M : Type 0} → ℕ → (M → List ℕ) → ℕ → ℕ → SeryugoBytes → SeryugoBytes → List (Entry M) → Type 0
 HandsText version text at told from to entries =
     ((at + length entries < 2 ^ 64) × (told ≡ number Done) × AreShort text entries

@@ -94,7 +94,7 @@ fn tell(spare: &mut Option<Box<Held>>, response: Response<Bytes>, given: &mut Se
     }
 }
 
-/// The same of a call that gave no long message.
+/// The code of what became of a call that gave no long message. The message is handed over.
 fn tell_short(response: Response<Bytes>, given: &mut SeryugoBytes) -> Code
     requires { IsShortResponse response }
     ensures code { (entries : ℕ) (call : Call (List ℕ)) → result ≡ told_outcome (outcome_of entries call response) }

@@ -28,7 +28,7 @@ pub(crate) fn make_sending_call(
     on_one!(handle, Bytes(Room(room)) => send_in(alloc, &mut room.room, seat, sending, message, name))
 }
 
-/// The same of a call that gives no name.
+/// Copies a message and makes the call that sends it. The call gives no name.
 pub(crate) fn make_nameless_sending_call(
     alloc: Global,
     handle: &mut Handle,

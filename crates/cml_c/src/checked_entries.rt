@@ -13,7 +13,7 @@ use cml_board::{Ask, Bytes, Call, Checker, Entry, Give, Make, Message, Name, Rep
 use cml_calls::shape_of_filled;
 use std::alloc::Global;
 
-/// Checks an entry of numbers behind those before. What its kind doesn't have is not read.
+/// Checks an entry of numbers after those before. What its kind doesn't have is not read.
 #[unsafe(no_mangle)]
 pub extern "C" fn seryugo_checker_feed(checker: &mut Handle, entry: &SeryugoEntry) -> u32
     ensures { OnNumbers (OnChecker (FeedsEntry (entry_in entry.now) result)) ⊤ result checker.old.kept checker.new.kept }
@@ -21,7 +21,7 @@ pub extern "C" fn seryugo_checker_feed(checker: &mut Handle, entry: &SeryugoEntr
     on_one!(checker, Numbers(Checker(checker)) => feed_number(checker, entry_in(entry)))
 }
 
-/// Copies an entry of bytes, and checks it behind those before. What its kind doesn't have is not read.
+/// Copies an entry of bytes, and checks it after those before. What its kind doesn't have is not read.
 #[unsafe(no_mangle)]
 pub extern "C" fn seryugo_bytes_checker_feed_from(
     alloc: Global,

@@ -90,7 +90,7 @@ fn feed_from<M: Message>(checker: &mut Checker<M>, journal: &[Entry<M>], place: 
     }
 }
 
-/// Checks these entries behind those before.
+/// Checks these entries after those before.
 pub(crate) fn feed<M: Message>(checker: &mut Checker<M>, entries: &[Entry<M>]) -> u32
     ensures { FeedsIn entries.now result checker.old checker.new }
 {
@@ -113,7 +113,7 @@ fn code_of_verdict(verdict: Result<(), u64>) -> Code
     }
 }
 
-/// Writes how many entries were found lawful. Returns `Unlawful` if the entry behind them is not.
+/// Writes how many entries were found lawful. Returns `Unlawful` if the entry after them is not.
 #[unsafe(no_mangle)]
 pub extern "C" fn seryugo_checker_verdict(checker: &mut Handle, count: &mut u64) -> u32
     ensures { OnEither (λ M sure. OnChecker (TellsVerdict result count.new))

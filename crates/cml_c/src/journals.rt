@@ -152,7 +152,7 @@ fn take_open_in<M: Sort>(
     Code::Done.number()
 }
 
-/// Writes the entry of this place, from 0, of a journal that was taken. Fails with `NoSuch` behind the last one.
+/// Writes the entry of this place, from 0, of a journal that was taken. Fails with `NoSuch` after the last one.
 #[unsafe(no_mangle)]
 pub extern "C" fn seryugo_taken_entry(
     journal: &mut Handle,
@@ -165,7 +165,7 @@ pub extern "C" fn seryugo_taken_entry(
     on_one!(journal, Numbers(Journal(journal)) => write_found(entry_of_place(journal, place), entry))
 }
 
-/// Hands over the entry of this place, from 0, of a journal that was taken. Fails with `NoSuch` behind the last one.
+/// Hands over the entry of this place, from 0, of a journal that was taken. Fails with `NoSuch` after the last one.
 #[unsafe(no_mangle)]
 pub extern "C" fn seryugo_bytes_taken_entry(
     alloc: Global,

@@ -70,7 +70,7 @@ macro_rules! on_either {
     };
 }
 
-/// The same if its messages are of this kind alone.
+/// Evaluates the expression for what a handle leads to, if its messages are of this kind. Else the call is wrong.
 macro_rules! on_one {
     ($handle:expr, $kind:ident($sort:ident($resource:ident)) => $result:expr) => {
         match $handle.as_mut() {

@@ -18,7 +18,7 @@ grown : {X : Type 0} (xs : List X) (added : Option X) (rest : List X) → (xs ++
 grown xs None rest = ap (λ l. l ++ rest) (append-nil xs)
 grown xs (Some x) rest = append_assoc xs (x ∷ []) rest
 
--- what one line adds, and what the later lines add behind it
+-- what one line adds, and what the later lines add after it
 pub grown_at : {X S Y : Type 0} (src : X → S) (f : S → Option Y) (ds : List X) (i : ℕ) (d : X) (ys zs whole : List Y)
     → i < length ds → d ≡ get_or ds i d
     → zs ≡ ys ++ option_to_list (f (src d)) → ys ++ filter_map f (map src (drop i ds)) ≡ whole

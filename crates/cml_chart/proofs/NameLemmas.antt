@@ -26,7 +26,7 @@ column_texts (k ∷ ks) word =
     ∙ ap (λ r. cond (bytes_eq word (string_bytes k)) (Some 0) (option_map suc r)) (column_texts ks word)
     ∙ sym (position-cons (bytes_eq word) (string_bytes k) (names_of ks))
 
--- a name that is put in goes behind the others, if it is not among them
+-- a name that is put in goes after the others, if it is not among them
 pub put_in : (keys : List (String Global)) (name : String Global)
     → names_of (insert_key string_eq keys name) ≡ with_name (names_of keys) (string_bytes name)
 put_in keys name = by (list_any (string_eq name) keys)

@@ -37,7 +37,7 @@ shown_row row = record { deed = shown_act row.act; arrow = Some (row.actor, row.
 abbrev pub titles_of : List Thing → Words
 titles_of things = map (λ (t : Thing). t.name) things
 
--- The columns are the threads of the script, the other actors, and behind them the objects, each with a name that no other
+-- The columns are the threads of the script, the other actors, and after them the objects, each with a name that no other
 -- column has. There is a row for each line, in the lines' order, and each row has an arrow.
 pub record IsChart (threads : List Standing) (deeds : List Deed) (things : List Thing) (chart : Chart) : Type 0 where
   pub names : names_of chart.names.keys ≡ doers_of threads deeds ++ titles_of things

@@ -24,11 +24,11 @@ column_of names word = position (bytes_eq word) names
 abbrev pub is_among : Words → List ℕ → Bool
 is_among names word = list_any (bytes_eq word) names
 
--- the names, and behind them one that is not among them yet
+-- the names, and after them one that is not among them yet
 abbrev pub with_name : Words → List ℕ → Words
 with_name names word = if is_among names word then names else names ++ word ∷ []
 
--- .. and behind them those of these, each once
+-- .. and after them those of these, each once
 abbrev pub each_once : Words → List (Option (List ℕ)) → Words
 each_once names [] = names
 each_once names (found ∷ later) = each_once (option_map_or (with_name names) found names) later

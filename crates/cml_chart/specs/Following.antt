@@ -20,14 +20,14 @@ use Rattle.cml_chart.specs.declared.chart.Course.{Course}
 abbrev pub is_feed : Words → List ℕ → List ℕ → Bool
 is_feed feeds number name = is_number number && option_map_or (bytes_eq name) (slice_get feeds (digits_value 10 number)) false
 
--- The threads behind a row of the script. A thread's row reports the thread's next step, a lane's row is on an object that
+-- The threads after a row of the script. A thread's row reports the thread's next step, a lane's row is on an object that
 -- lanes lead to, and a feed's row is on the feed of that number. Any other row is not the script's.
 abbrev pub pass : Words → Words → List Standing → Deed → Doer → Option (List Standing)
 pass feeds targets threads d (thread name) = perform threads name d
 pass feeds targets threads d (lane number) = if is_among targets d.object then Some threads else None
 pass feeds targets threads d (feed number) = if is_feed feeds number d.object then Some threads else None
 
--- .. behind all these rows, from number k on; or the number of the first that is not the script's
+-- .. after all these rows, from number k on; or the number of the first that is not the script's
 abbrev pub follow : Words → Words → List Standing → ℕ → List Deed → Result (List Standing) ℕ
 follow feeds targets threads k [] = Ok threads
 follow feeds targets threads k (d ∷ ds) =
@@ -45,7 +45,7 @@ strange_thing k _ _ = Some k
 abbrev pub strange_at : ℕ → Result (List Standing) Fault
 strange_at k = Err (record { line = k; what = OtherScript })
 
--- the threads behind a report of this script, or the fault of the least line that is none of it
+-- the threads after a report of this script, or the fault of the least line that is none of it
 abbrev pub followed_by : Result (List Standing) ℕ → Option ℕ → Result (List Standing) Fault
 followed_by (Err k) strange = strange_at k
 followed_by (Ok threads) (Some k) = strange_at k

@@ -178,7 +178,7 @@ may_leave stop left =
     if bytes_eq stop (codes "done") then length left == 0
     else list_any (bytes_eq stop) (words_of (codes "stalled full held")) && fits (words_of (codes "left #")) left
 
--- the last line, behind so many lines of the first part, which it counts
+-- the last line, after this many lines of the first part, which it counts
 unfoldable pub ended_of : ℕ → List ℕ → Words → Option Ended
 ended_of count line (first ∷ stop ∷ performed ∷ left) =
     if bytes_eq first (codes "end:") && (is_number performed && (digits_value 10 performed == count)) && may_leave stop left
@@ -190,7 +190,7 @@ pub data Line : Type 0 where
   thing : Thing → Line
   ended : Ended → Line
 
--- the line of these words behind so many lines of the first part
+-- the line of these words after this many lines of the first part
 abbrev pub line_by : ℕ → List ℕ → Words → Option Line
 line_by count line words =
     option_or (option_map ended (ended_of count line words))

@@ -50,7 +50,7 @@ feeds_in script = filter_map feed_in script.declarations
 abbrev pub objects_in : Lines → List Made
 objects_in script = filter_map object_in script.declarations ++ filter_map (λ line. port_in line.words) script.steps
 
--- the objects that lanes lead to: a lane line names its thread, its object and its room behind its first word
+-- the objects that lanes lead to: a lane line names its thread, its object and its room after its first word
 abbrev pub target_in : SourceLine → Option (List ℕ)
 target_in line = slice_get line.words 2
 

@@ -49,7 +49,7 @@ abbrev pub told_by : (SoFar → Told) → ℕ → Result SoFar What → Told
 told_by later k (Ok read) = later read
 told_by later k (Err what) = wrong_at k what
 
--- what a text is whose parts from number k on are these, behind what was read
+-- what a text is whose parts from number k on are these, after what was read
 abbrev pub told_from : SoFar → ℕ → List (List ℕ) → Told
 told_from read k [] = wrong_at k NoEndLine
 told_from read k (rest ∷ []) = told_at_end read k rest

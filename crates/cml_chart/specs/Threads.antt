@@ -23,7 +23,7 @@ tells s d = option_map_or (λ step. bytes_eq (step ++ codes ": " ++ d.reply) d.l
 abbrev pub advanced : Bool → Standing → Standing
 advanced told s = if told then record s { performed = s.performed + 1 } else s
 
--- the threads behind a row of the one with this name, which reports that thread's next step
+-- the threads after a row of the one with this name, which reports that thread's next step
 abbrev pub perform : List Standing → List ℕ → Deed → Option (List Standing)
 perform [] name d = None
 perform (s ∷ ss) name d =

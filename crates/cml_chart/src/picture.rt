@@ -91,7 +91,7 @@ pub(crate) fn push_step(out: &mut String, stop: &str, step: &str) -> Added {
     write!(out, "{says}: {step}")
 }
 
-/// Adds how many of all rows are drawn, and behind how many others, unless all are drawn.
+/// Adds how many of all rows are drawn, and after how many others, unless all are drawn.
 pub(crate) fn push_note(out: &mut String, picture: &Picture<'_, '_>, end: &str) -> Added {
     let (drawn, all) = (picture.rows.len(), picture.course.chart.rows.len());
     let before = picture.before;

@@ -75,7 +75,7 @@ copy_told : (one two : Option Origin) (m n : ℕ) → option_map unplaced one �
     → map unplaced (copy_of one m) ≡ map unplaced (copy_of two n)
 copy_told one two m n same = copied_told one m ∙ ap copied_of same ∙ sym (copied_told two n)
 
--- an object without its place is told by its kind and its channel
+-- an object without its place is known by its kind and its channel
 abbrev name_or : Option Name → ℕ
 name_or (Some name) = name.0
 name_or None = 0
@@ -235,7 +235,7 @@ module _ {M : Type 0} where
       ∙ ap (λ xs. map unplaced (made old) ++ xs) (if_made_alike old new entry.call entry.reply alike)
       ∙ sym (map-append unplaced (made old) (if_made entry.reply (begun_by (made old) old entry.call)))
 
-  -- what is owed to a receiver behind one entry more: what was owed before, and what the entry sent, without what it received
+  -- what is owed to a receiver after one entry more: what was owed before, and what the entry sent, without what it received
   owed_next : (h : List (Entry M)) (entry : Entry M) (o : ℕ) → Lawful (entry ∷ h) → is_a is_receiver h o ≡ true
       → is_open (entry ∷ h) o ≡ true
       → owed (entry ∷ h) o ≡ drop (length (got (entry ∷ []) o)) (owed h o ++ sent (entry ∷ []) (source_by o (origin_of h o)))
@@ -328,7 +328,7 @@ module _ {M : Type 0} where
       alike.owed name.0 (port_receives (kind_of old name.0) fits.0 fits.1) (copied_open old name reply j answered is)
   owed_new_alike old new call reply j alike fits answered is = refl
 
-  -- they are alike behind an entry more
+  -- they are alike after an entry more
   owed_alike : (old new : List (Entry M)) (entry : Entry M) (o : ℕ) → Lawful (entry ∷ old) → Lawful (entry ∷ new) → Alike old new
       → is_a is_receiver (entry ∷ old) o ≡ true → is_open (entry ∷ old) o ≡ true → owed (entry ∷ new) o ≡ owed (entry ∷ old) o
   owed_alike old new entry o lawful follows alike is opened = elim (cases_lt o (length (made old))) [
@@ -376,7 +376,7 @@ module _ {M : Type 0} where
     held = λ o is. ap (unwrap_or (left_by entry.call entry.reply o)) (held_before old new entry o lawful follows alike is);
   }
 
-  -- so what may follow the one may follow the other, and they are alike behind it
+  -- so what may follow the one may follow the other, and they are alike after it
   pub alike_later : (old new since : List (Entry M)) → Lawful new → Alike old new → Lawful (since ++ old)
       → Lawful (since ++ new) × Alike (since ++ old) (since ++ new)
   alike_later old new [] lawful alike follows = (lawful, alike)

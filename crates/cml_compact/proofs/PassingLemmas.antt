@@ -1,4 +1,4 @@
--- A port that was made anew passes over what it had received, and then it is settled.
+-- A port that was made again passes over what it had received, and then it is settled.
 use Rattle.std.proofs.Common.{◌≡◌, ◌≢◌, ℕ, ◌+◌, ◌-◌, ◌<◌, ◌≤◌, true, false, cond, List, [], ◌∷◌, ◌++◌, length, take}
 use Rattle.std.proofs.Common.{drop, slice_get, Option, Some, None, unwrap_or, refl, sym, ap, subst, ◌∙◌, arith}
 use Rattle.std.specs.Option.{option_map, option_map_or}
@@ -28,13 +28,13 @@ use Rattle.cml_compact.proofs.StockLemmas.{get_within, some_at}
 use Rattle.cml_compact.proofs.SettlingLemmas.{passed_port}
 
 module _ {M : Type 0} where
-  -- an object that was made anew has its kind
+  -- an object that was made again has its kind
   pub kind_anew : (old h : List (Entry M)) (name : ℕ) (facts : Facts M) → facts_of h name ≡ facts
       → facts.origin ≡ option_map unplaced (origin_of old name) → kind_of h name ≡ kind_of old name
   kind_anew old h name facts here same =
       ap (λ f. option_map kind_by f.origin) here ∙ ap (option_map kind_by) same ∙ kind_told (origin_of old name)
 
-  -- so many messages were received
+  -- this many messages were received
   abbrev pub passing : List (Entry M) → ℕ → ℕ → Facts M
   passing history name n = record (stocked history name) { got = take n (stock history (source_by name (origin_of history name))) }
 

@@ -1,4 +1,4 @@
--- What is sent again is a stream's end, and what each open port is owed is an end of that.
+-- What is sent again is a stream's end, and what each open port is owed is an end of it.
 use Rattle.std.proofs.Common.{◌≡◌, ◌≢◌, ℕ, zero, suc, ◌+◌, ◌-◌, ◌<◌, ◌≤◌, inl, inr, Bool, true, false, ◌&&◌, cond, eqb, ltb, List, [], ◌∷◌}
 use Rattle.std.proofs.Common.{length, drop, slice_get, slice_set, Option, Some, None, refl, sym, ap, ◌∙◌, arith}
 use Rattle.std.specs.Option.{option_map, option_map_or}

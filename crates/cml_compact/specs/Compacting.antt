@@ -39,6 +39,6 @@ module _ {M : Type 0} where
     pub by : AllBy who new.history
     pub all : reverse entries ≡ new.history
 
--- the last of so many seats; seat 0 if there is none
+-- the last of this many seats; seat 0 if there is none
 abbrev pub last_seat : ℕ → Who
 last_seat seats = Seat (seats - 1)

@@ -4,7 +4,7 @@ use Rattle.cml_calls.specs.declared.kind.Kind.TheVariants.{Channel}
 use Rattle.cml_board.specs.{Entry, Name, made, kind_of, owed_to}
 use Rattle.cml_compact.specs.Stages.{longest_of}
 
--- the names of so many objects, in order
+-- the names of this many objects, in order
 pub record AreNames (count : ℕ) (names : List Name) : Type 0 where
   pub all : length names ≡ count
   pub each : (k : ℕ) → k < count → slice_get names k ≡ Some (record { 0 = k })

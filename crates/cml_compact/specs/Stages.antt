@@ -1,4 +1,4 @@
--- What becomes of each object in a compaction: it is made anew, then what is owed of it is sent again, and then it is settled.
+-- What becomes of each object in a compaction: it is made again, then what is owed of it is sent again, and then it is settled.
 use Rattle.std.specs.Prelude.{ℕ, zero, suc, ◌+◌, ◌-◌, nat_lt, Bool, true, false, ◌&&◌, List, [], length, take, Option, Some, None}
 use Rattle.std.specs.Prelude.{if◌then◌else◌}
 use Rattle.std.specs.Option.{option_map}
@@ -36,7 +36,7 @@ module _ {M : Type 0} where
       if is_a is_mailbox history name then owed history name
       else if is_a is_channel history name then longest_of history name (length (made history)) else []
 
-  -- what an open port receives of that, until it is owed what it was
+  -- what an open port receives of it, until it is owed what it was
   abbrev pub passed_over : List (Entry M) → ℕ → List M
   passed_over history name =
       let stream = stock history (source_by name (origin_of history name)) in

@@ -11,8 +11,8 @@ use cml_log::MessageLog;
 use std::alloc::Global;
 
 /// Makes a board that leaves to later calls what this one leaves. It makes each object, sends again what is owed, has faster
-/// ports pass over what they had received of that, and closes ports and fills variables: `compact_length` calls, all by `who`.
-/// The new journal has no entry before them. What was counted since this board was made begins anew: positions of entries, and
+/// ports pass over what they had received of it, and closes ports and fills variables: `compact_length` calls, all by `who`.
+/// The new journal has no entry before them. What was counted since this board was made begins at 0: positions of entries, and
 /// how many messages an object sent and received. Its time grows with the number of those calls.
 ///
 /// Fails with `JournalFull` if the calls are more than `limit`, or with `NoMemory`. This board shows the same as before.

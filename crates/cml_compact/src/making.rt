@@ -11,7 +11,7 @@ use cml_board::{Board, Call, Message, Name, Refusal, Who};
 use cml_calls::Kind;
 use cml_log::MessageLog;
 
-/// Makes each object anew.
+/// Makes each object again.
 pub fn make_all<M: Message, L: MessageLog<M>>(
     board: &Board<M, L>,
     new: &mut Board<M, L>,

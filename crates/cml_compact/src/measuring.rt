@@ -48,7 +48,7 @@ fn calls_of<M: Message, L: MessageLog<M>>(
     }
 }
 
-/// The same of an open port.
+/// How many calls give an open port what it has, once it is made.
 fn calls_of_open<M: Message, L: MessageLog<M>>(
     board: &Board<M, L>,
     name: Name,
@@ -67,7 +67,7 @@ fn calls_of_open<M: Message, L: MessageLog<M>>(
     }
 }
 
-/// The same of an object that is no port.
+/// How many calls give an object that is no port what it has, once it is made.
 fn calls_of_other<M: Message, L: MessageLog<M>>(
     board: &Board<M, L>,
     name: Name,

@@ -41,7 +41,7 @@ pub fn short_journal_of<M: Message, L: MessageLog<M>>(
     short_journal(alloc, &mut board, last_seat(makers.seats), limit)
 }
 
-/// Returns the last of so many seats, or seat 0 if there is none. If it makes a short journal, the next seat has the number that
+/// Returns the last of this many seats, or seat 0 if there is none. If it makes a short journal, the next seat has the number that
 /// it would have had.
 pub fn last_seat(seats: u64) -> Who
     ensures { result ≡ last_seat seats }

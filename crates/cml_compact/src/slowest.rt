@@ -23,7 +23,7 @@ pub fn slowest<M: Message, L: MessageLog<M>>(
     Ok(found)
 }
 
-/// The names of so many objects, in order.
+/// The names of this many objects, in order.
 fn names(alloc: Global, count: u64) -> Result<Vec<Name>, AllocError>
     ensures { IfOk result (λ names. AreNames count names.items) }
 {

@@ -141,7 +141,7 @@ object_first : (poll : Bool) (takers : Takers) (places : List Place) (object : L
 object_first true takers places object more = refl
 object_first false takers places object more = refl
 
--- the words behind the object decide alone whether a call asks for something, and whether it gives a name
+-- the words after the object decide alone whether a call asks for something, and whether it gives a name
 asked_as : (names : Bool) (at : Option ℕ) (call : Ask) (more : List (List ℕ)) (a : Action) → asked_by names at call more ≡ Some a
     → ((other : Option ℕ) → asked_by names other call more ≡ option_map (action.Ask call) other)
     × (names ≡ is_some (fresh_word (cond names (Fresh ∷ []) []) more))

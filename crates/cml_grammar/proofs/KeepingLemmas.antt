@@ -137,7 +137,7 @@ GivesNames-push names ds word what threads owner d rest own same h there makes w
           (subst (λ (n : ℕ). IsMadeWell (names ++ more) n d.makes) same (IsMadeWell-append names more (length names) d.makes well));
     }
 
--- ---- the scope behind the lines so far, and behind one more
+-- ---- the scope after the lines so far, and after one more
 module _ (v : ℕ) (es : List (String Global × Named)) (ds : List Declaration) (ls : List Lane)
     (cs : List (Ends × ℕ)) (ss : List Step) (threads : ℕ)
     (so_far : IsReadSoFar (view_of v ds ls ss) es ds ls cs ss threads) where

@@ -14,7 +14,7 @@ use Rattle.cml_grammar.specs.Forms.{Form}
 abbrev pub SaysThese : Scope → ℕ → List (List ℕ) → Lines → Type 0
 SaysThese scope k parts these = Says scope k parts these.declarations these.lanes these.steps
 
--- a script's lines, and others behind them
+-- a script's lines, and others after them
 abbrev pub behind : Lines → Lines → Lines
 behind script more = record {
   version = script.version;
@@ -49,7 +49,7 @@ some_part (b ∷ bs) = by (b == 10) (parts_of bs)
 pub parts-some : (text : List ℕ) → 0 < length (parts_of text)
 parts-some text = let p = some_part text in subst (λ (ps : List (List ℕ)). 0 < length ps) (sym p.2) (omega arith)
 
--- ---- one line, and the parts behind it
+-- ---- one line, and the parts after it
 module _ (scope : Scope) (k : ℕ) (line : List ℕ) (rest : List ℕ) where
   fault_from-line : fault_from scope k (line ∷ parts_of rest) ≡ option_map_or (λ what. Some (at_line k what)) (fault_in scope k line)
       (fault_from (after scope k line) (suc k) (parts_of rest))
@@ -75,7 +75,7 @@ module _ (scope : Scope) (k : ℕ) (line : List ℕ) (rest : List ℕ) where
         subst (λ ps. SaysThese (after scope k line) (suc k) ps more) p.2 said,
       )
 
--- ---- a script so far, and what the parts behind it add
+-- ---- a script so far, and what the parts after it add
 with_line-append : (test : Bool) (line : SourceLine) (lines more : List SourceLine)
     → (lines ++ with_line test line []) ++ more ≡ lines ++ with_line test line more
 with_line-append true line lines more = append_assoc lines (line ∷ []) more

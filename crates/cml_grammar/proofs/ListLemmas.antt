@@ -39,7 +39,7 @@ position-cons p x xs = by (p x)
     by false = ap (λ m. cond (nat_lt m (suc (length xs))) (Some (1 + n)) None) (one-add n)
         ∙ ap (λ b. cond b (Some (1 + n)) None) (nat_lt-suc n (length xs)) ∙ later (nat_lt n (length xs))
 
--- and in a list with more items behind
+-- and in a list with more items after
 pub position-append : {X : Type 0} (p : X → Bool) (xs ys : List X) (i : ℕ) → position p xs ≡ Some i → position p (xs ++ ys) ≡ Some i
 position-append p [] ys i h = absurd (none-some i h)
 position-append p (x ∷ xs) ys i h = position-cons p x (xs ++ ys)
@@ -65,7 +65,7 @@ pub slice_get-push : {X : Type 0} (xs : List X) (x : X) → slice_get (xs ++ x �
 slice_get-push [] x = refl
 slice_get-push (y ∷ xs) x = slice_get-push xs x
 
--- the items of a list with one more item behind
+-- the items of a list with one more item after
 pub slice_get-push-cases : {X : Type 0} (xs : List X) (x : X) (i : ℕ) (y : X) → slice_get (xs ++ x ∷ []) i ≡ Some y
     → (slice_get xs i ≡ Some y) ⊎ ((i ≡ length xs) × (y ≡ x))
 slice_get-push-cases [] x zero y h = inr (refl, sym (same_Some x y h))

@@ -43,7 +43,7 @@ message_alone names [] h = absurd h
 message_alone names (w ∷ []) h = ap (λ t. t ∷ []) h.0
 message_alone names (v ∷ w ∷ ws) h = absurd h.1
 
--- the words behind the object of a step that takes a message
+-- the words after the object of a step that takes a message
 pub step_message : (names : List Given) (v : Verb) (place : Place) (words : Words) (object : Bor (List ℕ)) (more : Words)
     → AllSuit names (step_places v) (bytes words) → step_places v ≡ place ∷ Message ∷ [] → words ≡ object ∷ more
     → map (λ w. is_text w.now) more ≡ true ∷ []

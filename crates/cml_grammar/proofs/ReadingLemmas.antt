@@ -15,7 +15,7 @@ use Rattle.cml_grammar.specs.Forms.{Form}
 use Rattle.cml_grammar.proofs.TableLemmas.{Passes, words_pass, all_suit-passes}
 use Rattle.cml_grammar.proofs.FormLemmas.{line_by}
 
--- the scope behind lines, and behind one more
+-- the scope after lines, and after one more
 scope_after-append : (scope : Scope) (lines more : List SourceLine)
     → scope_after scope (lines ++ more) ≡ scope_after (scope_after scope lines) more
 scope_after-append scope [] more = refl
@@ -50,9 +50,9 @@ pub no_steps : (script : Lines) (form : Form) → (scope_of script).started ≡ 
 no_steps script (declaration d rest) started p is = empty_list script.steps (eqb-true _ _ (not-false _ (sym started ∙ p.in_time)))
 no_steps script _ started p is = absurd (true≢false (sym is))
 
--- ---- the scope behind a script and one more line
+-- ---- the scope after a script and one more line
 module _ (script : Lines) (line : SourceLine) (keeps : KeepsEnds (names_of script) script.lanes) where
-  -- the lines that may give names, and the scope behind them
+  -- the lines that may give names, and the scope after them
   abbrev giving : List SourceLine
   giving = script.declarations ++ script.steps
 
@@ -168,7 +168,7 @@ module _ (v : ℕ) (ds : List Declaration) (ls : List Lane) (ss : List Step) whe
       (map-append (λ (x : Step). source_of x.line) ss (s ∷ []) j))
       ∙ ap (with_source (source_of s.line)) (sym form)
 
--- ---- a line of this form, without fault behind this script
+-- ---- a line of this form, without fault after this script
 pub record ReadFrom (now : Lines) (line : Line) (form : Form) : Type 0 where
   pub fits : fault_in_words (scope_of now) (words_of (string_bytes line.text)) ≡ None
   pub is : form_of (names_of now) (words_of (string_bytes line.text)) ≡ form
@@ -184,7 +184,7 @@ kept_suits now script names line form seen kept read =
     subst (λ (gs : List Given). AllSuit gs (places_of form) (rest_of form)) (sym (kept ∙ ap names_of seen))
     (all_suit-passes (scope_of now) form (read_passes now line form read))
 
--- ---- what is found in a line of words behind a script, told by what is kept of it
+-- ---- what is found in a line of words after a script, told by what is kept of it
 pub fault_found : (now script : Lines) (version : ℕ) (names : List Given) (started : Bool) (lanes : List Ends)
     (words said : List (List ℕ)) (form : Form)
     → script ≡ now → version ≡ script.version → names ≡ names_of script

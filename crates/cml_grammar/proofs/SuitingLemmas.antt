@@ -167,7 +167,7 @@ used_as : (names : List Given) (poll : Bool) (takers : Takers) (word : List ℕ)
 used_as names true takers word h = h
 used_as names false takers word h = h
 
--- behind it are as many words as the call needs
+-- after it are as many words as the call needs
 behind : (names : List Given) (gives : Bool) (at : ℕ) (call : Ask) (rest : List (List ℕ)) → AllSuit names (cond gives (Fresh ∷ []) []) rest
     → asked_by gives (Some at) call rest ≡ Some (action.Ask call at)
 behind names true at call (name ∷ []) h = refl

@@ -186,7 +186,7 @@ abbrev pub is_lane : Form → Bool
 is_lane (lane rest) = true
 is_lane _ = false
 
--- the scope behind a line of words
+-- the scope after a line of words
 abbrev pub after_words : Scope → List (List ℕ) → Scope
 after_words scope words =
     let form = form_of scope.names words in
@@ -197,7 +197,7 @@ after_words scope words =
       lanes = scope.lanes ++ lays scope.names form;
     }
 
--- the scope behind the line of number k
+-- the scope after the line of number k
 abbrev pub after : Scope → ℕ → List ℕ → Scope
 after scope k line = if says k line then after_words scope (words_of line) else scope
 

@@ -140,7 +140,7 @@ abbrev pub owner_of : List Given → List (List ℕ) → ℕ
 owner_of names [] = 0
 owner_of names (thread ∷ rest) = option_map_or (λ seat. seat) (seat_of names thread) 0
 
--- what a declaration's name names, where so many threads were declared before; a feed's is the owner's
+-- what a declaration's name names, where this many threads were declared before; a feed's is the owner's
 abbrev pub named_by : Declares → ℕ → ℕ → Named
 named_by declares.Mailbox threads owner = called.Mailbox
 named_by declares.Channel threads owner = called.Channel

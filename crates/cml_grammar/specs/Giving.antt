@@ -44,7 +44,7 @@ abbrev pub IsGivenAt : List SourceLine → List SourceLine → ℕ → Type 0
 IsGivenAt declared asked i = (k : ℕ) × (line : SourceLine) × (slice_get asked k ≡ Some line) × (is_giving line ≡ true)
     × (i ≡ names_before declared asked k)
 
--- The i-th declaration gives the i-th name. Behind those are the names that steps give, in text order, each for a port of
+-- The i-th declaration gives the i-th name. After those are the names that steps give, in text order, each for a port of
 -- the step's thread. There are no others.
 pub record NamesAreGiven (names : List Given) (declared asked : List SourceLine) : Type 0 where
   pub total : length names ≡ length declared + count_by is_giving asked

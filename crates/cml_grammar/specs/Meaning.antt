@@ -17,7 +17,7 @@ use Rattle.cml_grammar.specs.Forms.{declares_of, verb_of}
 use Rattle.cml_grammar.specs.Faults.{Scope, Ends, start, ends_by, after_words}
 use Rattle.cml_grammar.specs.Script.{SourceLine, Lines}
 
--- the scope behind lines
+-- the scope after lines
 abbrev pub scope_after : Scope → List SourceLine → Scope
 scope_after scope [] = scope
 scope_after scope (line ∷ lines) = scope_after (after_words scope line.words) lines
@@ -31,7 +31,7 @@ abbrev pub all_ends : List Given → List SourceLine → List Ends
 all_ends names [] = []
 all_ends names (line ∷ lines) = option_to_list (ends_of names line.words) ++ all_ends names lines
 
--- the scope behind all lines of a script: only lane lines leave ends, and they leave nothing else
+-- the scope after all lines of a script: only lane lines leave ends, and they leave nothing else
 abbrev pub scope_of : Lines → Scope
 scope_of script =
     let named = scope_after (start script.version) (script.declarations ++ script.steps) in
@@ -64,7 +64,7 @@ abbrev pub makes_of : List Given → List (List ℕ) → Option Makes
 makes_of names [] = None
 makes_of names (word ∷ rest) = option_and_then (λ d. makes_by names d rest) (declares_of word)
 
--- what a call without a message asks of the object at this position: behind the object's name is the name that a new port is
+-- what a call without a message asks of the object at this position: after the object's name is the name that a new port is
 -- given, or nothing
 abbrev pub asked_by : Bool → Option ℕ → Ask → List (List ℕ) → Option Action
 asked_by true at call (name ∷ []) = option_map (action.Ask call) at

@@ -208,7 +208,7 @@ abbrev pub threads_by : Declares → ℕ
 threads_by declares.Thread = 1
 threads_by _ = 0
 
--- a script so far, and behind it a line of words
+-- a script so far, and after it a line of words
 abbrev pub with_words : Lines → ℕ → List ℕ → Lines
 with_words script k line =
     let form = form_of (names_of script) (words_of line) in
@@ -219,6 +219,6 @@ with_words script k line =
       steps = script.steps ++ with_line (is_step form) (source k line) [];
     }
 
--- a script so far, and behind it any line
+-- a script so far, and after it any line
 abbrev pub with_next : Lines → ℕ → List ℕ → Lines
 with_next script k line = if says k line then with_words script k line else script

@@ -10,7 +10,7 @@ use cml_calls::{Ask, Give, Kind, Takers};
 use cml_messages::Text;
 use indexmap::IndexMap;
 
-/// The places behind `lane`.
+/// The places after `lane`.
 const LANE_PLACES: &[Place] = &[Place::Thread, Place::Target, Place::Capacity];
 
 /// What a declaration line declares, if it gives a name.
@@ -107,7 +107,7 @@ impl Declares {
         }
     }
 
-    /// The places behind it, if these are the words there: an m-variable's first message is the second of two words.
+    /// The places after it, if these are the words there: an m-variable's first message is the second of two words.
     pub(crate) fn places(self, rest: &[&str]) -> &'static [Place]
         ensures { result.now ≡ declared_places self (map (λ w. w.now) rest.now) }
     {

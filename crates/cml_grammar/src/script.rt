@@ -102,7 +102,7 @@ impl Script {
         self.kept.version
     }
 
-    /// Returns the names with what each names. The i-th declaration gives the i-th name. Behind those are the names that
+    /// Returns the names with what each names. The i-th declaration gives the i-th name. After those are the names that
     /// steps give, in text order.
     pub fn names(&self) -> &IndexMap<String, Named>
         ensures names { texts_of result.now.entries ≡ names_of self.now }

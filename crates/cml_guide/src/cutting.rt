@@ -53,9 +53,9 @@ fn check_both(
     Ok((checker.verdict().is_ok(), checker.entries()))
 }
 
-/// Says whether all that the checker was fed is lawful with these entries behind it.
+/// Says whether all that the checker was fed is lawful with these entries after it.
 pub fn feed(checker: &mut Checker<u64>, entries: &[Entry<u64>]) -> Result<bool, Trouble> {
-    // No board has so many, but the prover needs the test.
+    // No board has that many, but the prover needs the test.
     if u64::MAX - checker.entries() < entries.len() as u64 {
         return Err(Trouble::OtherReply);
     }

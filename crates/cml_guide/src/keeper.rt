@@ -51,7 +51,7 @@ impl Keeper {
         Ok(())
     }
 
-    /// Says whether all that was taken is lawful, with these entries behind it.
+    /// Says whether all that was taken is lawful, with these entries after it.
     pub fn check(&mut self, entries: &[Entry<u64>]) -> Result<bool, Trouble> {
         feed(&mut self.checker, entries)
     }

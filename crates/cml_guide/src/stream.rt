@@ -108,7 +108,7 @@ fn read<L: MessageLog<u64>, Led: Ledger, R: Wait>(
     }
 }
 
-/// The digits, one behind the other as one number.
+/// The digits, one after the other as one number.
 fn receive_all<L: MessageLog<u64>, Led: Ledger, R: Wait>(
     rt: &R,
     board: &Shared<L, Led>,

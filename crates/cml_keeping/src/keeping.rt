@@ -121,7 +121,7 @@ impl<M: Message, L: MessageLog<M>, Led: Ledger, S: Sink<M>> Keeping<M, L, Led, S
         unreachable!()
     }
 
-    /// The same, and returns the reply alone, which takes less time: `reply(rt, &mut seat, Call::Send(mailbox, message))`.
+    /// Makes a call as `call` does, and returns the reply alone, which takes less time: `reply(rt, &mut seat, Call::Send(mailbox, message))`.
     pub fn reply<R: Wait>(
         &self,
         rt: &R,

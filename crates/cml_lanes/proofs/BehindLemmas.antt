@@ -7,7 +7,7 @@ use Rattle.cml_lanes.specs.{is_taken, stays, OnPlace, OnSlot, behind}
 use Rattle.cml_lanes.proofs.SlotsLemmas.{taken_slot, taken_within, one_taken_less}
 use Rattle.cml_lanes.proofs.OneSlotLemmas.{slot_here, side_here, on_place, placed_holds}
 
--- a list behind so many copies of one item
+-- a list after this many copies of one item
 module _ {X : Type 0} (x : X) where
   pub copies_longer : (count : ℕ) (items : List X) → length (replicate count x ++ items) ≡ count + length items
   copies_longer zero items = omega arith
@@ -70,7 +70,7 @@ module _ {Side : Type 0} where
       → slice_set (behind closed items) number slot ≡ behind closed (slice_set items (number - closed) slot)
   set_behind closed number items slot from = copies_set None closed number (number - closed) items slot (omega (arith, from))
 
-  -- what is open is behind those that were closed
+  -- what is open is after those that were closed
   pub opened_from : (closed number : ℕ) (items shown : List (Option Side)) → behind closed items ≡ shown
       → is_taken (slice_get shown number) ≡ true → closed ≤ number
   opened_from closed number items shown view opened = elim (cases_lt number closed) [

@@ -43,7 +43,7 @@ module _ {X : Type 0} where
   none_there (suc count) (suc number) x found = none_there count number x found
 
 module _ {M : Type 0} where
-  -- a history has nothing of a lane whose number is behind those that made its entries
+  -- a history has nothing of a lane whose number is after those that made its entries
   pub none_laned : (history : List (Entry M)) (number : ℕ) → lanes_of history ≤ number → laned history number ≡ []
   none_laned [] number past = refl
   none_laned (entry ∷ before) number past =

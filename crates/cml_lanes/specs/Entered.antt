@@ -8,7 +8,7 @@ module _ {M : Type 0} where
   with_entries entry [] history = history
   with_entries entry (message ∷ messages) history = with_entries entry messages (entry message ∷ history)
 
-  -- these messages, so many, were entered; nothing else of the board changed, but that each entry may have used reserved memory
+  -- these messages, as many as are said, were entered; nothing else of the board changed, but that each entry may have used reserved memory
   pub record Enters (entry : M → Entry M) (messages : List M) (count : ℕ) (old new : Shown M) : Type 0 where
     pub as_many : length messages ≡ count
     pub history : new.history ≡ with_entries entry messages old.history

@@ -19,7 +19,7 @@ module _ {M : Type 0} where
     pub kind : kind_of history side.port.0 ≡ Some Port
     pub opened : is_open history side.port.0 ≡ true
 
-  -- so many messages were received from the port, in order, each by an entry of the feed's own, and put into free slots of
+  -- this many messages were received from the port, in order, each by an entry of the feed's own, and put into free slots of
   -- the ring; the journal and the feed changed in nothing else
   pub record PumpsIn (number count : ℕ) (old new : Shown M) (from to : FeedSide M) : Type 0 where
     pub pumped : List M
@@ -28,7 +28,7 @@ module _ {M : Type 0} where
     pub side : to ≡ record from { pushed = from.pushed ++ pumped; free = to.free }
     pub free : from.free ≡ to.free + count
 
-  -- so many were pumped, and then the call for the next, which the port is still owed, was refused; a slot was free for it
+  -- this many were pumped, and then the call for the next, which the port is still owed, was refused; a slot was free for it
   pub record Balks (chunk : ℕ) (sure : Bool) (number count : ℕ) (old new : Shown M) (from to : FeedSide M)
       (refusal : Refusal) : Type 0 where
     pub at : Shown M
@@ -50,13 +50,13 @@ module _ {M : Type 0} where
     pub more : from.free ≤ to.free
     pub most : to.free ≤ to.capacity
 
-  -- so many went into the ring, whether or not one was refused then
+  -- this many went into the ring, whether or not one was refused then
   pub record PumpsRing (number count : ℕ) (old new : Shown M) (from to : FeedSide M) : Type 0 where
     pub looked : FeedSide M
     pub looks : LearnsFree from looked
     pub pumps : PumpsIn number count old new looked to
 
-  -- the floor looked how many slots are free, and so many messages were pumped until it had no slot or no message, which are
+  -- the floor looked how many slots are free, and this many messages were pumped until it had no slot or no message, which are
   -- no more than the ring has room for
   pub record Fills (number count : ℕ) (old new : Shown M) (from to : FeedSide M) : Type 0 where
     pub looked : FeedSide M
@@ -65,7 +65,7 @@ module _ {M : Type 0} where
     pub sated : IsSated new to
     pub most : count ≤ from.capacity
 
-  -- the floor looked how many slots are free, and so many messages were pumped until one was refused, which are fewer than
+  -- the floor looked how many slots are free, and this many messages were pumped until one was refused, which are fewer than
   -- the ring has room for
   pub record IsStarved (chunk : ℕ) (sure : Bool) (number count : ℕ) (old new : Shown M) (from to : FeedSide M)
       (refusal : Refusal) : Type 0 where

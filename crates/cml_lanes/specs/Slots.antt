@@ -9,7 +9,7 @@ use Rattle.cml_lanes.specs.Moving.{KeepsLane, Empties, IsHeld}
 use Rattle.cml_lanes.specs.Pumping.{KeepsFeed, Fills, IsStarved}
 use Rattle.cml_lanes.specs.Barring.{is_feeds_port}
 
--- so many places in which nothing is open, and then those of these slots
+-- this many places in which nothing is open, and then those of these slots
 abbrev pub behind : {Side : Type 0} → ℕ → List (Option Side) → List (Option Side)
 behind closed slots = replicate closed None ++ slots
 
@@ -33,7 +33,7 @@ module _ {M : Type 0} where
     pub opened : slot ≡ Some side
     pub keeps : KeepsLane history number side
 
-  -- all that was seen in a lane's ring went out of it, so many messages, or so many went until one was refused
+  -- all that was seen in a lane's ring went out of it, this many messages, or this many went until one was refused
   abbrev pub DrainsUntil : ℕ → Bool → ℕ → ℕ → Option Refusal → Shown M → Shown M → LaneSide M → LaneSide M → Type 0
   DrainsUntil chunk sure number count None old new from to = Empties number count old new from to
   DrainsUntil chunk sure number count (Some refusal) old new from to = IsHeld chunk sure number count old new from to refusal
@@ -42,7 +42,7 @@ module _ {M : Type 0} where
   abbrev pub LeavesAll : Ended M → LaneSide M → Type 0
   LeavesAll end side = side.received ++ side.seen ≡ end.sent
 
-  -- so many messages were pumped until there was no slot or no message, or until one was refused
+  -- this many messages were pumped until there was no slot or no message, or until one was refused
   abbrev pub PumpsUntil : ℕ → Bool → ℕ → ℕ → Option Refusal → Shown M → Shown M → FeedSide M → FeedSide M → Type 0
   PumpsUntil chunk sure number count None old new from to = Fills number count old new from to
   PumpsUntil chunk sure number count (Some refusal) old new from to = IsStarved chunk sure number count old new from to refusal

@@ -15,7 +15,7 @@ use std::marker::Model;
 /// seat receives.
 #[derive(Drop)]
 pub struct FeedSlots<M> {
-    // So many were ended before the floor was made. They take no memory: the slots are of the numbers behind theirs.
+    // This many were ended before the floor was made. They take no memory: the slots are of the numbers after theirs.
     closed: usize,
     slots: Vec<Option<InnerFeed<M>>>,
     ports: HashSet<u64>,
@@ -48,7 +48,7 @@ impl<M: Message> FeedSlots<M> {
         }
     }
 
-    /// So many feeds, none of which is open. Allocates no memory, and fails only if there are 2^63.
+    /// This many feeds, none of which is open. Allocates no memory, and fails only if there are 2^63.
     pub fn of_closed(alloc: Global, count: usize) -> Result<FeedSlots<M>, AllocError>
         ensures closed { IfOk result (λ slots. slots.feeds ≡ replicate count None) }
         ensures few { IfOk result (λ _. count < 2 ^ 64 - 1) }

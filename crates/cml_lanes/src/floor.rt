@@ -55,7 +55,7 @@ impl<M: Message, L: MessageLog<M>> Floor<M, L> {
     }
 
     /// A floor on the board of a journal. The lanes and the feeds that made its entries keep their numbers, and none of them
-    /// is open: a call on one fails with `NoSuch`. New ones are numbered behind them.
+    /// is open: a call on one fails with `NoSuch`. New ones are numbered after them.
     pub fn restore(alloc: Global, restored: Restored<M, L>) -> Result<Floor<M, L>, AllocError>
         ensures board { IfOk result (λ floor. floor.board ≡ restored.board) }
         ensures lanes { IfOk result (λ floor. floor.lanes ≡ replicate restored.makers.lanes None) }
@@ -232,7 +232,7 @@ impl<M: Message, L: MessageLog<M>> Floor<M, L> {
         self.lanes.drain(self.alloc, &mut self.board, lane)
     }
 
-    /// The same with all messages left on an open lane, whose end this is.
+    /// Moves all messages left on an open lane, whose end this is, until one is refused. Returns how many it moved, and the refusal.
     fn drain_after(&mut self, lane: u64, end: &mut LaneEnd<M>) -> (usize, Option<Refusal>)
         requires opened { is_open_lane self.old lane ≡ true }
         requires ring { IsOfRing lane self.old end.old }

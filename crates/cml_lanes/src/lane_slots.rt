@@ -13,7 +13,7 @@ use std::marker::Model;
 /// The floor's ends of lanes by their numbers, and how many of them are open.
 #[derive(Drop)]
 pub struct LaneSlots<M> {
-    // So many were closed before the floor was made. They take no memory: the slots are of the numbers behind theirs.
+    // This many were closed before the floor was made. They take no memory: the slots are of the numbers after theirs.
     closed: usize,
     slots: Vec<Option<InnerLane<M>>>,
     opened: u64,
@@ -44,7 +44,7 @@ impl<M: Message> LaneSlots<M> {
         }
     }
 
-    /// So many lanes, none of which is open. Allocates no memory, and fails only if there are 2^63.
+    /// This many lanes, none of which is open. Allocates no memory, and fails only if there are 2^63.
     pub fn of_closed(alloc: Global, count: usize) -> Result<LaneSlots<M>, AllocError>
         ensures closed { IfOk result (λ lanes. lanes ≡ replicate count None) }
         ensures few { IfOk result (λ _. count < 2 ^ 64 - 1) }
@@ -112,7 +112,7 @@ impl<M: Message> LaneSlots<M> {
         )
     }
 
-    /// The same with all that is left of an open lane, whose end this is.
+    /// Moves all that is left of an open lane, whose end this is, until a message is refused: how many were moved, and the refusal.
     pub fn drain_after<L: MessageLog<M>>(
         &mut self,
         alloc: Global,

@@ -24,7 +24,8 @@ pub fn drain_slot<M: Message, L: MessageLog<M>>(
     move_seen(alloc, board, lane, number)
 }
 
-/// The same with all that is left in the ring of a lane that has finished.
+/// Moves all that is left in the ring of a lane that has finished, until a message is refused. Returns how many it moved, and
+/// the refusal.
 pub fn drain_slot_after<M: Message, L: MessageLog<M>>(
     alloc: Global,
     board: &mut Board<M, L>,

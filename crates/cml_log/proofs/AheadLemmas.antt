@@ -50,7 +50,7 @@ module _ {T : Type 0} (n : ℕ) where
       low : n * after.given + after.taken ≡ n * c.given + c.taken
       low = omega (arith, ap (λ m. n * m) given, taken)
 
-  -- where nothing was moved out, the first kept chunk is behind no cursor
+  -- where nothing was moved out, the first kept chunk is after no cursor
   pub IsAhead-whole : (c : Chunks T) (slots : List (Option Cursor)) → IsHeld n c slots → c.taken ≡ 0 → IsAhead n c slots
   IsAhead-whole c slots ready none =
       record {

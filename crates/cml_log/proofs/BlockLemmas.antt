@@ -68,7 +68,7 @@ module _ {T : Type 0} {N : ℕ} where
   items_of-same (here ∷ rest) (suc number) block slot found same =
       ap (λ items. row_of here ++ items) (items_of-same rest number block slot found same)
 
-  -- an item more in the last block is one more behind all
+  -- an item more in the last block is one more after all
   pub items_of-last : (kept : List (Option (Ptr × Chunk T N))) (number : ℕ) (block : Ptr × Chunk T N) (slot : Option (Ptr × Chunk T N))
       (item : T) → block_at kept number ≡ Some block → length kept ≡ number + 1 → row_of slot ≡ row_of (Some block) ++ item ∷ []
       → items_of (set kept number slot) ≡ items_of kept ++ item ∷ []
@@ -81,7 +81,7 @@ module _ {T : Type 0} {N : ℕ} where
       let below = items_of-last rest number block slot item found (omega (arith, last)) more in
       ap (λ items. row_of here ++ items) below ∙ sym (append_assoc (row_of here) (items_of rest) (item ∷ []))
 
-  -- nothing was moved out of a block that is put behind all
+  -- nothing was moved out of a block that is put after all
   pub taken_at-more : (kept : List (Option (Ptr × Chunk T N))) (slot : Option (Ptr × Chunk T N)) (number : ℕ) → taken_of slot ≡ 0
       → taken_at (kept ++ slot ∷ []) number ≡ taken_at kept number
   taken_at-more [] slot zero none = none
@@ -89,7 +89,7 @@ module _ {T : Type 0} {N : ℕ} where
   taken_at-more (here ∷ rest) slot zero none = refl
   taken_at-more (here ∷ rest) slot (suc number) none = taken_at-more rest slot number none
 
-  -- an empty block behind all has no item
+  -- an empty block after all has no item
   pub items_of-more : (kept : List (Option (Ptr × Chunk T N))) (slot : Option (Ptr × Chunk T N)) → row_of slot ≡ []
       → items_of (kept ++ slot ∷ []) ≡ items_of kept
   items_of-more [] slot empty = ap (λ row. row ++ []) empty

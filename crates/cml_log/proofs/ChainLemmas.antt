@@ -202,7 +202,7 @@ module _ {T : Type 0} {N : ℕ} where
             counts = λ number. ap (λ cells. count_at cells number) cells-pushed;
           }
 
-      -- the tail lies where it lay while one more is put behind it
+      -- the tail lies where it lay while one more is put after it
       pub tail_put : (tailed : List (Option (Ptr × Chunk T N))) (slot : Option (Ptr × Chunk T N)) → tailed ≡ after ++ slot ∷ []
           → IsKept tailed tail.number tail.at
       tail_put tailed slot puts = (
@@ -212,7 +212,7 @@ module _ {T : Type 0} {N : ℕ} where
             ∙ linked-pushed.finishes.1,
       )
 
-      -- and a chunk more behind it
+      -- and a chunk more after it
       module _ (tailed joined : List (Option (Ptr × Chunk T N))) (more : Address) (fresh : Chunk T N)
           (puts : tailed ≡ after ++ Some (more.at, fresh) ∷ []) (numbered : more.number ≡ tail.number + 1)
           (empty : fresh ≡ record { row = unwritten; link = None; cursors = 0 })
@@ -310,7 +310,7 @@ module _ {T : Type 0} {N : ℕ} where
               ]
             ]
 
-    -- a chunk is put behind, and then the tail is written and linked to it
+    -- a chunk is put after, and then the tail is written and linked to it
     module _ (grown written joined : List (Option (Ptr × Chunk T N))) (more : Address) (fresh : Chunk T N) (item : T)
         (puts : grown ≡ kept ++ Some (more.at, fresh) ∷ []) where
       tail_before : block_at grown tail.number ≡ block_at kept tail.number
@@ -497,7 +497,7 @@ module _ {T : Type 0} {N : ℕ} where
         ∙ slice_get-take N (drop (N * (number - head.number)) (items_of kept)) slot inside
         ∙ ap (λ n. slice_get (drop (N * (number - n)) (items_of kept)) slot) (sym chain.given_is)
 
-    -- no item was moved out of a chunk behind a place that is behind all that were
+    -- no item was moved out of a chunk after a place that is after all that were
     pub left_there : (number : ℕ) (at : Ptr) (slot : ℕ) → IsKept kept number at
         → N * given + taken_at kept given ≤ N * number + slot → taken_at kept number ≤ slot
     left_there number at slot there low = elim (cases_eq number head.number) [

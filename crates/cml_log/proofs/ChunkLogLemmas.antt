@@ -34,14 +34,14 @@ module _ {T : Type 0} where
       trims_to n c slots l trim (sym (trimmed-tidy n (log_of n c slots) tidy.first) ∙ ap (trimmed n) log)
 
   -- a cursor has come into the chunk at `next`: where the head isn't idle, the chunks are trimmed; where it is, it is the chunk
-  -- before, and they are once it is given back
+  -- before, and they are once it is freed
   pub record StandsIn (n : ℕ) (next : Address) (c : Chunks T) (slots : List (Option Cursor)) (l : Log T) : Type 0 where
     pub busy : is_idle n c ≡ false → TrimsTo n c slots l
     pub head : is_idle n c ≡ true → (c.given < end_of n c / n) × (next.number ≡ c.given + 1) × LiesAt c.cells next.number next.at
     pub gone : is_idle n c ≡ true → TrimsTo n (passed n c) slots l
 
 module _ {T : Type 0} (n : ℕ) (c : Chunks T) (slots : List (Option Cursor)) (trim : IsTrim n c slots) where
-  -- a push, after which idle chunks are given back
+  -- a push, after which idle chunks are freed
   module _ (after final : Chunks T) (item : T) (pushed : Pushed n c after item) (below : end_of n c < 18446744073709551614)
       (went : Passed n after final) (busy : is_idle n final ≡ false) where
     pub pushed_trims : TrimsTo n final slots (with_item (log_of n c slots) item)
@@ -50,7 +50,7 @@ module _ {T : Type 0} (n : ℕ) (c : Chunks T) (slots : List (Option Cursor)) (t
         trims_to n final slots _ (record { is_held = held; trim = busy }) (shown-passed n after final slots held busy went
         ∙ ap (trimmed n) (shown-pushed n c slots trim.is_held after item pushed))
 
-  -- a close, after which idle chunks are given back
+  -- a close, after which idle chunks are freed
   module _ (key : ℕ) (cursor : Cursor) (found : cursor_at slots key ≡ Some cursor) (after final : Chunks T) (others : List (Option Cursor))
       (leaves : after ≡ with_count c cursor.at.number cursor.at.at (count_at c.cells cursor.at.number - 1))
       (closes : others ≡ set slots key None) (went : Passed n after final) (busy : is_idle n final ≡ false) where

@@ -29,7 +29,7 @@ product-less n low high less =
     let whole : high ≡ low + (high - low) = omega (arith, less) in
     omega (arith, ap (λ m. n * m) whole, mul-add n low (high - low))
 
--- a chunk lies where it lay while a chunk's cursors are counted anew
+-- a chunk lies where it lay while a chunk's cursors are counted again
 module _ (cells : List (Option (Ptr × ℕ))) (number : ℕ) (at : Ptr) (count : ℕ) (lies : LiesAt cells number at) where
   there : number < length cells
   there = elim (cases_lt number (length cells)) [
@@ -253,7 +253,7 @@ module _ {T : Type 0} where
               let none = weight-elsewhere n number cursor (λ same. differs (sym same ∙ sym mine.number)) in
               omega (arith, other, fewer, none, ready.counts number)
 
--- given back chunks show the log trimmed
+-- freed chunks show the log trimmed
 pub shown-passed : {T : Type 0} (n : ℕ) (before after : Chunks T) (slots : List (Option Cursor)) → IsHeld n after slots
     → is_idle n after ≡ false → Passed n before after → log_of n after slots ≡ trimmed n (log_of n before slots)
 shown-passed n before after slots ready busy went =

@@ -12,7 +12,7 @@ use Rattle.cml_log.proofs.LogLemmas.{IsTidy-open_cursor, IsTidy-copy_cursor, IsT
 use Rattle.cml_log.proofs.LogLemmas.{IsTrimmable-close, next_of-opened}
 
 module _ {T : Type 0} where
-  -- nothing past the end of the stream is given back
+  -- nothing past the end of the stream is freed
   pub Holds-first_le : (chunk : ℕ) (l : Log T) (stream : List T) → Holds chunk l stream → l.first ≤ length stream
   Holds-first_le chunk l stream holds =
       omega (arith, holds.first, mul-div-le (least (length stream) l.places) chunk, least-le_end (length stream) l.places)
@@ -48,7 +48,7 @@ module _ {T : Type 0} where
       let both : l.first + (place_of l key - l.first) ≡ place_of l key = omega arith in
       ap (drop (place_of l key - l.first)) holds.kept ∙ drop-drop (place_of l key - l.first) l.first stream ∙ ap (λ n. drop n stream) both
 
-  -- no open cursor's item was given back, nor any after it
+  -- no open cursor's item was freed, nor any after it
   pub Holds-first_le_place : (chunk : ℕ) (l : Log T) (stream : List T) (key : ℕ) → Holds chunk l stream
       → IsOpen l key → l.first ≤ place_of l key
   Holds-first_le_place chunk l stream key holds opened =

@@ -36,7 +36,7 @@ module _ {T : Type 0} {N : ℕ} where
       pointer_or default None = default
       pointer_or default (Some block) = block.0
 
-  -- a chunk that was given back stays so
+  -- a chunk that was freed stays so
   pub still_gone : (kept : List (Option (Ptr × Chunk T N))) (number other : ℕ) (block : Ptr × Chunk T N) (slot : Option (Ptr × Chunk T N))
       → block_at kept number ≡ Some block → block_at kept other ≡ None → block_at (set kept number slot) other ≡ None
   still_gone kept number other block slot found gone = elim (cases_eq other number) [

@@ -4,9 +4,9 @@ use Rattle.std.specs.Prelude.{Option, Some, None, slice_index_or, slice_set, ref
 use Rattle.std.specs.Coded.{Coded, code_by, coded×, coded_ℕ, coded_list, coded_option}
 use denote.RawPtr.{Ptr, coded_ptr}
 
--- how many chunks were given back, which is the number of the first kept one; the items of those
+-- how many chunks were freed, which is the number of the first kept one; the items of those
 -- kept; for each chunk ever made where it lies and how many cursors are in it, or nothing where it
--- was given back; how many were made; how many links were followed; and the first slot of the first
+-- was freed; how many were made; how many links were followed; and the first slot of the first
 -- kept chunk from which on no item was moved out
 pub record Chunks (T : Type 0) : Type 0 where
   pub given : ℕ
@@ -82,7 +82,7 @@ module _ {T : Type 0} where
     pub lies : (number count : ℕ) (at : Ptr) → cell_at old.cells number ≡ Some (at, count) → cell_at new.cells number ≡ Some (at, count)
     pub counts : (number : ℕ) → count_at new.cells number ≡ count_at old.cells number
 
-  -- chunks were given back from the head on, of which none had a cursor, a link followed for each
+  -- chunks were freed from the head on, of which none had a cursor, a link followed for each
   pub record Passed (chunk : ℕ) (old new : Chunks T) : Type 0 where
     pub later : old.given ≤ new.given
     pub items : new.items ≡ drop (chunk * (new.given - old.given)) old.items

@@ -6,7 +6,7 @@ use Rattle.cml_log.specs.declared.chunk_log.Cursor.{Cursor}
 use Rattle.cml_log.specs.Log.{Log, log_code, place_at}
 use Rattle.cml_log.specs.Chain.{Chunks, LiesAt, count_at, end_of, is_idle}
 
--- the log; how many chunks were made and given back, each counted by the call that did it alone; and
+-- the log; how many chunks were made and freed, each counted by the call that did it alone; and
 -- how many links between chunks were followed
 pub record Counted (T : Type 0) : Type 0 where
   pub log : Log T
@@ -14,7 +14,7 @@ pub record Counted (T : Type 0) : Type 0 where
   pub given : ℕ
   pub followed : ℕ
 
--- no chunk was made or given back, and no link followed
+-- no chunk was made or freed, and no link followed
 pub record KeepsCounted {T : Type 0} (old new : Counted T) : Type 0 where
   pub made : new.made ≡ old.made
   pub given : new.given ≡ old.given
@@ -39,7 +39,7 @@ place_in (Some cursor) = Some cursor.place
 abbrev pub cursor_at : List (Option Cursor) → ℕ → Option Cursor
 cursor_at slots key = slice_index_or slots key None
 
--- 1 where the slot's cursor is in the chunk of this number, which has so many places
+-- 1 where the slot's cursor is in the chunk of this number, which has this many places
 abbrev pub weight : ℕ → ℕ → Option Cursor → ℕ
 weight chunk number None = 0
 weight chunk number (Some cursor) = cond (cursor.place / chunk == number) 1 0

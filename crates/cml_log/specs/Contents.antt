@@ -47,7 +47,7 @@ module _ {T : Type 0} {N : ℕ} where
     pub found : block_at old number ≡ Some (at, chunk)
     pub kept : new ≡ slice_set old number (Some (at, change chunk))
 
-  -- nothing was made, given back or followed
+  -- nothing was made, freed or followed
   pub record KeepsCounts (old new : KeptChunks T N) : Type 0 where
     pub made : new.made.count ≡ old.made.count
     pub given : new.given.count ≡ old.given.count

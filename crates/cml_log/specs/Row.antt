@@ -46,7 +46,7 @@ module _ {T : Type 0} where
   IsBlank (Full item ∷ rest) = ⊥
   IsBlank (Taken gone ∷ rest) = ⊥
 
-  -- no place is written behind one that isn't
+  -- no place is written after one that isn't
   abbrev pub IsFilled : List (Slot T) → Type 0
   IsFilled [] = ⊤
   IsFilled (Empty ∷ rest) = IsBlank rest

@@ -224,7 +224,7 @@ impl<T: Drop, const N: usize> Chain<T, N> {
         self.tail.number - self.head.number + 1
     }
 
-    /// The chunks made less those given back are those from the head to the tail.
+    /// The chunks made less those freed are those from the head to the tail.
     pub(crate) fn counted(&self)
         ensures counts { self.now.made ≡ self.now.given + (end_of N self.now / N - self.now.given + 1) }
         ensures sized { (0 < N) × (N ≤ 1024) × (end_of N self.now ≤ 18446744073709551614) }

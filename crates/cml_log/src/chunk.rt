@@ -171,7 +171,7 @@ impl<T: Drop, const N: usize> KeptChunks<T, N> {
         self.blocks.get_mut(at).row.take(slot)
     }
 
-    /// Ends the chunks, once each was given back.
+    /// Ends the chunks, once each was freed.
     pub(crate) fn done(self)
         requires { IsBare self.blocks.kept }
     {

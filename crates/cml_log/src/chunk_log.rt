@@ -118,7 +118,7 @@ impl<T: Drop, const N: usize> MessageLog<T> for ChunkLog<T, N> {
         ensures back { IfErr result (λ refused. refused.0 ≡ item) }
         ensures refused { OnErr result (next_of self.old.log % chunk_of N ≡ chunk_of N - 1) }
 
-        // As many links as chunks given back.
+        // As many links as chunks freed.
         ensures followed { self.new.followed + self.old.given ≡ self.old.followed + self.new.given }
     {
         self.chain.push(item)?;
@@ -130,7 +130,7 @@ impl<T: Drop, const N: usize> MessageLog<T> for ChunkLog<T, N> {
         ensures ok { IfOk result (λ key. Opens self.old.log self.new.log key (next_of self.old.log)) }
         ensures err { OnErr result (self.new.log ≡ self.old.log) }
 
-        // No chunk is made or given back, and no link followed.
+        // No chunk is made or freed, and no link followed.
         ensures counts { KeepsCounted self.old self.new }
     {
         let cursor = Cursor {
@@ -180,7 +180,7 @@ impl<T: Drop, const N: usize> MessageLog<T> for ChunkLog<T, N> {
         ensures log { self.new.log
             ≡ trimmed (chunk_of N) (with_place self.old.log k (Some (place_of self.old.log k + 1))) }
 
-        // One link at most, and one chunk given back at most.
+        // One link at most, and one chunk freed at most.
         ensures followed { self.new.followed ≤ self.old.followed + 1 }
         ensures given { self.new.given ≤ self.old.given + 1 }
     {
@@ -199,7 +199,7 @@ impl<T: Drop, const N: usize> MessageLog<T> for ChunkLog<T, N> {
         // It moves the item out where no other cursor may still read it.
         ensures sole { IsSome result ↔ (cursor_count self.old.log ≡ 1) }
 
-        // One link at most, and one chunk given back at most.
+        // One link at most, and one chunk freed at most.
         ensures followed { self.new.followed ≤ self.old.followed + 1 }
         ensures given { self.new.given ≤ self.old.given + 1 }
     {

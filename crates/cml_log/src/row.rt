@@ -14,7 +14,7 @@ enum Slot<T> {
     Taken(Gone<T>),
 }
 
-/// The `N` places of a chunk: each is written once, in order. An item may be moved out, unless one behind it was.
+/// The `N` places of a chunk: each is written once, in order. An item may be moved out, unless one after it was.
 #[derive(Drop)]
 pub(crate) struct Row<T, const N: usize> {
     places: [Slot<T>; N],

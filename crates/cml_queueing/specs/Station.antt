@@ -18,7 +18,7 @@ abbrev pub numbers : ℕ → List ℕ
 numbers zero = []
 numbers (suc n) = numbers n ++ n ∷ []
 
--- it is one of so many servers: they have the seats 1, 2 and so on
+-- it is one of this many servers: they have the seats 1, 2 and so on
 pub record IsServer (servers : ℕ) (who : Who) : Type 0 where
   pub seat : ℕ
   pub by : who ≡ Seat seat

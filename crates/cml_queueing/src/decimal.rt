@@ -3,10 +3,10 @@ use std::alloc::AllocError;
 
 pub(crate) const MILLION: u64 = 1_000_000;
 
-/// By the count of places behind the point: how many millionths one in the last place is.
+/// By the count of places after the point: how many millionths one in the last place is.
 const SCALES: &[u64] = &[1_000_000, 100_000, 10_000, 1_000, 100, 10, 1];
 
-/// Reads a number such as `0.7` or `12`, with at most six places behind the point. Returns `None` for any other text.
+/// Reads a number such as `0.7` or `12`, with at most six places after the point. Returns `None` for any other text.
 pub(crate) fn millionths_in(text: &str) -> Option<u64> {
     let Some((whole, places)) = text.split_once('.') else {
         return digits_in(text)?.checked_mul(MILLION);

@@ -1,10 +1,10 @@
 //! Exponential times by von Neumann's method, which compares random numbers and needs no logarithm.
 use rand_core::Rng;
 
-/// The bits of a time behind its whole multiples of the mean.
+/// The bits of a time after its whole multiples of the mean.
 const PART_BITS: u32 = 32;
 
-/// A time is below so many means. One of more has a probability below 10^-27.
+/// A time is below this many means. One of more has a probability below 10^-27.
 const MOST_MEANS: u64 = 64;
 
 /// No run of falling numbers is longer. A longer one has a probability below 10^-35.
@@ -12,7 +12,7 @@ const LONGEST_RUN: u64 = 34;
 
 /// Draws an exponential time, in units of 2^-32 of its mean.
 ///
-/// A uniform number x is taken with the probability e^-x, and is then the part behind the whole means. Each number that is not
+/// A uniform number x is taken with the probability e^-x, and is then the part after the whole means. Each number that is not
 /// taken adds one whole mean.
 pub(crate) fn exponential<R: Rng>(random: &mut R) -> u64 {
     for means in 0..MOST_MEANS {

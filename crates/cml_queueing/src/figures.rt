@@ -36,7 +36,7 @@ impl Figures {
         self.longest = self.longest.max(waiting);
     }
 
-    /// Adds the lines of a run that took so long, with so many servers and calls.
+    /// Adds the lines of a run that took so long, with this many servers and calls.
     pub(crate) fn write(
         &self,
         text: &mut String,

@@ -6,7 +6,7 @@ use cml_board::{Board, BoardLog, Call, Entry, Name, Who};
 use cml_journal::write_reply;
 use std::alloc::{AllocError, Global};
 
-/// So many events are reported.
+/// How many events are reported.
 const EVENTS: u64 = 100;
 
 /// Performs the first events, and returns the report of them.
@@ -41,7 +41,7 @@ fn perform_first(simulation: &mut Simulation) -> Result<u64, Ending> {
     Ok(EVENTS)
 }
 
-/// Adds a line for each entry behind those that made the mailboxes. Returns how many lines these are.
+/// Adds a line for each entry after those that made the mailboxes. Returns how many lines these are.
 fn write_rows(text: &mut String, entries: &[Entry<u64>]) -> Result<u64, AllocError> {
     let mut rows = 0u64;
     for entry in entries.iter().skip(2) {

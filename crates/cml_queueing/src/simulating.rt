@@ -7,7 +7,7 @@ use crate::figures::Figures;
 use crate::keeper::Keeper;
 use crate::simulation::Simulation;
 
-/// After so many events the journal is cut. Each event makes at most three calls.
+/// How many events happen before the journal is cut. Each event makes at most three calls.
 const PIECE: u64 = 16_384;
 
 /// Performs all events. Whenever the journal has a piece, it goes to the keeper. If it succeeds, the servers received the customers

@@ -186,7 +186,7 @@ fn begin(figures: &mut Figures, time: u64, arrived: u64, service: u64, server: u
     }
 }
 
-/// Draws the time from one arrival to the next, whose mean is so many ticks.
+/// Draws the time from one arrival to the next, whose mean is this many ticks.
 fn gap(random: &mut SmallRng, mean: u64) -> u64 {
     let gap = u128::from(exponential(random)).saturating_mul(u128::from(mean)) >> 32;
     u64::try_from(gap).unwrap_or(u64::MAX)

@@ -40,7 +40,7 @@ impl Model for Station {
 }
 
 impl Station {
-    /// Makes a station with so many servers, of which none is free yet, and without customers.
+    /// Makes a station with this many servers, none of them free yet, and without customers.
     pub(crate) fn new(alloc: Global, servers: u64) -> Result<Station, Ending>
         ensures { IfOk result (λ station. station.servers ≡ servers) }
     {
@@ -120,7 +120,7 @@ impl Station {
     }
 }
 
-/// Makes a mailbox of a station with so many servers.
+/// Makes a mailbox of a station with this many servers.
 #[tactic(auto, using(crate::proofs::StationLemmas::begun, crate::proofs::StationLemmas::kept))]
 fn add_mailbox(servers: u64, board: &mut Board<u64, BoardLog<u64>>) -> Result<(), Ending>
     ensures first { board.old.history ≡ no_entries → OnOk result (IsStation (record { servers = servers; history = board.new.history })) }

@@ -110,7 +110,7 @@ module _ (by : ℕ) (dense now : QueuesShown) (is : all_raised by dense ≡ now)
   pub short_now : (row bound : ℕ) → length (queue_of dense row) ≤ bound → length (queue_of now row) ≤ bound
   short_now row bound short = omega (arith, ap length (queue_now row), length-map (queue_of dense row) (λ n. by + n), short)
 
-  -- what is behind a member is behind it in the raised queue
+  -- what is after a member is after it in the raised queue
   pub after_now : (k : ℕ) (next : Option ℕ)
       → ((row : ℕ) (xs ys : List ℕ) → queue_of dense row ≡ xs ++ (k - by) ∷ ys → next ≡ slice_get ys 0)
       → (row : ℕ) (xs ys : List ℕ) → queue_of now row ≡ xs ++ k ∷ ys → option_map (λ n. by + n) next ≡ slice_get ys 0

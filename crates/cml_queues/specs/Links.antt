@@ -15,7 +15,7 @@ abbrev pub previous_in : Option Link → Option ℕ
 previous_in None = None
 previous_in (Some link) = link.previous
 
--- the numbers that a walk along the links passes in so many steps
+-- the numbers that a walk along the links passes in this many steps
 abbrev pub walk : ℕ → List Link → Option ℕ → List ℕ
 walk zero links at = []
 walk (suc steps) links None = []
@@ -100,7 +100,7 @@ appended links ends number = next_set (slice_set links number (link_of ends.last
 abbrev pub ends_appended : Ends → ℕ → Ends
 ends_appended ends number = ends_of (end_set ends.first ends.last (Some number)) (Some number)
 
--- the links, where those before and behind a number with this link lead to each other
+-- the links, where those before and after a number with this link lead to each other
 abbrev pub joined : List Link → Option Link → List Link
 joined links link = previous_set (next_set links (previous_in link) (next_in link)) (next_in link) (previous_in link)
 

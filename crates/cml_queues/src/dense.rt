@@ -90,7 +90,7 @@ impl Dense {
         self.ends.get(row)?.first
     }
 
-    /// Returns the member behind this one in its queue. For a number in no queue it may return any number that was added.
+    /// Returns the member after this one in its queue. For a number in no queue it may return any number that was added.
     pub fn after(&self, number: u64) -> Option<u64>
         ensures next { (row : ℕ) (xs ys : List ℕ) → queue_of self.now row ≡ xs ++ number ∷ ys → result ≡ slice_get ys 0 }
         ensures within { IfSome result (λ next. next < self.now.bound) }

@@ -2,7 +2,7 @@
 ghost use Rattle.std.specs.Prelude.{◌≡◌, ◌<◌, length, slice_get, IfSome};
 ghost use Rattle.cml_queues.specs.{next_in, previous_in, next_set, previous_set, end_set, appended, ends_appended, joined, ends_joined};
 
-/// The numbers before and behind a member of a queue. It says nothing of a number that is in no queue.
+/// The numbers before and after a member of a queue. It says nothing of a number that is in no queue.
 #[derive(Clone, Copy)]
 pub(crate) struct Link {
     pub(crate) previous: Option<u64>,

@@ -19,7 +19,7 @@ use Rattle.cml_room.specs.{Place, Waiter, object_of, source_of, helps, NoNews, I
 use Rattle.cml_room.specs.declared.news.News.TheVariants.{Message, Multicast, Value, Closed}
 use Rattle.cml_room.proofs.RousingLemmas.{mate_on, quiet_before}
 
--- an item behind the first list is in the second
+-- an item after the first list is in the second
 behind : {X : Type 0} (xs ys : List X) (k : ℕ) (x : X) → length xs ≤ k → slice_get (xs ++ ys) k ≡ Some x
     → (i : ℕ) × (slice_get ys i ≡ Some x)
 behind [] ys k x past found = (k, found)

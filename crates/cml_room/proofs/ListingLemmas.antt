@@ -211,7 +211,7 @@ not_left place.Free here left = absurd (let clash : place.Free ≡ place.Left = 
 not_left (place.Waiting waiter) here left = absurd (let clash : place.Waiting waiter ≡ place.Left = left in cc)
 not_left place.Left here left = false≢true here
 
--- a seat that has not left is behind those that have
+-- a seat that has not left is after those that have
 pub here_from : (count k : ℕ) (places : List Place) (p : Place) → HaveLeft count places → slice_get places k ≡ Some p
     → is_here (Some p) ≡ true → count ≤ k
 here_from count k places p left found here = elim (cases_lt k count) [
@@ -356,7 +356,7 @@ kept_noticed {places} {rows = rows} k waiter seen found kept in_due two_same due
     (listed_same rows row_in places k (place.Waiting waiter) _ found kept.in_rows (λ r. refl)) in_due refl two_same refl due_bound refl
     due_first refl
 
--- a queue is what is before a member, the member, and what is behind it
+-- a queue is what is before a member, the member, and what is after it
 split_at : (queue : List ℕ) (i k : ℕ) → slice_get queue i ≡ Some k
     → (xs : List ℕ) × (ys : List ℕ) × (queue ≡ xs ++ k ∷ ys) × (slice_get ys 0 ≡ slice_get queue (i + 1))
 split_at [] i k found = absurd (none-some k found)
@@ -366,7 +366,7 @@ split_at (x ∷ queue) (suc i) k found =
     let next : suc (i + 1) ≡ suc i + 1 = omega arith in
     (x ∷ later.0, later.1, ap (λ l. x ∷ l) later.2, later.3 ∙ ap (slice_get (x ∷ queue)) next)
 
--- what comes behind a member is the next
+-- what comes after a member is the next
 pub behind : (queue : List ℕ) (i k : ℕ) (next : Option ℕ) → slice_get queue i ≡ Some k
     → ((xs ys : List ℕ) → queue ≡ xs ++ k ∷ ys → next ≡ slice_get ys 0) → next ≡ slice_get queue (i + 1)
 behind queue i k next found after =

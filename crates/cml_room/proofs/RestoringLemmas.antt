@@ -46,7 +46,7 @@ module _ {M : Type 0} where
     stalls = λ some number waiter quiet. absurd (none_waits count number waiter quiet.here);
   })
 
--- a seat that has not left is behind those that have
+-- a seat that has not left is after those that have
 pub here_behind : (gone number : ℕ) (places shown : List Place) → behind_gone gone places ≡ shown
     → is_here (slice_get shown number) ≡ true → gone ≤ number
 here_behind gone number places shown view here = elim (cases_lt number gone) [

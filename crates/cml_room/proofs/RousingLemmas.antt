@@ -255,7 +255,7 @@ reached_source object source waiter is = eqb-true waiter.source source (and_left
 abbrev pub IsSeen : (Waiter → Type 0) → List Place → ℕ → Type 0
 IsSeen So places k = (waiter : Waiter) → slice_get places k ≡ Some (Waiting waiter) → So waiter → is_noted waiter.notice ≡ true
 
--- so many seats of a row were looked at, and those of them that wait for something of that kind are due
+-- this many seats of a row were looked at, and those of them that wait for something of that kind are due
 pub record RowRoused (So : Waiter → Type 0) (row : ℕ) (olds news : SeatsShown) (next : Option ℕ) (count : ℕ) : Type 0 where
   pub roused : AreRoused So olds.places news.places
   pub rows : news.rows ≡ olds.rows

@@ -58,7 +58,7 @@ module _ {M : Type 0} where
   ]
   woken_returned (Other ∷ earlier) first last none run seat = run.2 seat ∙ woken_returned earlier first run.0 none run.1 seat
 
-  -- a seat is returned anew
+  -- a seat is returned again
   pub returned_anew : (calls : List RoomCall) (first last : RoomShown M) (seat : ℕ) → NoneDue first
       → AreMade (NextDue (Some seat) ∷ calls) first last
       → is_returned calls seat ≡ false

@@ -6,7 +6,7 @@ use Rattle.std.proofs.lemmas.Bool.{cases_lt}
 use Rattle.cml_queues.specs.{has}
 use Rattle.cml_room.proofs.ListingLemmas.{at_has}
 
--- so many members were seen, and this is the next
+-- this many members were seen, and this is the next
 pub record Walked (queue : List ℕ) (next : Option ℕ) (count : ℕ) (Seen : ℕ → Type 0) : Type 0 where
   pub next_is : next ≡ slice_get queue count
   pub seen : (i k : ℕ) → i < count → slice_get queue i ≡ Some k → Seen k

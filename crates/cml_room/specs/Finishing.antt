@@ -21,7 +21,7 @@ module _ {M : Type 0} where
   ended_by call (WouldWait back) = ended.Waits (want_in back)
   ended_by call (Refused refusal back) = ended.Failed
 
-  -- what the seat is told: the outcome, or `Stalled` if it would wait and no seat could go on
+  -- what the seat gets: the outcome, or `Stalled` if it would wait and no seat could go on
   abbrev pub told_by : Outcome M → Bool → Outcome M
   told_by (WouldWait back) false = Refused Stalled back
   told_by outcome goes_on = outcome

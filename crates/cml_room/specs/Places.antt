@@ -22,7 +22,7 @@ is_here None = false
 is_here (Some place.Left) = false
 is_here some = true
 
--- so many seats that have left, and then these
+-- this many seats that have left, and then these
 abbrev pub behind_gone : ℕ → List Place → List Place
 behind_gone gone places = replicate gone place.Left ++ places
 

@@ -53,14 +53,14 @@ module _ {M : Type 0} where
     pub watched : IsWatched before places all_due
     pub follows : Follows news before.board floor.board
 
-  -- the floor's board has so many entries since it was made, no fewer than were cut away; and the journal has of each open lane
+  -- the floor's board has this many entries since it was made, no fewer than were cut away; and the journal has of each open lane
   -- what was taken out of its ring
   pub record HasEntries (entries : ℕ) (floor : FloorShown M) : Type 0 where
     pub count : entries ≡ entries_in floor.board.history
     pub past : entries_in floor.board.past ≤ entries
     pub lanes : KeepsLanes floor.board.history floor.lanes
 
-  -- this floor was made, by a call on a lane or a feed, of one that had so many entries and at which nobody slept wrongly
+  -- this floor was made, by a call on a lane or a feed, of one that had this many entries and at which nobody slept wrongly
   pub record WasWatchedAt (entries : ℕ) (floor : FloorShown M) (places : List Place) (all_due : Bool) : Type 0 where
     pub before : FloorShown M
     pub had : HasEntries entries before

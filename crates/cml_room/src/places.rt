@@ -11,7 +11,7 @@ use std::marker::Model;
 /// What is known of each seat. Seats that left before the room was made take no memory.
 #[derive(Drop)]
 pub struct Places {
-    // So many left before. The places are of the seats behind them.
+    // This many left before. The places are of the seats after them.
     gone: usize,
     places: Vec<Place>,
 }
@@ -29,7 +29,7 @@ impl Model for Places {
 }
 
 impl Places {
-    /// So many seats, all of which have left. Allocates no memory, and fails only if there are 2^63.
+    /// This many seats, all of which have left. Allocates no memory, and fails only if there are 2^63.
     pub fn of_left(alloc: Global, gone: usize) -> Result<Places, AllocError>
         ensures places { IfOk result (λ places. places ≡ replicate gone place.Left) }
         ensures small { IfOk result (λ _. gone < 2 ^ 63) }

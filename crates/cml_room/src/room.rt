@@ -71,7 +71,7 @@ impl<M: Message, L: MessageLog<M>> Room<M, L> {
 
     /// Makes a room on the board of a journal. The seats, the lanes and the feeds that made its entries keep their numbers. Those
     /// seats have left, and none of those lanes and feeds is open: a call of one fails with `Gone` or `NoSuch`. New ones are
-    /// numbered behind them.
+    /// numbered after them.
     pub fn restore(alloc: Global, restored: Restored<M, L>) -> Result<Room<M, L>, AllocError>
         ensures board { IfOk result (λ room. room.board ≡ restored.board) }
         ensures lanes { IfOk result (λ room. room.lanes ≡ replicate restored.makers.lanes None) }

@@ -34,7 +34,7 @@ impl Way {
     }
 }
 
-/// The line that is performed behind a case's last line: if entries were taken, it asks whether they are lawful.
+/// The line that is performed after a case's last line: if entries were taken, it asks whether they are lawful.
 pub fn last_look(way: Option<Way>) -> Option<&'static str> {
     match way {
         Some(Way::Take | Way::TakeOpen) => Some("pieces"),
@@ -168,7 +168,7 @@ impl<M: Numbered> Pieces<M> {
         Ok(self.keep(told, Piece { from, entries }))
     }
 
-    /// The same while lanes and feeds are open.
+    /// Cuts the journal while lanes and feeds are open, and keeps the entries that it returns. Returns how many they are.
     fn take_open<J: Journaled<M>>(&mut self, told: &mut Told, ground: &mut J) -> usize {
         let from = ground.board().cut_at();
         let entries = ground.take_journal_open();

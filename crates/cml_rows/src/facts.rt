@@ -25,7 +25,7 @@ enum Reader {
     Kept,
 }
 
-/// The facts that are written of a port before whether it is open; `COUNTS` are those written behind that.
+/// The facts that are written of a port before whether it is open; `COUNTS` are those written after that.
 const PLACES: &[(&str, Reader)] = &[(" of ", Reader::Of), (" start ", Reader::Start)];
 
 const COUNTS: &[(&str, Reader)] = &[

@@ -12,7 +12,7 @@ use crate::told::Told;
 use crate::words::{call_and_copy, is_note, number, object};
 use cml_board::{Call, Outcome, Refusal};
 
-/// Writes each line of a case again, with its outcome on this ground. Behind each line the journal is cut.
+/// Writes each line of a case again, with its outcome on this ground. After each line the journal is cut.
 pub fn perform_on<M: Numbered, G: Ground<M> + Drop>(
     told: &mut Told,
     maker: &Maker<M>,
@@ -113,7 +113,7 @@ impl<'a, M: Numbered, G: Ground<M> + Drop> GroundTable<'a, M, G> {
         told
     }
 
-    /// Performs a seat's line, by its number and the words behind that.
+    /// Performs a seat's line, by its number and the words after that.
     fn call(&mut self, told: &mut Told, seat: usize, words: &[&str], turn: Turn) {
         match *words.get(1).unwrap_or(&"") {
             "leave" => tell_done(told, self.ground.leave(seat)),

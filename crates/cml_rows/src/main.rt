@@ -1,8 +1,8 @@
 //! Performs tables of calls on a board, a floor or a hall: it writes each line of standard input again, with its outcome
-//! behind `: `. A call that ran out of memory is made once more, and the line then says so. With the word `texts` the
-//! messages are texts, the digits of the tables' numbers. With the word `cut` or `take` the journal is cut behind each line
+//! after `: `. A call that ran out of memory is made once more, and the line then says so. With the word `texts` the
+//! messages are texts, the digits of the tables' numbers. With the word `cut` or `take` the journal is cut after each line
 //! if it can be. `cut` drops its entries; `take` keeps them, and in the end checks them piece by piece. With `cut_open` or
-//! `take_open` it is cut behind each line, also while lanes and feeds are open.
+//! `take_open` it is cut after each line, also while lanes and feeds are open.
 #![tactic(auto)]
 
 mod cutting;

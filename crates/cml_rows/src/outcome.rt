@@ -11,7 +11,7 @@ pub type Numbers<M> = Board<M, BoardLog<M>>;
 /// The words of a line if memory ran out.
 pub const NO_MEMORY: &str = "no memory";
 
-/// The words behind the outcome of a call that was made once more.
+/// The words after the outcome of a call that was made once more.
 pub const REFUSED_ONCE: &str = ", once memory was refused";
 
 /// What a board says of a call before it is made.

@@ -6,7 +6,7 @@ use std::alloc::Global;
 
 /// What performs the lines of a case.
 pub trait Performs {
-    /// Performs a line's words, and writes their outcome. The table has `expected` behind them.
+    /// Performs a line's words, and writes their outcome. The table has `expected` after them.
     fn obey(&mut self, told: &mut Told, words: &[&str], expected: &str);
 
     /// Cuts the journal this way, if in any.
@@ -18,7 +18,7 @@ pub fn is_over(line: &str) -> bool {
     line.starts_with("over")
 }
 
-/// Writes each line again, up to one that says the case is over, with its outcome on this table. Behind each line the
+/// Writes each line again, up to one that says the case is over, with its outcome on this table. After each line the
 /// journal is cut.
 pub fn retell<T: Performs>(
     told: &mut Told,

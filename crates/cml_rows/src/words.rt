@@ -48,7 +48,7 @@ pub fn call_of<M: Numbered>(told: &mut Told, maker: &Maker<M>, words: &[&str]) -
     Some(Call::ask(Ask::of_word(word)?, name))
 }
 
-/// The call that makes an object. An m-variable holds the number behind the word, if there is one.
+/// The call that makes an object. An m-variable holds the number after the word, if there is one.
 fn making_call<M: Numbered>(
     told: &mut Told,
     maker: &Maker<M>,

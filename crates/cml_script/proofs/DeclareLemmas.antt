@@ -61,7 +61,7 @@ made_one : (script : Lines) (m : Makes) (asked : Call (List ℕ)) → making scr
 made_one script makes.Thread asked e = absurd (none-some asked e)
 made_one script m asked e = refl
 
--- who makes it, where so many feeds were declared before
+-- who makes it, where this many feeds were declared before
 by_feed : Bool → ℕ → Who
 by_feed feed feeds = cond feed (Feed feeds) (Seat 0)
 

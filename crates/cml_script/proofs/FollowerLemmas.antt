@@ -1,4 +1,4 @@
--- What a follower keeps of a journal, and how it goes on behind one more entry.
+-- What a follower keeps of a journal, and how it goes on after one more entry.
 use Rattle.std.proofs.Common.{◌≡◌, ℕ, ◌+◌, ◌-◌, ◌<◌, ◌≤◌, true, false, cond, List, ◌∷◌, length, take, map, slice_get, Option, Some}
 use Rattle.std.proofs.Common.{None, MatchBool, IfSome, refl, sym, ap, subst, ◌∙◌, arith, inl, inr}
 use Rattle.std.specs.Prelude.{All}
@@ -157,7 +157,7 @@ module _ (script : Lines) (history : History) (who : Who) (s : Step) (is : IsNex
       ∙ ap (option_and_then (λ line. option_and_then (call_of (object_of script history)) (action_of (names_of script) line.words))) is.line
       ∙ read_calls script history used s r is.reads uses made
 
--- what is the script's behind the entries that were followed
+-- what is the script's after the entries that were followed
 pub own_at : (p : Progress) (script : Lines) (journal : List (Entry (List ℕ))) (k : ℕ) (entry : Entry (List ℕ)) → p.script ≡ script
     → p.journal ≡ journal → p.followed ≡ k → IsOwn script (before journal k) entry → IsOwn p.script (history_of p) entry
 own_at p script journal k entry s j f own = rw (s, j, f) own
@@ -165,7 +165,7 @@ own_at p script journal k entry s j f own = rw (s, j, f) own
 -- Which entries are the script's.
 
 module _ (script : Lines) (history : History) where
-  -- behind the declared objects and before
+  -- after the declared objects and before
   pub late_own : (entry : Entry (List ℕ)) → declared_count script ≤ length history
       → IsOfCaller script history entry entry.who → IsOwn script history entry
   late_own entry ge = subst (λ t. MatchBool t (IsDeclaration script history entry) (IsOfCaller script history entry entry.who))

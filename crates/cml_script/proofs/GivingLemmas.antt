@@ -79,7 +79,7 @@ module _ (script : Lines) where
         ap (slice_get (positions_from script seat 0 script.steps)) (sym ready.next)
         ∙ position_of_step (is_called script seat) 0 script.steps i ready.line ready.found ready.seated ∙ ap Some (zero-add i)
 
-    -- a step of a thread, behind those that it performed, is its next
+    -- a step of a thread, after those that it performed, is its next
     pub next_at : (seat i : ℕ) (line : SourceLine) → slice_get script.steps i ≡ Some line → is_called script seat line ≡ true
         → earlier script seat i ≡ performed history seat → next_position script history (Seat seat) ≡ Some i
     next_at seat i line found seated same =

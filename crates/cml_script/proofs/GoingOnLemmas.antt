@@ -86,7 +86,7 @@ module _ (script : Lines) (read : CanBeRead script) (plain : first_ring script �
       by_least all more room None none = inl (Stalled, (room, all, more, none))
       by_least all more room (Some i) least = inr (room, performs history lawful follows all i least)
 
-  -- with room for so many entries more
+  -- with room for this many entries more
   schedule_from : (room limit : ℕ) (history : History) → Lawful history → Follows script history → length history + room ≡ limit
       → (later : History) × (stop : Stop) × Schedule script limit later stop
   schedule_from zero limit history lawful follows all = elim (ends_or_goes_on limit history lawful follows (omega (arith, all))) [

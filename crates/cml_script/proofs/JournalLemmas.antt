@@ -14,7 +14,7 @@ module _ (journal : List (Entry (List ℕ))) where
   pub before_length : (k : ℕ) → k ≤ length journal → length (before journal k) ≡ k
   before_length k le = length-reverse (take k journal) ∙ length-take-le k journal le
 
-  -- so many of the entries before a position pass a test
+  -- this many of the entries before a position pass a test
   pub record AreCountedBefore (p : Entry (List ℕ) → Bool) (k n : ℕ) : Type 0 where
     pub count : n ≡ how_many p (before journal k)
     pub few : n ≤ k

@@ -20,7 +20,7 @@ use Rattle.cml_script.specs.{IsOfScript, IsOfCaller, History, IsDeclaration, dec
 use Rattle.cml_script.specs.{is_object, declared_object}
 use Rattle.cml_script.proofs.ListLemmas.{slice_get_pushed, filter_at, counted_mono, taken_all}
 
--- what is made behind a list of objects, by a call that makes one
+-- what is made after a list of objects, by a call that makes one
 pub record MakesOne (before : History) (entry : Entry (List ℕ)) (k : Option Kind) : Type 0 where
   pub origin : Origin
   pub made : if_made entry.reply (begun_by (made before) before entry.call) ≡ origin ∷ []

@@ -11,7 +11,7 @@ use Rattle.cml_grammar.proofs.ReadableLemmas.{can_be_read}
 use Rattle.cml_script.proofs.LineLemmas.{called_seated, has_seats}
 
 module _ (script : Lines) where
-  -- the entries behind the declared objects are threads' steps
+  -- the entries after the declared objects are threads' steps
   calls_are : HasSeats script → (history : History) → Follows script history
       → how_many is_step_entry history ≡ length history - declared_count script
   calls_are seats [] follows = omega arith

@@ -200,7 +200,7 @@ byte_more n all byte k t b more is same few =
     let one : byte ≡ one_if b = is ∙ ap bool_byte same ∙ byte_one b in
     (omega (arith, more, one), omega (arith, one, one_le b, few))
 
--- so many of the first of these pass a test
+-- this many of the first of these pass a test
 pub record AreCounted {X : Type 0} (p : X → Bool) (xs : List X) (i n : ℕ) : Type 0 where
   pub count : n ≡ how_many p (take i xs)
   pub few : n ≤ i

@@ -59,7 +59,7 @@ module _ {X : Type 0} where
       let all = ap (how_many p) (take_all (i + length xs) xs (omega arith)) in
       omega (arith, le, all)
 
-  -- an item that passes is, among all that pass, behind those that passed before it
+  -- an item that passes is, among all that pass, after those that passed before it
   pub filter_at : (p : X → Bool) (xs : List X) (i : ℕ) (x : X) → slice_get xs i ≡ Some x → p x ≡ true
       → slice_get (filter p xs) (how_many p (take i xs)) ≡ Some x
   filter_at p [] i x found passes = absurd (none-some x found)
@@ -125,7 +125,7 @@ module _ {X : Type 0} where
   passing p None e = absurd (false≢true e)
   passing p (Some x) e = (x, refl, e)
 
-  -- what is told, if anything, goes on like this
+  -- what is reported, if anything, goes on like this
   pub told_more : (told : X) (adds : X → X) (made later : Option X) → IfSome made (λ tells. tells ≡ told) → later ≡ option_map adds made
       → IfSome later (λ tells. tells ≡ adds told)
   told_more told adds None later is more = rw more tt

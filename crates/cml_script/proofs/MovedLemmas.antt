@@ -160,7 +160,7 @@ module _ (script : Lines) (lanes : List ℕ) (seat at : ℕ) (journal : List (En
         ap (λ l. l ++ sends_to script seat at (drop from script.steps)) (ap (moved_to lanes seat (number_of script at))
         (before_more journal k entry found) ∙ moved_none lanes seat (number_of script at) entry (before journal k) other) ∙ so_far
 
-    -- what comes behind an entry that may come
+    -- what comes after an entry that may come
     pub so_far_more : (next : ℕ) → IsBehind script lanes seat at from entry next → IsSoFar (k + 1) next
     so_far_more next behind = elim (cases_Bool (is_moved_to lanes seat (number_of script at) entry)) [
       | inl moved ↦ moved_next next moved (behind.moves moved).more

@@ -65,7 +65,7 @@ module _ (script : Lines) (read : CanBeRead script) (plain : first_ring script �
       × ((k : ℕ) → k < length xs → slice_get xs k ≡ Some (binding_of script history k))
   bindings = listed (binding_of script history) (length (names_of script))
 
-  -- so many entries can't be more than there are lines
+  -- this many entries can't be more than there are lines
   room : length history ≤ 2 ^ 32
   room =
       omega (

@@ -38,7 +38,7 @@ module _ (test : SourceLine → Bool) where
       elim (test line) as (λ t. length (cond t (k ∷ positions_where test (suc k) lines) (positions_where test (suc k) lines))
       ≡ one_if t + how_many test lines) [ true ↦ omega (arith, ih) | false ↦ omega (arith, ih) ]
 
-  -- the item at a place of the list: a line that passes, behind as many that do
+  -- the item at a place of the list: a line that passes, after as many that do
   pub record StandsThere (k : ℕ) (lines : List SourceLine) (n i : ℕ) : Type 0 where
     pub place : ℕ
     pub line : SourceLine

@@ -11,7 +11,7 @@ use Rattle.cml_script.proofs.LineLemmas.{called_seated}
 use Rattle.cml_script.proofs.QueueLemmas.{position_is, position_of_step}
 
 module _ (script : Lines) (history : History) where
-  -- the item of a thread's queue behind the steps that it performed is its next step, and the only one that may be ready
+  -- the item of a thread's queue after the steps that it performed is its next step, and the only one that may be ready
   pub ready_is : (seat i j : ℕ) (asked : Call (List ℕ)) → slice_get (positions_from script seat 0 script.steps) (performed history seat)
       ≡ Some i → IsReady script history j seat asked → j ≡ i
   ready_is seat i j asked at ready =

@@ -98,7 +98,7 @@ read_run form limit old new text script history tally ends (Ok p) read says stop
       told = subst (λ s. IsTextOf form script limit history tally s (string_bytes p.report)) (sym stops) told;
     })
 
--- what is told of a board under its own limit
+-- what is reported of a board under its own limit
 pub text_under : (form : Form) (limit room : ℕ) (script : Lines) (history : History) (tally : Tallied) (ends : Stop)
     (r : Result Played Ending) → room ≡ limit
     → IfOk r (λ p. IsTextOf form script room history tally ends (string_bytes p.report))
@@ -132,7 +132,7 @@ unsettled_ends script old new text (ending.NotLawful at) read says unsettled =
     all_read old new text AreScript script read says (script, says)
 unsettled_ends script old new text _ read says unsettled = absurd unsettled
 
--- where nothing is told nothing is written
+-- where nothing is reported, nothing is written
 pub keeps_untold : (form : Form) (limit : ℕ) (old new held holds : Option (List ℕ)) (ended : Ending) → Keeps held holds
     → EndsUntold old new ended → RunsAs form limit old new held holds ended
 keeps_untold form limit old new held holds (ending.Fault fault) keeps why = (why, keeps)

@@ -30,7 +30,7 @@ module _ (script : Lines) where
       ∙ ap (λ o. option_map_or line_text o []) is.line
       ∙ join_with_byte-slice_split 32 (string_bytes s.line.text)
 
-  -- one more entry behind the declared objects, and one that makes such an object
+  -- one more entry after the declared objects, and one that makes such an object
   pub line_more : (before : History) (entry : Entry (List ℕ)) → declared_count script ≤ length before
       → entry_lines script (entry ∷ before) ≡ entry_lines script before ++ entry_line script before entry
   line_more before entry ge =
@@ -54,7 +54,7 @@ module _ (script : Lines) where
       (add-one at)
       ∙ ap (λ l. written ++ object_lines_from script history tally at l) (sym (dropped names at given found))
 
--- what a follower tells behind so many entries
+-- what a follower tells after this many entries
 module _ (p : Progress) (script : Lines) (journal : List (Entry (List ℕ))) (k : ℕ) (s : p.script ≡ script)
     (j : p.journal ≡ journal) (f : p.followed ≡ k) where
   pub begun_at : declared_count p.script ≤ length (history_of p) → declared_count script ≤ length (before journal k)

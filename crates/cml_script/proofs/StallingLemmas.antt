@@ -63,7 +63,7 @@ pub laid_at : (script : Lines) (i : ℕ) (line : SourceLine) → slice_get scrip
     → is_by_lane (route_at script i) ≡ is_laid script line
 laid_at script i line found = ap (λ o. is_by_lane (option_map_or (route_of_line script) o route.Seat)) found
 
--- so many of the first steps that pass a test are passed
+-- this many of the first steps that pass a test are passed
 pub record ArePassed (test : SourceLine → Bool) (script : Lines) (history : History) (i n : ℕ) : Type 0 where
   pub count : n ≡ how_many (is_passed script history) (positions_where test 0 (take i script.steps))
   pub few : n ≤ i

@@ -108,7 +108,7 @@ module _ (script : Lines) (seat taken i : ℕ)
       let same : i ≡ there.place = omega (arith, there.at) in
       ap (λ n. how_many (is_seated script seat) (take n script.steps)) same ∙ there.behind
 
-  -- behind it
+  -- after it
   pub one_taken : {course : Course} {made : Option Made} → IsUnderWay script seat (i + 1) course made
       → HasTaken script seat (taken + 1) course made
   one_taken under = record {

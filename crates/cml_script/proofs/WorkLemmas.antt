@@ -117,7 +117,7 @@ module _ (script : Lines) (seat : ℕ) (low : 1 ≤ seat) (first : History) (ope
       let mine : is_seat seat entry.who ≡ true = ap (is_seat seat) by.0 ∙ eq-eqb seat seat refl in
       omega (arith, ap one_if mine, all_performed entries by.1)
 
-  -- how many entries there are, when so many were made
+  -- how many entries there are, when this many were made
   pub all_entries : (entries : History) → length (entries ++ first) ≡ declared_count script + length entries
   all_entries [] = opening.all ∙ omega arith
   all_entries (entry ∷ entries) = let ih = all_entries entries in omega (arith, ih)

@@ -9,7 +9,7 @@ use Rattle.cml_script.specs.declared.route.Route.TheVariants as route
 use Rattle.cml_script.specs.Counting.{how_many}
 use Rattle.cml_script.specs.Schedule.{number_of, is_seated, is_apart, route_of_line}
 
--- a message sent by the lane to this object, which has room for so many, or a poll of the feed of this number
+-- a message sent by the lane to this object, which has room for this many, or a poll of the feed of this number
 pub data Apart : Type 0 where
   by_lane : Name → ℕ → List ℕ → Apart
   by_feed : ℕ → Apart
@@ -35,7 +35,7 @@ act_of script _ _ = None
 abbrev pub act_of_line : Lines → SourceLine → Option Apart
 act_of_line script line = option_and_then (act_of script (route_of_line script line)) (action_of (names_of script) line.words)
 
--- this is what the thread's step does that goes so behind so many
+-- what the thread's next such step does, after this many of them
 pub record IsNextApart (script : Lines) (seat before : ℕ) (done : Apart) : Type 0 where
   pub step : ℕ
   pub line : SourceLine

@@ -38,7 +38,7 @@ pub record IsOfFeed (script : Lines) (feed : ℕ) (asked : Call (List ℕ)) : Ty
   pub made : maker script object ≡ Feed feed
   pub receives : asked ≡ call.Recv (record { 0 = object })
 
--- the entry is one that its caller may have behind the declared objects
+-- the entry is one that its caller may have after the declared objects
 abbrev pub IsOfCaller : Lines → History → Entry (List ℕ) → Who → Type 0
 IsOfCaller script before entry (Seat seat) = IsNextOfThread script before entry
 IsOfCaller script before entry (Lane lane) = IsOfLane script entry.call

@@ -30,7 +30,7 @@ no_rings = record { apart = 0; taken = []; lanes = [] }
 abbrev pub line_end : List ℕ
 line_end = 10 ∷ []
 
--- First part: a line for each entry behind the declarations.
+-- First part: a line for each entry after the declarations.
 
 -- the mark before a message in reports of scripts of this version
 abbrev pub message_mark : ℕ → List ℕ

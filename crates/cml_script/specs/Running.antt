@@ -99,7 +99,7 @@ EndsUntold old new ending.NoMemory = ⊤
 EndsUntold old new (ending.NotLawful at) = AreAll old new AreScript
 EndsUntold old new _ = ⊥
 
--- what is not reported: what an audit refuses, there, and what may not end so, behind all of its entries
+-- what is not reported: what an audit refuses, there, and what may not end so, after all of its entries
 abbrev pub IsRefused : Lines → ℕ → History → Tallied → Stop → Ending → Type 0
 IsRefused script limit history tally stop ending.NoMemory = ⊤
 IsRefused script limit history tally stop (ending.NotLawful at) =
@@ -112,7 +112,7 @@ pub record IsOfRun (limit : ℕ) (board : Shown (List ℕ)) : Type 0 where
   pub under : board.limit ≡ limit
   pub whole : board.past ≡ no_entries
 
--- what is not reported of a board: what is refused of its history, and, behind all of its entries, a board that no run leaves
+-- what is not reported of a board: what is refused of its history, and, after all of its entries, a board that no run leaves
 abbrev pub IsUntold : Lines → ℕ → Shown (List ℕ) → Tallied → Stop → Ending → Type 0
 IsUntold script limit board tally stop ending.NoMemory = ⊤
 IsUntold script limit board tally stop (ending.NotLawful at) =

@@ -20,7 +20,7 @@ use Rattle.cml_script.specs.declared.route.Route.TheVariants as route
 use Rattle.cml_script.specs.declared.stop.Stop.{Stop}
 use Rattle.cml_script.specs.declared.stop.Stop.TheVariants.{Done, Stalled, Full, Held}
 
--- a script's history is the whole journal of a board since it was made: nothing is behind its oldest entry
+-- a script's history is the whole journal of a board since it was made: nothing is after its oldest entry
 abbrev pub History : Type 0
 History = List (Entry (List ℕ))
 

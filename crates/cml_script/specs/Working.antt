@@ -119,7 +119,7 @@ pub record IsOpening (script : Lines) (first : History) : Type 0 where
   pub all : entries_in first ≡ declared_count script
   pub by : AreByMakers script first
 
--- behind the first entries each is the next step of its thread
+-- after the first entries each is the next step of its thread
 abbrev pub AreNextSteps : Lines → History → History → Type 0
 AreNextSteps script first [] = ⊤
 AreNextSteps script first (entry ∷ done) = IsNextOfThread script (done ++ first) entry × AreNextSteps script first done

@@ -153,7 +153,7 @@ impl<'a> Follower<'a> {
         who == self.objects.makers[self.followed]
     }
 
-    /// Whether its caller may have this entry behind the declared objects.
+    /// Whether its caller may have this entry after the declared objects.
     fn is_of_caller(&self, entry: &Entry<Text>) -> bool
         ensures { IsTrue result ↔ IsOfCaller self.now.script (history_of self.now) entry.now entry.now.who }
     {
@@ -197,7 +197,7 @@ impl<'a> Follower<'a> {
         true
     }
 
-    /// The same of one thread.
+    /// Whether on that board this thread has steps left, and would wait at the next of them.
     fn waits(&self, board: &Board<Text, BoardLog<Text>>, thread: usize) -> bool
         requires thread { thread < 64 }
         requires board { board.now.history ≡ history_of self.now }
@@ -263,7 +263,7 @@ impl<'a> Follower<'a> {
         }
     }
 
-    /// Goes on behind the next entry of the journal, whether it is the script's or not.
+    /// Goes on after the next entry of the journal, whether it is the script's or not.
     pub fn follow(&mut self)
         requires { self.old.followed < length self.old.journal }
         ensures { self.new ≡ with_next self.old }

@@ -18,7 +18,7 @@ use cml_board::{Call, Entry, Name, Reply, Text, Who};
 use cml_grammar::Named;
 use std::alloc::{AllocError, Global};
 
-/// Writes the report of a script: a line for each entry behind the declared objects, in the journal's order, a line for each
+/// Writes the report of a script: a line for each entry after the declared objects, in the journal's order, a line for each
 /// object, and the end. The board has the journal, and the tally what went by lanes and feeds.
 pub(crate) fn report(alloc: Global, ran: &Ran<'_, '_>) -> Result<String, AllocError>
     requires own { IsOfScript ran.now.plan.now ran.now.board.now.history }
@@ -35,7 +35,7 @@ pub(crate) fn report(alloc: Global, ran: &Ran<'_, '_>) -> Result<String, AllocEr
     Ok(report)
 }
 
-/// Follows a script's journal, and adds a line for each entry behind the declared objects.
+/// Follows a script's journal, and adds a line for each entry after the declared objects.
 fn write_entries(
     report: &mut String,
     follower: &mut Follower<'_>,

@@ -193,7 +193,7 @@ fn settle_script<Led: Ledger + Send + Sync, R: Threads + Wait + Sync, G: Gate + 
     }
 }
 
-/// How many entries there are if not all answers are accounted for: what is not lawful comes behind them.
+/// How many entries there are if not all answers are accounted for: what is not lawful comes after them.
 fn entries_of<Led: Ledger>(switchboard: Switchboard<Text, BoardLog<Text>, Led>) -> usize {
     switchboard.into_hall().board().journal().len()
 }

@@ -67,7 +67,7 @@ impl<'a> Snapshot<'a> {
         self.follower.script()
     }
 
-    /// How many lines the first part has: how many entries are behind those of the declared objects.
+    /// How many lines the first part has: how many entries are after those of the declared objects.
     pub fn performed(&self) -> usize
         ensures { result ≡ performed_count self.now.script self.now.history }
     {

@@ -24,7 +24,7 @@ pub record Comes (limit : ℕ) (script report : List ℕ) (end : SeryugoEnd) : T
   pub line : end.line ≡ line_of ending
   pub length : end.length ≡ length report
 
--- the report is at the buffer's front, and what is behind it is as it was
+-- the report is at the buffer's front, and what is after it is as it was
 abbrev pub Fills : ℕ → List ℕ → List ℕ → List ℕ → SeryugoEnd → Type 0
 Fills limit script old new end =
     (report : List ℕ) × Comes limit script report end × (length report ≤ length old) × (new ≡ report ++ drop (length report) old)

@@ -8,7 +8,7 @@ use Rattle.cml_sums.specs.declared.sum.Sum.{Sum}
 abbrev pub sum_of : List ℕ → Sum
 sum_of text = record { 0 = sha256 text }
 
--- How far a text is summed: how many bytes it has, modulo 2 ^ 64, the hash value behind its whole blocks, and the bytes left.
+-- How far a text is summed: how many bytes it has, modulo 2 ^ 64, the hash value after its whole blocks, and the bytes left.
 pub record Summed : Type 0 where
   pub count : ℕ
   pub value : List ℕ

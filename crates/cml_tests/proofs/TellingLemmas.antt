@@ -1,4 +1,4 @@
--- The newest entries of a history, so many.
+-- The newest entries of a history, as many as are asked for.
 use Rattle.std.proofs.Common.{ℕ, take, sym}
 use Rattle.std.specs.Prelude.{drop}
 use Rattle.std.proofs.lemmas.List.{take-append-drop}

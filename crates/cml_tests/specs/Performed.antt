@@ -6,7 +6,7 @@ use Rattle.cml_grammar.specs.{Lines}
 use Rattle.cml_script.specs.{Stop, Made, Declares, Works}
 
 -- the declared objects up to one that was refused were made; or all of them were made, and then the first thread's steps
--- behind just these
+-- after just these
 abbrev pub IsPerformed : Lines → Result (Made × Result Stop AllocError) (Made × Refusal) → Type 0
 IsPerformed script (Err undeclared) = Declares script undeclared.0 (Err undeclared.1)
 IsPerformed script (Ok performed) = (declared : Made) × Declares script declared (Ok tt)

@@ -54,7 +54,7 @@ module _ {M : Type 0} where
     pub enough : whole ≡ 2 ^ 63
     pub own_parts : 0 < parts
 
-  -- the room was made, by a call on a lane or a feed, of one that had so many entries, each of which was counted
+  -- the room was made, by a call on a lane or a feed, of one that had this many entries, each of which was counted
   pub record WasCounted (entries : ℕ) (new : room.RoomShown M) (book own parts whole : ℕ) : Type 0 where
     pub before : room.RoomShown M
     pub had : entries ≡ entries_in before.board.history

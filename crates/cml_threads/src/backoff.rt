@@ -130,7 +130,7 @@ pub fn pause_for_lock(look: u32) {
     pause(look, LOCK_SPINS, LOCK_PAUSES);
 }
 
-/// After one of so many looks a thread spins: for these pauses, and each time for twice as many. After each later one it yields.
+/// After each of this many looks a thread spins: for these pauses, and each time for twice as many. After each later one it yields.
 fn pause(look: u32, spins: u32, pauses: u32) {
     if look >= spins {
         return thread::yield_now();

@@ -75,7 +75,7 @@ impl<M: Message, L: MessageLog<M>, Led: Ledger> Locked<M, L, Led> {
         }
     }
 
-    /// Adds the parker of the next seat, where so many were made. The thread has the lock.
+    /// Adds the parker of the next seat, where this many were made. The thread has the lock.
     pub fn add_parker<R: Wait>(&self, rt: &R, seats: usize) -> Result<(), AllocError> {
         self.parkers.add(rt, seats)
     }
@@ -95,7 +95,7 @@ impl<M: Message, L: MessageLog<M>, Led: Ledger> Locked<M, L, Led> {
         Some(self.parkers.unpark(due, due))
     }
 
-    /// The same after a seat's call, whose thread waits next, maybe for what the woken one does.
+    /// Does what `let_go` does, after a seat's call whose thread waits next, maybe for what the woken one does.
     pub fn let_go_by(&self, turn: Turn<'_, M, L, Led>, seat: u64) -> Option<Unparked>
         ensures { UnparksNext turn.entry result }
     {

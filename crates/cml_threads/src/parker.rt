@@ -124,7 +124,7 @@ impl Parkers {
         })
     }
 
-    /// Sees that the seat of the next number has a parker, where so many seats were made. One thread at a time may call it.
+    /// Sees that the seat of the next number has a parker, where this many seats were made. One thread at a time may call it.
     pub fn add<R: Wait>(&self, rt: &R, seats: usize) -> Result<(), AllocError> {
         if self.parkers.count() > seats.saturating_sub(self.first) {
             return Ok(());

@@ -96,7 +96,7 @@ impl<Led: Ledger> Seat<Led> {
 }
 
 impl<Led: Ledger> Left<Led> {
-    /// That of so many seats, which had these answers together.
+    /// That of this many seats, which had these answers together.
     pub(crate) fn of_many(seats: u64, answers: u64, share: Share<Led>) -> Left<Led>
         requires parts { share.parts ≡ seats }
         requires amount { share.amount ≡ answers }

@@ -247,7 +247,7 @@ impl<M: Message, L: MessageLog<M>, Led: Ledger> Switchboard<M, L, Led> {
         outcome
     }
 
-    /// The same for a parked seat.
+    /// Makes the call of a parked seat again, as `ask` makes one.
     fn ask_again<R: Wait>(&self, rt: &R, seat: &mut Seat<Led>, call: Call<M>) -> Outcome<M>
         ensures { Tells seat.old seat.new call result }
     {

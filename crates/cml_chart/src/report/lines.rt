@@ -11,7 +11,7 @@ use cml_calls::{Ask, Give, ReplyKind};
 use cml_grammar::{Verb, is_name, number_of};
 use cml_messages::is_text;
 
-/// Finds the line that these words are behind `count` lines of the first part: the last line, a line of the second part, or
+/// Finds the line that these words are after `count` lines of the first part: the last line, a line of the second part, or
 /// a line of the first, in this order.
 pub(crate) fn line_by<'a>(line: &'a str, words: &[&'a str], count: usize) -> Option<Line<'a>>
     ensures { option_map shown_line result ≡ line_by count line.now (texts words.now) }
@@ -50,7 +50,7 @@ fn actor_of<'a, 'w>(words: &'w [&'a str]) -> Option<(Actor<'a>, &'w [&'a str])>
     }
 }
 
-/// The act that a step's words are, and the reply behind them.
+/// The act that a step's words are, and the reply after them.
 fn act_by<'a>(actor: Actor<'a>, line: &'a str, words: &[&'a str]) -> Option<Act<'a>>
     ensures { option_map shown_act result ≡ deed_by (shown_actor actor.entry) line.now (texts words.now) }
 {
@@ -189,7 +189,7 @@ fn is_closing(kind: &str, closing: &[&str]) -> bool
     is_made || fits(&["not", "made"], closing)
 }
 
-/// The end of the run by the last line, behind `count` lines of the first part.
+/// The end of the run by the last line, after `count` lines of the first part.
 #[tactic(auto, unfolding(crate::specs::Lines::ended_of))]
 fn end_of<'a>(line: &'a str, words: &[&'a str], count: usize) -> Option<End<'a>>
     ensures { option_map shown_end result ≡ ended_of count line.now (texts words.now) }

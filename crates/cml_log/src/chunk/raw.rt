@@ -1,6 +1,6 @@
 //! The memory of a log's chunks. This file has every pointer of the crate.
 //!
-//! A block is made and given back by its right. While it lies among the blocks its right lies there too.
+//! A block is allocated and freed by its right. While it lies among the blocks its right lies there too.
 ghost use Rattle.std.specs.Prelude.{◌≡◌, ℕ, ◌+◌, List, Option, [], ◌∷◌, ◌++◌, true, Some, None, length, slice_set, IfOk, OnErr};
 ghost use base.Fml.{ftrue};
 ghost use denote.RawPtr.{Ptr};

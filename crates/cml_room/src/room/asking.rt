@@ -100,7 +100,7 @@ impl<M: Message, L: MessageLog<M>> Room<M, L> {
         ensures turns { Turns seat (AskOf seat) (news_by result) self.old self.new }
     {
         let news = news_in(&call);
-        // Each arm makes its outcome anew, which the prover follows with less help than a whole that is kept and returned.
+        // Each arm makes a new outcome, which the prover follows with less help than a whole that is kept and returned.
         match self.floor.apply(seat, call) {
             Outcome::Answered(answer) => {
                 finish_turn(&self.floor, &mut self.seats, seat, Ended::Answered(news));
@@ -120,7 +120,7 @@ impl<M: Message, L: MessageLog<M>> Room<M, L> {
         }
     }
 
-    /// The same, where the journal keeps the call.
+    /// Makes the call of a seat that may make it. The journal keeps the call, and the reply comes alone.
     fn call_turn(&mut self, seat: u64, call: Call<M>) -> Response<M>
         requires { MayAsk self.old seat ⊎ MayAskAgain self.old seat call }
         ensures asks { let outcome = outcome_of (entries_in self.old.board.history) call result in

@@ -89,7 +89,7 @@ fn is_in_order(
     true
 }
 
-/// From which step on the thread sends by lanes to the object what comes behind this entry, if the entry may come.
+/// From which step on the thread sends by lanes to the object what comes after this entry, if the entry may come.
 fn behind_entry(
     plan: &Plan<'_>,
     lanes: &[u64],
@@ -108,7 +108,7 @@ fn behind_entry(
     behind_sent(plan, seat, at, from, &entry.call)
 }
 
-/// The position behind the next step that the thread sends by a lane to the object, if this is the step's call.
+/// The position after the next step that the thread sends by a lane to the object, if this is the step's call.
 fn behind_sent(
     plan: &Plan<'_>,
     seat: u64,

@@ -194,7 +194,7 @@ fn start<P: Passage + Send, Led: Ledger + Send + Sync, R: Threads + Wait + Sync,
     ))
 }
 
-/// So many flags, each of which says that a thread was started.
+/// This many flags, each of which says that a thread was started.
 fn flags(alloc: Global, count: usize) -> Result<Vec<AtomicBool>, AllocError>
     ensures { IfOk result (λ flags. vec_len flags ≡ count) }
 {

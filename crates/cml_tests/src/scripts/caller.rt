@@ -40,7 +40,7 @@ Feed(0) Recv(Name(2)) Got(\"8\")
 Feed(0) Recv(Name(2)) Got(\"9\")
 ";
 
-/// The same with words: a thread with a lane and a variable that holds a message from the beginning.
+/// The scene with words: a thread with a lane and a variable that holds a message from the beginning.
 const WORDS: &str = "cml 2\nmailbox m\nmvar v 05\nthread A\nlane A m 1\n\
     A send m =\nA send m done\nA swap v A\nA recv m\nA get v\n";
 

@@ -41,7 +41,7 @@ pub enum Crew {
     Callers,
     /// Four receive from one mailbox what four others send.
     Crowd,
-    /// The same, but the journal is full again and again: a call that fails with `JournalFull` is made again after a cut.
+    /// `Crowd`, while the journal is full again and again: a call that fails with `JournalFull` is made again after a cut.
     Full,
     /// Seven wait, and one sends elsewhere until the journal is full: the calls of all seven fail with `JournalFull`.
     Refused,
@@ -112,7 +112,7 @@ impl Crew {
         !matches!(self, Crew::Stalled | Crew::Senders)
     }
 
-    /// Whether a call that is refused because the journal is full is made again, behind a cut.
+    /// Whether a call that is refused because the journal is full is made again, after a cut.
     fn cuts(self) -> bool {
         matches!(self, Crew::Full)
     }

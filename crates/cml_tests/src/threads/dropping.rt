@@ -1,4 +1,4 @@
-//! When a log drops its items: as soon as the chunk of the least place lies behind them, and the rest with the log.
+//! When a log drops its items: as soon as the chunk of the least place lies after them, and the rest with the log.
 use cml_log::{ChunkLog, Key, MessageLog, PlainLog};
 use std::alloc::{AllocError, Global};
 use std::sync::atomic::AtomicU64;

@@ -14,7 +14,7 @@ const FIRST: Name = Name(0);
 
 type Numbers = Floor<u64, BoardLog<u64>>;
 
-/// How many messages each lane took, why its end did not close it and how many lanes are open then, why it doesn't behind its
+/// How many messages each lane took, why its end did not close it and how many lanes are open then, why it doesn't after its
 /// abandonment, how many lanes are open in the end, and the journal.
 pub const TOLD: &str = "2
 0

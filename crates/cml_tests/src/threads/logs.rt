@@ -10,7 +10,7 @@ enum Call {
     Open,
     Copy(usize),
     Close(usize),
-    /// A cursor, past so many items.
+    /// A cursor, past this many items.
     Advance(usize, u64),
 }
 
@@ -19,7 +19,7 @@ use Call::{Advance, Close, Copy, Open, Push};
 /// The first kept place, the next place, and how many chunks and open cursors there are.
 type Shape = (u64, u64, u64, usize);
 
-/// Calls, with the log's shape behind each.
+/// Calls, with the log's shape after each.
 type Run = &'static [(Call, Shape)];
 
 /// Filled and passed; closed and copied; two cursors; and cursors with whole chunks between them.
@@ -105,7 +105,7 @@ fn agrees<L: MessageLog<u64>>(alloc: Global, runs: &[Run]) -> Result<bool, Alloc
     agrees_at_random::<L>(alloc)
 }
 
-/// Whether a new log has these shapes, and agrees with the list behind each call.
+/// Whether a new log has these shapes, and agrees with the list after each call.
 fn follows<L: MessageLog<u64>>(alloc: Global, run: Run) -> Result<bool, AllocError> {
     let mut twin = Twin::<L>::new(alloc)?;
     for (call, shape) in run.iter() {

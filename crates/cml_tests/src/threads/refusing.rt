@@ -6,7 +6,7 @@ use cml_board::Name;
 
 const MAILBOX: Name = Name(0);
 
-/// The last two behind the mailbox and one message, with which the journal is full.
+/// The last two after the mailbox and one message, with which the journal is full.
 pub const STEPS: &[Step] = &[
     Step::Reserve(2),
     Step::Form(Form::Recv(MAILBOX)),

@@ -1,4 +1,4 @@
-//! A switchboard that goes on from a journal: its new seats are numbered behind the old ones, and their threads wake each other.
+//! A switchboard that goes on from a journal: its new seats are numbered after the old ones, and their threads wake each other.
 ghost use Rattle.std.specs.Prelude.{◌≡◌, ◌^◌};
 
 use super::scene::{Numbers, alone, tell};

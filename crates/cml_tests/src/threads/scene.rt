@@ -31,7 +31,7 @@ pub enum Scene {
     Dropped(&'static [Step]),
 }
 
-/// Performs the scene on a switchboard whose journal takes so many entries, and returns its result.
+/// Performs the scene on a switchboard whose journal takes this many entries, and returns its result.
 pub fn performed<R: Threads + Wait + Sync>(
     rt: &R,
     alloc: Global,

@@ -27,12 +27,12 @@ pub enum Step {
     Cut,
     /// A cut that hands the journal over: how many entries.
     TakeJournal,
-    /// The same two while the lane or the feed is open.
+    /// `Cut` and `TakeJournal` while the lane or the feed is open.
     CutOpen,
     TakeJournalOpen,
-    /// A short journal of at most so many entries: how many it has.
+    /// A short journal of at most this many entries: how many it has.
     Compact(u64),
-    /// The same with a cut.
+    /// A short journal of at most this many entries, and a cut at the same moment: how many it has.
     CompactAndCut(u64),
     OpenLane(Name),
     Push(u64),

@@ -32,7 +32,7 @@ pub const CROWD: &str = seven_alike!(
     "(10000, true)\nCount { seats: 20003, rings: 0, total: 20003 }\nOk(Ok(()))\n"
 );
 
-/// The same. What was cut away can't be confirmed, but it was counted.
+/// What four sent was received by the four others. What was cut away can't be confirmed, but it was counted.
 pub const FULL: &str = "Ok(Made(Name(0)))
 Ok(Made(Name(1)))
 Ok(Made(Name(2)))

@@ -87,7 +87,7 @@ fn count<M: Message, Led: Ledger>(outcome: &Outcome<M>, seat: &mut Seat<Led>, bo
     }
 }
 
-/// The same for a call whose reply alone is returned.
+/// Counts an answer whose reply alone is returned, as `count` does.
 fn count_reply<M: Message, Led: Ledger>(
     response: &Response<M>,
     seat: &mut Seat<Led>,

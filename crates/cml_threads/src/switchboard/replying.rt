@@ -44,7 +44,7 @@ impl<M: Message, L: MessageLog<M>, Led: Ledger> Switchboard<M, L, Led> {
         response
     }
 
-    /// The same for a parked seat.
+    /// Makes the call of a parked seat again, as `call_once` makes one.
     fn call_again<R: Wait>(&self, rt: &R, seat: &mut Seat<Led>, call: Call<M>) -> Response<M>
         ensures { Responds seat.old seat.new call result }
     {

@@ -1,4 +1,4 @@
-//! A script's first thread, behind the declared objects.
+//! A script's first thread, after the declared objects.
 ghost use Rattle.std.specs.Prelude.{◌≡◌, ◌≤◌, ◌^◌, Ok, IfOk};
 ghost use Rattle.cml_script.specs.{Declares};
 ghost use Rattle.cml_tests.specs.{IsPerformed};

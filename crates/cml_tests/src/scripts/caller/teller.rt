@@ -133,7 +133,7 @@ impl Caller for Teller {
     }
 
     fn open_feed(&mut self, channel: Name, capacity: usize) -> Result<Name, Refusal> {
-        // A seat tells a feed by how many it opened before, so none is opened behind another seat's.
+        // A seat tells a feed by how many it opened before, so none is opened after another seat's.
         if self.rings.feeds() != self.opened.len() {
             return Err(self.refuse(Refusal::Busy));
         }
