@@ -1,14 +1,14 @@
 #!/bin/sh
 # Everything. `rt ci` proves every crate, has the prover refuse the wrong edits in must-fail, and runs tests and programs; it
 # skips what it has passed on this machine before. Then the built programs are tried from outside, several steps at once: the
-# tables of calls, also with the journal cut behind each line; the guide's code against the sources; each request for memory
+# tables of calls, also with the journal cut after each line; the guide's code against the sources; each request for memory
 # refused in turn; logs and journals that are cut, which are not to grow; threads that wait for each other; scripts, faults and
 # charts; journals as text, also compacted; simulated queues; the page of figures, without measuring any; and the libraries for C,
 # which are built, installed, and used from C, Rust and Python, also by programs that are killed and go on. The last line is
 # `N passed, M failed`.
 cd "$(dirname "$0")/.." || exit 1
 
-# The steps behind `rt ci`, those that take longest first.
+# The steps after `rt ci`, those that take longest first.
 steps='libraries refused program waiting memory compact cuts calls guide chart journals queueing speed'
 
 step() {

@@ -72,8 +72,8 @@ faults() {
     fault "two spaces" "A send m  5: done / mailbox m: sent 1 got 0 waits 1 / end: done 1" "line 1: no line of a report"
     fault "an object's line with too few numbers" "mailbox m: sent 1 got 1 / end: done 0" "line 1: no line of a report"
     fault "another count" "A send m 5: done / mailbox m: sent 1 got 0 waits 1 / end: done 2" "line 3: no line of a report"
-    fault "an act behind an object" "mailbox m: sent 1 got 0 waits 1 / A send m 5: done / end: done 1" "line 2: out of place"
-    fault "a line behind the end" "end: done 0 / end: done 0" "line 2: out of place"
+    fault "an act after an object" "mailbox m: sent 1 got 0 waits 1 / A send m 5: done / end: done 1" "line 2: out of place"
+    fault "a line after the end" "end: done 0 / end: done 0" "line 2: out of place"
     fault "an object that the second part lacks" "A send m 5: done / A send n 5: done / mailbox m: sent 1 got 0 waits 1 / end: done 2" "line 2: unknown name"
     fault "a thread in an object's place" "A send m 5: done / A send A 5: done / mailbox m: sent 1 got 0 waits 1 / end: done 2" "line 2: unknown name"
     fault "two objects of one name" "mailbox m: sent 0 got 0 waits 0 / ivar m: empty / end: done 0" "line 2: name taken"
@@ -187,7 +187,7 @@ words() {
     run --help < /dev/null
     expect "help" 0 some none
     run --text --from 2 --to 3 < examples/hello_mailbox.report
-    { sed -n '1,2p;4,5p' examples/hello_mailbox.chart; echo "2 of 5 rows, behind row 1"; sed -n '8,$p' examples/hello_mailbox.chart; } > "$work/want"
+    { sed -n '1,2p;4,5p' examples/hello_mailbox.chart; echo "2 of 5 rows, after row 1"; sed -n '8,$p' examples/hello_mailbox.chart; } > "$work/want"
     if cmp -s "$work/out" "$work/want"; then pass; else fail "from the second row to the third"; fi
     run --text --from 7 < examples/hello_mailbox.report
     expect "rows that are not there" 0 some none
@@ -205,7 +205,7 @@ long_report() {
 sizes() {
     long_report 60000 > "$work/in"
     run --text < "$work/in"
-    if [ "$status" = 0 ] && [ "$(grep -c ' send ' "$work/out")" = 500 ] && grep -qx "500 of 60000 rows, behind row 0" "$work/out"; then
+    if [ "$status" = 0 ] && [ "$(grep -c ' send ' "$work/out")" = 500 ] && grep -qx "500 of 60000 rows, after row 0" "$work/out"; then
         pass
     else
         fail "500 rows of a long report"

@@ -1,11 +1,11 @@
 #!/bin/sh
 # sh tests/cuts.sh PROGRAM: a cut of the journal changes no reply, and nothing that readers tell of objects.
 #
-# The built program performs the tables of calls with a cut behind each line, once with the entries dropped (`cut`) and
+# The built program performs the tables of calls with a cut after each line, once with the entries dropped (`cut`) and
 # once with them taken (`take`). While a lane or a feed is open, these make no cut. By `cut_open` and `take_open` it is made
 # then too. The output must be the table, except what it says of the journal itself:
 #
-#   journal full           behind a cut that call is answered: from there on the case's lines are not compared, and on a
+#   journal full           after a cut that call is answered: from there on the case's lines are not compared, and on a
 #                          board none of them tells it
 #   journal, took          a board has no entry left, and by the open ways nothing has. By `cut` and `take` `journal` and an
 #                          open `took` are not compared on a floor or a hall, since no table tells what was kept by an open
@@ -14,14 +14,14 @@
 #   cut_at                 not compared
 #   noted, check, pieces   by `cut` and `cut_open` not compared, since the entries are gone. By the others those that were
 #                          handed over are looked into too. The cuts of the table itself find nothing left to drop, but
-#                          for a `cut_open` of the table by `take`: behind that they are not compared
+#                          for a `cut_open` of the table by `take`: after that they are not compared
 #
 # By `take` and `take_open` each case ends with a line `pieces`: all that was handed over, fed to a checker piece by piece, is
 # lawful.
 # The table of how many messages live is left out, since each cut drops some, or keeps some longer.
 #
 # Then tables of random calls (tests/models/some_calls.awk) are performed with the cuts that are strewn in, without them, and with
-# a cut behind each line: the outcomes of all other lines must be the same.
+# a cut after each line: the outcomes of all other lines must be the same.
 # The last line is `N passed, M failed`.
 . "$(dirname "$0")/lib/cases.sh"
 program=$(absolute "$1")

@@ -98,9 +98,9 @@ odd_texts() {
 # The same of version 2.
 odd_messages() {
     written 'version 2 without line end' 'cml 2' 'line 1: no line end'
-    written 'a space behind version 2' 'cml 2 \n' 'line 1: bad header'
+    written 'a space after version 2' 'cml 2 \n' 'line 1: bad header'
     written 'a space before version 2' ' cml 2\n' 'line 1: bad header'
-    written 'a carriage return behind version 2' 'cml 2\r\n' 'line 1: bad bytes'
+    written 'a carriage return after version 2' 'cml 2\r\n' 'line 1: bad bytes'
     steps='cml 2\nmailbox m\nthread A\nA recv m\n'
     written 'a message that parts lines in a table' "${steps}A send m /\n" none
     written 'a message that parts cells in a table' "${steps}A send m |\n" none
@@ -113,13 +113,13 @@ odd_messages() {
     written 'a message with a byte of 0 in it' "${steps}A send m a\000b\n" 'line 5: bad bytes'
     written 'a message with a tab in it' "${steps}A send m a\tb\n" 'line 5: bad bytes'
     written 'a message with a space in it' "${steps}A send m a b\n" 'line 5: word count'
-    written 'a space behind a message' "${steps}A send m a \n" 'line 5: bad words'
+    written 'a space after a message' "${steps}A send m a \n" 'line 5: bad words'
     written 'no message, but the space before it' "${steps}A send m \n" 'line 5: bad words'
     written 'a message without line end' "${steps}A send m a" 'line 5: no line end'
     long=$(awk 'BEGIN { while (n++ < 65) printf "x" }')
-    written 'a bad byte behind 65 bytes' "${steps}A send m $long\177\n" 'line 5: bad bytes'
+    written 'a bad byte after 65 bytes' "${steps}A send m $long\177\n" 'line 5: bad bytes'
     written '65 bytes, and no line end' "${steps}A send m $long" 'line 5: no line end'
-    written '65 bytes, and a space behind them' "${steps}A send m $long \n" 'line 5: bad words'
+    written '65 bytes, and a space after them' "${steps}A send m $long \n" 'line 5: bad words'
 }
 
 # Each byte as a message, and messages of each length, in both versions.
@@ -357,7 +357,7 @@ interrupted_reads() {
     cp "$work/out" "$work/report"
     run_so replay READ_MOST=1 READ_AGAIN=2
     expect 'one byte a read, and two interruptions before each' 0 "$(cat "$work/report")" none
-    so_many_reads 'interruptions without end behind three bytes' 4 'cml: read failed' '2097152 reads gave 3 bytes' \
+    so_many_reads 'interruptions without end after three bytes' 4 'cml: read failed' '2097152 reads gave 3 bytes' \
         READ_MOST=1 READ_FAILS=4 READ_REST=1 READ_ERROR=4
     so_many_reads 'nothing but interruptions' 4 'cml: read failed' '2097152 reads gave 0 bytes' \
         READ_FAILS=1 READ_REST=1 READ_ERROR=4
@@ -431,7 +431,7 @@ streams() {
     short_writes
 }
 
-# Texts as printf writes them, each behind its limit.
+# Texts as printf writes them, each after its limit.
 octal() { awk '{ printf "%s ", $1; for (i = 2; i <= NF; i++) printf "\\%03o", $i; print "" }'; }
 
 # agree CASE: for each text of $work/texts, the program and the plain program do the same.

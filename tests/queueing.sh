@@ -1,5 +1,5 @@
 #!/bin/sh
-# The simulator from outside: `sh tests/queueing.sh QUEUEING CML CHART`, or with `few` behind these, which simulates fewer customers.
+# The simulator from outside: `sh tests/queueing.sh QUEUEING CML CHART`, or with `few` after these, which simulates fewer customers.
 # QUEUEING, CML and CHART are the programs cml_queueing, cml and cml_chart. The mean wait of three loads has to be within 2 percent
 # of what the formula of Erlang C gives, which awk computes here. Then the memory that a long run takes, the journal, which
 # `cml check` has to find lawful, its customers in their order, the report and its chart, wrong words, and streams that fail.
@@ -177,7 +177,7 @@ words() {
     refused 'a load of 0' "cml_queueing: --load $decimal" --load 0.0
     refused 'a load that is no number' "cml_queueing: --load $decimal" --load high
     refused 'a load with too many places' "cml_queueing: --load $decimal" --load 0.0000001
-    refused 'a load without a number behind its point' "cml_queueing: --load $decimal" --load 0.
+    refused 'a load without a number after its point' "cml_queueing: --load $decimal" --load 0.
     refused 'a load beyond 64 bits' "cml_queueing: --load $decimal" --load 18446744073710
     refused 'arrivals that are no number' "cml_queueing: --arrivals $decimal" --arrivals x --service 1
     refused 'a service that is no number' "cml_queueing: --service $decimal" --arrivals 1 --service 1e3

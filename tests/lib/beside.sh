@@ -1,5 +1,5 @@
 # What tests/quick.sh and tests/all.sh share: their steps run side by side, as many at once as there are processors. A script
-# reads this behind its function `step`, which does the step of a name. With `--step WORK NAME` the script does one step and
+# reads this after its function `step`, which does the step of a name. With `--step WORK NAME` the script does one step and
 # ends here. Otherwise `work` names a new folder for what the steps tell.
 
 # beside SCRIPT STEP..: has SCRIPT do these steps, and sums what they count. The last line is `N passed, M failed`.

@@ -65,7 +65,7 @@ judge_table() {
                     wrong = line ", where the table has " wanted
             }
             close(file)
-            if (wrong == "" && $2 != (seen == lines ? 0 : 1)) wrong = "status " $2 " behind line " seen
+            if (wrong == "" && $2 != (seen == lines ? 0 : 1)) wrong = "status " $2 " after line " seen
             if (wrong == "") passed++
             else { failed++; print "failed: " ARGV[1] ", " kind ", " how " " $1 ": " wrong }
         }
@@ -73,7 +73,7 @@ judge_table() {
     ' "$input" "$room/statuses"
 }
 
-# in_order_or_short REPORT: whether some order of the threads gives it, also where one pump was refused memory behind its
+# in_order_or_short REPORT: whether some order of the threads gives it, also where one pump was refused memory after its
 # first message: it answers how many it moved, and the rest is owed.
 in_order_or_short() {
     for short in $(seq 0 "$(grep -c '^feed [0-9]* recv ' "$1")"); do

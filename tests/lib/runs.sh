@@ -48,7 +48,7 @@ impossible() {
     fi
 }
 
-# lawful_run SCRIPT: the journal that `run` writes of it is lawful, and ends behind its last line.
+# lawful_run SCRIPT: the journal that `run` writes of it is lawful, and ends after its last line.
 lawful_run() {
     run run --journal < "$1"
     cp "$work/out" "$work/journal"
@@ -177,7 +177,7 @@ run_faults() {
     expect 'nothing, by run' 2 none 'script: line 1: bad header'
     script 'cml 1 / mailbox m / thread A / A send m 5 / A jump m' > "$work/in"
     run run < "$work/in"
-    expect 'a fault behind a good step, by run' 2 none 'script: line 5: unknown step'
+    expect 'a fault after a good step, by run' 2 none 'script: line 5: unknown step'
     note 1048577 > "$work/in"
     run run < "$work/in"
     expect 'a byte too many, by run' 2 none 'script: too long'

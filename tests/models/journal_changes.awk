@@ -1,6 +1,6 @@
 # Changed journals: `awk -v to=FOLDER/NAME -f tests/models/calls.awk -f tests/models/journal_changes.awk JOURNAL` writes a file NAME.KIND.NUMBER for each text that is
 # nearly this journal. Each byte becomes another, and in a short journal two others; each entry has each other reply, and some other
-# calls; each line is left out, doubled, or exchanged with the next; so is each piece; the text ends behind each byte. With
+# calls; each line is left out, doubled, or exchanged with the next; so is each piece; the text ends after each byte. With
 # `-v step=7` bytes and ends are every seventh, and entries every fifth.
 
 BEGIN {
@@ -30,7 +30,7 @@ END {
     if (pieces > 1) rearrange("piece", pieces)
 }
 
-# One of the bytes that mean something, another at each place; or the byte before it or behind it in the table of bytes.
+# One of the bytes that mean something, another at each place; or the byte before it or after it in the table of bytes.
 function change_byte(at,    old, new, is_short) {
     old = substr(text, at, 1)
     new = character[other[at % others + 1]]

@@ -1,5 +1,5 @@
 # From the bytes of a script, as numbers: every text that differs from it in one byte, where the byte becomes one of a
-# dozen that mean something to a script, or nothing. Each is a line, behind the limit that it is to be replayed under.
+# dozen that mean something to a script, or nothing. Each is a line, after the limit that it is to be replayed under.
 
 BEGIN { others = split("0 10 13 32 35 48 57 65 95 122 127 128", other, " ") }
 

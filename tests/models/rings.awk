@@ -1,6 +1,6 @@
 # What lanes and feeds do in a run, for tests/models/interleaved.awk.
 #
-# A lane's messages come in the order in which its thread sent them; behind the thread's own steps before them, and
+# A lane's messages come in the order in which its thread sent them; after the thread's own steps before them, and
 # before its next own step that may wait. No more of them are out of the journal than the lane has room for. A thread has
 # one lane at a time to an object, and one that it opens later has a greater number. Two threads must not send the same
 # message to one object by lanes: of the two that could have, the first in text order is taken.
@@ -119,7 +119,7 @@ function to_feed(line, limit,    word, name, why) {
     return ""
 }
 
-# A pump is at the first poll behind the last own step of its thread, and behind those that take what was pumped before.
+# A pump is at the first poll after the last own step of its thread, and after those that take what was pumped before.
 function begin_pump(name,    thread, i, own) {
     thread = owner[name]
     i = next_poll[name] == 0 ? 1 : next_poll[name]
@@ -136,7 +136,7 @@ function begin_pump(name,    thread, i, own) {
 function pump_over(limit,    name) {
     name = pumping
     pumping = ""
-    if (name != "" && owed(name) > 0 && pumped < room[name] && entries < limit) return "but more of " name " was pumped behind line " lines_out
+    if (name != "" && owed(name) > 0 && pumped < room[name] && entries < limit) return "but more of " name " was pumped after line " lines_out
     return ""
 }
 

@@ -1,7 +1,7 @@
 # Scripts of all lines, chosen by a sequence of numbers that is the same each time. Most have no fault; in some a word is
 # another's, so that names are unknown, of the wrong kind or another thread's. One in eight has lanes and feeds (or one
 # in another number, `-v one_in=N`; none for 0). One in two is of version 2, with texts that could be taken for
-# something else. Each is a line of bytes, as numbers, behind the limit that it is to be replayed under.
+# something else. Each is a line of bytes, as numbers, after the limit that it is to be replayed under.
 
 BEGIN {
     for (byte = 32; byte <= 126; byte++) { character[byte] = sprintf("%c", byte); number[character[byte]] = byte }

@@ -14,11 +14,11 @@ const LONG_ABOUT: &str =
 
 The chart has a column for each thread, lane, feed and object, and a row for each line of the
 report's first part: an arrow between the column of who did it and that of the object. An arrow is
-dashed where a call found nothing. Under each object stands how it was left, and at the foot how the
+dashed if a call found nothing. Under each object is how it was left, and at the foot how the
 run ended. A report of cml run or cml replay is such a report.
 
-With --script the chart has a column for each thread of the script, and under each that has steps
-left the step that it stands at: the one behind the last that the report tells of.
+With --script the chart has a column for each thread of the script. Under each thread that has steps
+left is its next step: the one after the last that the report has.
 
 It is drawn as SVG, or with --text as lines of text.";
 
@@ -131,5 +131,5 @@ fn script<'a>(alloc: Global) -> Arg<'a>
     Arg::new(alloc, "script")
         .long("script")
         .value_name("FILE")
-        .help("The script that the report is of: tells the step at which each thread stands")
+        .help("The script that the report is of: shows the next step of each thread")
 }

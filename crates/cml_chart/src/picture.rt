@@ -98,5 +98,5 @@ pub(crate) fn push_note(out: &mut String, picture: &Picture<'_, '_>, end: &str) 
     if drawn >= all {
         return Ok(());
     }
-    write!(out, "{drawn} of {all} rows, behind row {before}{end}")
+    write!(out, "{drawn} of {all} rows, after row {before}{end}")
 }
