@@ -1,6 +1,6 @@
 #!/bin/sh
-# Installs the library for C and all that calls C: `sh bindings/install.sh PREFIX`. It writes PREFIX/include/seryugo.h, and in
-# PREFIX/lib the static library, the shared library, and pkgconfig/seryugo.pc. A program is then built by
+# Installs the library for C and all that calls C: `sh bindings/install.sh PREFIX`. It writes PREFIX/include/seryugo.h and
+# PREFIX/include/seryugo_switchboard.h, and in PREFIX/lib the static library, the shared library, and pkgconfig/seryugo.pc. A program is then built by
 # `cc program.c $(pkg-config --cflags --libs seryugo)`, with PREFIX/lib/pkgconfig in PKG_CONFIG_PATH.
 #
 # It needs the archive that `(cd crates/cml_c && rt lib)` proves and writes. SERYUGO_ARCHIVE names another. If the archive of
@@ -109,6 +109,7 @@ library() {
 }
 
 library seryugo "$rooms" 'Mailboxes, channels and variables for threads, proved'
+put 644 include/seryugo_switchboard.h include
 if [ -n "$scripts" ]; then
     library seryugo_script "$scripts" 'Scripts of threads replayed, proved'
 else

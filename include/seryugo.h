@@ -1,6 +1,6 @@
 /*
- * Mailboxes, channels and variables for threads: the static library libcml_c.a. The messages of a room are 64-bit numbers, or
- * bytes.
+ * Mailboxes, channels and variables for threads: the library libseryugo. The messages of a room are 64-bit numbers, or bytes. For
+ * calls that block, include seryugo_switchboard.h. It begins with a program of fifteen lines.
  *
  * A room is a board of objects with a journal of every accepted call, and seats that make the calls. A thread sends on a lane
  * without the room's lock, and receives on a feed without it. docs/BINDINGS.md says how you link a program with the library, and
@@ -73,13 +73,46 @@ enum seryugo_code {
     SERYUGO_OUT_OF_BOUNDS = 16,
     /* A checked journal is unlawful. */
     SERYUGO_UNLAWFUL = 17,
-    /* The text of a journal has a fault, or begins behind a cut. */
+    /* The text of a journal has a fault, or begins after a cut. */
     SERYUGO_FAULT = 18,
     /* The text of a journal ends before its last piece does. */
     SERYUGO_TORN = 19,
     /* A line of a journal's text would have more than 1,114,112 bytes, which no reading takes. */
-    SERYUGO_TOO_LONG = 20
+    SERYUGO_TOO_LONG = 20,
+    /* The deadline has passed, and the call did nothing. Only the calls of seryugo_switchboard.h return it. */
+    SERYUGO_TIMED_OUT = 21
 };
+
+/* Returns a code in words, for an error message. The text is constant. */
+static inline const char *seryugo_code_text(uint32_t code)
+{
+    static const char *const texts[] = {
+        "done",
+        "nothing there",
+        "the variable was full",
+        "the port is closed",
+        "the seat is parked",
+        "the seat can't make this call",
+        "a lane or a feed is open",
+        "no such object, lane, feed or entry",
+        "the object can't take this call",
+        "the journal is full",
+        "stalled: no other seat can answer",
+        "no memory",
+        "fewer messages were seen than sent",
+        "the lane is full",
+        "the lane is still open",
+        "the handle takes no such call",
+        "an argument is out of bounds",
+        "the journal is unlawful",
+        "the journal's text has a fault",
+        "the journal's text is torn",
+        "a line would be too long",
+        "timed out",
+    };
+
+    return code < sizeof texts / sizeof *texts ? texts[code] : "unknown code";
+}
 
 /* A handle to a room, a lane, a feed, a checker, a reading or a journal that was taken. A call that opens it writes it, and
  * seryugo_close closes it. */
@@ -228,16 +261,8 @@ static inline const uint8_t *seryugo_bytes_at(const struct seryugo_bytes *messag
     return message->length > SERYUGO_IN_PLACE ? message->block : message->in_place;
 }
 
-/* What the library exports to free a message of more than 78 bytes. From C, call the next function. */
-void seryugo_bytes_release(struct seryugo_share owner);
-
 /* Frees a message that a call handed over. Call it once for each. The room needn't be open any more. */
-static inline void seryugo_bytes_free(struct seryugo_bytes message)
-{
-    if (message.length > SERYUGO_IN_PLACE) {
-        seryugo_bytes_release(message.owner);
-    }
-}
+static inline void seryugo_bytes_free(struct seryugo_bytes message);
 
 /* As seryugo_recv, seryugo_recv_poll, seryugo_get, seryugo_get_poll, seryugo_take and seryugo_take_poll. */
 uint32_t seryugo_bytes_recv(struct seryugo *room, uint64_t seat, uint64_t source, bool is_again, struct seryugo_bytes *message);
@@ -247,54 +272,21 @@ uint32_t seryugo_bytes_get_poll(struct seryugo *room, uint64_t seat, uint64_t va
 uint32_t seryugo_bytes_take(struct seryugo *room, uint64_t seat, uint64_t variable, bool is_again, struct seryugo_bytes *message);
 uint32_t seryugo_bytes_take_poll(struct seryugo *room, uint64_t seat, uint64_t variable, struct seryugo_bytes *message);
 
-/* What the library exports of the calls that send. They don't test the pointer: unless the length is 0, it has to be good. From
- * C, call the functions without `_from` below, which test it. */
-uint32_t seryugo_bytes_send_from(struct seryugo *room, uint64_t seat, uint64_t mailbox, const void *at, size_t length);
-uint32_t seryugo_bytes_multicast_from(struct seryugo *room, uint64_t seat, uint64_t channel, const void *at, size_t length);
-uint32_t seryugo_bytes_mvar_init_from(struct seryugo *room, uint64_t seat, const void *at, size_t length, uint64_t *variable);
-uint32_t seryugo_bytes_put_from(struct seryugo *room, uint64_t seat, uint64_t variable, const void *at, size_t length);
-uint32_t seryugo_bytes_swap_from(struct seryugo *room, uint64_t seat, uint64_t variable, const void *at, size_t length, bool is_again,
-                                 struct seryugo_bytes *held);
-
-/* Whether a pointer is null though it has a length. */
-static inline bool seryugo_is_astray(const void *at, size_t length)
-{
-    return at == NULL && length != 0;
-}
-
 /* As seryugo_send. */
-static inline uint32_t seryugo_bytes_send(struct seryugo *room, uint64_t seat, uint64_t mailbox, const void *at, size_t length)
-{
-    return seryugo_is_astray(at, length) ? (uint32_t)SERYUGO_OUT_OF_BOUNDS : seryugo_bytes_send_from(room, seat, mailbox, at, length);
-}
+static inline uint32_t seryugo_bytes_send(struct seryugo *room, uint64_t seat, uint64_t mailbox, const void *at, size_t length);
 
 /* As seryugo_multicast. */
-static inline uint32_t seryugo_bytes_multicast(struct seryugo *room, uint64_t seat, uint64_t channel, const void *at, size_t length)
-{
-    return seryugo_is_astray(at, length) ? (uint32_t)SERYUGO_OUT_OF_BOUNDS
-                                         : seryugo_bytes_multicast_from(room, seat, channel, at, length);
-}
+static inline uint32_t seryugo_bytes_multicast(struct seryugo *room, uint64_t seat, uint64_t channel, const void *at, size_t length);
 
 /* As seryugo_mvar_init. */
-static inline uint32_t seryugo_bytes_mvar_init(struct seryugo *room, uint64_t seat, const void *at, size_t length, uint64_t *variable)
-{
-    return seryugo_is_astray(at, length) ? (uint32_t)SERYUGO_OUT_OF_BOUNDS
-                                         : seryugo_bytes_mvar_init_from(room, seat, at, length, variable);
-}
+static inline uint32_t seryugo_bytes_mvar_init(struct seryugo *room, uint64_t seat, const void *at, size_t length, uint64_t *variable);
 
 /* As seryugo_put. */
-static inline uint32_t seryugo_bytes_put(struct seryugo *room, uint64_t seat, uint64_t variable, const void *at, size_t length)
-{
-    return seryugo_is_astray(at, length) ? (uint32_t)SERYUGO_OUT_OF_BOUNDS : seryugo_bytes_put_from(room, seat, variable, at, length);
-}
+static inline uint32_t seryugo_bytes_put(struct seryugo *room, uint64_t seat, uint64_t variable, const void *at, size_t length);
 
 /* As seryugo_swap. What the variable held is handed over. */
 static inline uint32_t seryugo_bytes_swap(struct seryugo *room, uint64_t seat, uint64_t variable, const void *at, size_t length,
-                                          bool is_again, struct seryugo_bytes *held)
-{
-    return seryugo_is_astray(at, length) ? (uint32_t)SERYUGO_OUT_OF_BOUNDS
-                                         : seryugo_bytes_swap_from(room, seat, variable, at, length, is_again, held);
-}
+                                          bool is_again, struct seryugo_bytes *held);
 
 /*
  * ---- who is woken ----
@@ -324,7 +316,7 @@ static inline uint32_t seryugo_bytes_swap(struct seryugo *room, uint64_t seat, u
 uint32_t seryugo_next_due(struct seryugo *room, uint64_t *seat);
 
 /* Returns SERYUGO_DONE if a seat is due, and SERYUGO_NOTHING if it may sleep on or isn't parked. It changes nothing. */
-uint32_t seryugo_is_due(struct seryugo *room, uint64_t seat);
+uint32_t seryugo_is_due(const struct seryugo *room, uint64_t seat);
 
 /*
  * ---- lanes ----
@@ -343,12 +335,7 @@ uint32_t seryugo_lane_open(struct seryugo *room, uint64_t target, size_t capacit
 uint32_t seryugo_lane_send(struct seryugo *lane, uint64_t message);
 
 /* The same of a lane in a room of bytes: copies the message, and sends it. A message that finds no free slot isn't sent. */
-uint32_t seryugo_bytes_lane_send_from(struct seryugo *lane, const void *at, size_t length);
-
-static inline uint32_t seryugo_bytes_lane_send(struct seryugo *lane, const void *at, size_t length)
-{
-    return seryugo_is_astray(at, length) ? (uint32_t)SERYUGO_OUT_OF_BOUNDS : seryugo_bytes_lane_send_from(lane, at, length);
-}
+static inline uint32_t seryugo_bytes_lane_send(struct seryugo *lane, const void *at, size_t length);
 
 /* Ends a lane, without the room's lock: nothing more is sent on it, and seryugo_lane_close takes its handle. SERYUGO_GONE: the
  * room had closed the lane. The lane has ended then too, and only seryugo_close takes its handle. */
@@ -395,7 +382,7 @@ uint32_t seryugo_feed_recv(struct seryugo *feed, uint64_t *message);
 uint32_t seryugo_bytes_feed_recv(struct seryugo *feed, struct seryugo_bytes *message);
 
 /* Writes the name of a feed's port. */
-uint32_t seryugo_feed_port(struct seryugo *feed, uint64_t *port);
+uint32_t seryugo_feed_port(const struct seryugo *feed, uint64_t *port);
 
 /* Ends an open feed: nothing more is pumped into it. You can still take what is left in it, and its port is a port like any other
  * from now on. The only refusal is SERYUGO_NO_SUCH: no open feed has the number. */
@@ -492,11 +479,11 @@ struct seryugo_bytes_entry {
 
 /* Writes the journal's entry at this position, counted from 0 since the room was opened. SERYUGO_NO_SUCH: there is none yet, or it
  * was cut away. */
-uint32_t seryugo_entry(struct seryugo *room, uint64_t at, struct seryugo_entry *entry);
+uint32_t seryugo_entry(const struct seryugo *room, uint64_t at, struct seryugo_entry *entry);
 
 /* The same of a room of bytes: hands the entry over. Free it by seryugo_bytes_entry_free. SERYUGO_NO_MEMORY: nothing is
  * written. */
-uint32_t seryugo_bytes_entry(struct seryugo *room, uint64_t at, struct seryugo_bytes_entry *entry);
+uint32_t seryugo_bytes_entry(const struct seryugo *room, uint64_t at, struct seryugo_bytes_entry *entry);
 
 /* Frees an entry that was handed over, with its messages. Call it once for each. */
 static inline void seryugo_bytes_entry_free(struct seryugo_bytes_entry entry)
@@ -530,15 +517,15 @@ uint32_t seryugo_compact(struct seryugo *room, struct seryugo *journal, uint64_t
  */
 uint32_t seryugo_compact_and_cut(struct seryugo *room, struct seryugo *journal, uint64_t *count);
 
-/* Writes the entry at this place, from 0, of a taken journal. SERYUGO_NO_SUCH: the place is behind the last entry. */
-uint32_t seryugo_taken_entry(struct seryugo *journal, uint64_t place, struct seryugo_entry *entry);
+/* Writes the entry at this place, from 0, of a taken journal. SERYUGO_NO_SUCH: the place is after the last entry. */
+uint32_t seryugo_taken_entry(const struct seryugo *journal, uint64_t place, struct seryugo_entry *entry);
 
 /* The same of a room of bytes: hands the entry over. */
-uint32_t seryugo_bytes_taken_entry(struct seryugo *journal, uint64_t place, struct seryugo_bytes_entry *entry);
+uint32_t seryugo_bytes_taken_entry(const struct seryugo *journal, uint64_t place, struct seryugo_bytes_entry *entry);
 
 /*
  * Hands over the entries of a taken journal, of numbers or of bytes, as text: one piece, whose first entry is at position `from`.
- * Pass what seryugo_cut_at wrote before seryugo_take_journal, under the same lock. Such a piece is behind that of the cut
+ * Pass what seryugo_cut_at wrote before seryugo_take_journal, under the same lock. Such a piece is after that of the cut
  * before. So a server that appends each text to a file has its whole history there, and a later process goes on from it
  * (seryugo_room_restore). docs/FORMATS.md, "Journals", has the lines.
  *
@@ -546,11 +533,11 @@ uint32_t seryugo_bytes_taken_entry(struct seryugo *journal, uint64_t place, stru
  * outlive the journal and the room.
  *
  * The call writes nothing if it returns one of these. SERYUGO_NO_MEMORY: there is no memory for the text, or it would have more
- * than 2^32 - 1 bytes. SERYUGO_OUT_OF_BOUNDS: the position behind the last entry would be 2^64 or more. SERYUGO_TOO_LONG: a line
+ * than 2^32 - 1 bytes. SERYUGO_OUT_OF_BOUNDS: the position after the last entry would be 2^64 or more. SERYUGO_TOO_LONG: a line
  * would have more than 1,114,112 bytes, which no reading takes. In a message, each byte outside 0x21 to 0x7E, and each `%`, takes
  * three bytes of the line. So a server that keeps its journal sends no message of more than 371,000 bytes.
  */
-uint32_t seryugo_journal_text(struct seryugo *journal, uint64_t from, struct seryugo_bytes *text);
+uint32_t seryugo_journal_text(const struct seryugo *journal, uint64_t from, struct seryugo_bytes *text);
 
 /* A sum over a piece of text: SHA-256, if is_there. Fill it with 0 before the first piece. */
 struct seryugo_sum {
@@ -573,7 +560,7 @@ uint32_t seryugo_sealed_text(struct seryugo *journal, uint64_t from, struct sery
  * order, from the first that the journal ever had. It keeps what the objects need, and no entry.
  *
  * A call that feeds returns SERYUGO_DONE if all entries are lawful so far. Once it returns SERYUGO_UNLAWFUL, each later one does
- * too. SERYUGO_NO_MEMORY: some of the entries were seen. seryugo_checker_verdict says how many in all: go on behind them.
+ * too. SERYUGO_NO_MEMORY: some of the entries were seen. seryugo_checker_verdict says how many in all: go on after them.
  */
 
 /* Opens a checker of journals of numbers, or of bytes. SERYUGO_NO_MEMORY: *checker is as it was. */
@@ -588,26 +575,12 @@ uint32_t seryugo_checker_feed(struct seryugo *checker, const struct seryugo_entr
  * nothing is changed. */
 uint32_t seryugo_checker_feed_journal(struct seryugo *checker, struct seryugo *journal, uint64_t place);
 
-/* What the library exports to check one entry of bytes. It doesn't test the pointers. From C, call the next function. */
-uint32_t seryugo_bytes_checker_feed_from(struct seryugo *checker, const struct seryugo_maker *maker, uint32_t call, uint64_t object,
-                                         const void *sent, size_t sent_length, uint32_t reply, uint64_t name, const void *got,
-                                         size_t got_length);
-
 /* Checks one entry of bytes, whether it was handed over or you filled the struct. It copies the bytes, and doesn't read `owner`.
  * SERYUGO_OUT_OF_BOUNDS: one of the kinds is none, or a pointer is null with a length, and nothing is changed. */
-static inline uint32_t seryugo_bytes_checker_feed(struct seryugo *checker, const struct seryugo_bytes_entry *entry)
-{
-    if (seryugo_is_astray(entry->call.message.at, entry->call.message.length)
-        || seryugo_is_astray(entry->reply.message.at, entry->reply.message.length)) {
-        return SERYUGO_OUT_OF_BOUNDS;
-    }
-    return seryugo_bytes_checker_feed_from(checker, &entry->maker, entry->call.kind, entry->call.object, entry->call.message.at,
-                                           entry->call.message.length, entry->reply.kind, entry->reply.name,
-                                           entry->reply.message.at, entry->reply.message.length);
-}
+static inline uint32_t seryugo_bytes_checker_feed(struct seryugo *checker, const struct seryugo_bytes_entry *entry);
 
 /* Writes how many entries were found lawful. SERYUGO_UNLAWFUL: the entry at that position is not. */
-uint32_t seryugo_checker_verdict(struct seryugo *checker, uint64_t *count);
+uint32_t seryugo_checker_verdict(const struct seryugo *checker, uint64_t *count);
 
 /*
  * ---- a journal that is read back ----
@@ -623,43 +596,36 @@ uint32_t seryugo_checker_verdict(struct seryugo *checker, uint64_t *count);
 uint32_t seryugo_reading_open(struct seryugo *reading);
 uint32_t seryugo_bytes_reading_open(struct seryugo *reading);
 
-/* What the library exports to read a part. It doesn't test the pointer: unless the length is 0, it has to be good. From C, call
- * the next function. */
-uint32_t seryugo_reading_take_from(struct seryugo *reading, const void *at, size_t length);
-
 /* Reads the next part of the text. The buffer stays yours.
  *
- * SERYUGO_DONE: there is no fault so far, and all entries are lawful. SERYUGO_FAULT: the text has a fault. It is on the line behind
+ * SERYUGO_DONE: there is no fault so far, and all entries are lawful. SERYUGO_FAULT: the text has a fault. It is on the line after
  * those that seryugo_reading_lines counts. SERYUGO_UNLAWFUL: the entry at the position that seryugo_reading_entries writes is
  * unlawful. SERYUGO_NO_MEMORY: the reading has stopped too. Open another, and read the text again. SERYUGO_OUT_OF_BOUNDS: the
  * pointer is null and the length isn't 0. Then nothing is changed. */
-static inline uint32_t seryugo_reading_take(struct seryugo *reading, const void *at, size_t length)
-{
-    return seryugo_is_astray(at, length) ? (uint32_t)SERYUGO_OUT_OF_BOUNDS : seryugo_reading_take_from(reading, at, length);
-}
+static inline uint32_t seryugo_reading_take(struct seryugo *reading, const void *at, size_t length);
 
 /* Writes how many entries were read and are lawful. */
-uint32_t seryugo_reading_entries(struct seryugo *reading, uint64_t *count);
+uint32_t seryugo_reading_entries(const struct seryugo *reading, uint64_t *count);
 
 /* Writes how many lines were read to their ends, modulo 2^64. */
-uint32_t seryugo_reading_lines(struct seryugo *reading, uint64_t *lines);
+uint32_t seryugo_reading_lines(const struct seryugo *reading, uint64_t *lines);
 
 /* Ask this once the text is at its end. It changes nothing. SERYUGO_DONE: the last piece has its end. SERYUGO_TORN: it has none,
  * or the text is empty. */
-uint32_t seryugo_reading_end(struct seryugo *reading);
+uint32_t seryugo_reading_end(const struct seryugo *reading);
 
 /* Writes the sum of the last piece that was read. If the text is torn, and its last piece has no end yet, writes the sum of that
  * piece's whole lines: end it by a line `end N` with this sum, in 64 hex digits. SERYUGO_NOTHING: the text has no sums, nothing was read,
  * or the last whole line is a header. If the reading has stopped, its sum is of no use. SERYUGO_NO_MEMORY: *sum is as it was. */
-uint32_t seryugo_reading_sum(struct seryugo *reading, struct seryugo_sum *sum);
+uint32_t seryugo_reading_sum(const struct seryugo *reading, struct seryugo_sum *sum);
 
 /* Opens a room on what was read, and writes a handle to it. The room is as if it had answered all these calls, and had cut its
- * journal then. So its objects, and what waits in them, are those behind the last entry. seryugo_entries and seryugo_cut_at write
+ * journal then. So its objects, and what waits in them, are those after the last entry. seryugo_entries and seryugo_cut_at write
  * what seryugo_reading_entries wrote, and names and positions go on from there. The journal takes `limit` entries between two
  * cuts. The messages are those of the reading: numbers or bytes.
  *
  * The seats, lanes and feeds of the journal are gone. A call of such a seat fails with SERYUGO_GONE, and the port of such a feed
- * is a port like any other. The first seat that you make has the number behind the highest seat of the journal. The first lane
+ * is a port like any other. The first seat that you make has the number after the highest seat of the journal. The first lane
  * and the first feed have such numbers too. Those of the journal take no memory, whatever their numbers are.
  *
  * The call spends the reading: its handle leads to nothing then, and takes no call but seryugo_close. Close it. If the text was
@@ -677,7 +643,7 @@ uint32_t seryugo_room_restore(struct seryugo *reading, uint64_t limit, struct se
  *
  * The call writes a handle to the short journal, and how many entries it has. It is a taken journal like any other, and its first
  * entry is at position 0: pass 0 to seryugo_journal_text. The seat with the highest number of the long journal made all of its
- * entries, so new seats have the numbers that they would have behind the long one. If no seat made any, it is seat 0. What was
+ * entries, so new seats have the numbers that they would have after the long one. If no seat made any, it is seat 0. What was
  * counted begins anew: positions of entries, numbers of lanes and feeds, and how many messages an object sent and received.
  *
  * The call spends the reading, as seryugo_room_restore does. Close it. If the text was torn, the short journal leaves what the
@@ -702,42 +668,42 @@ enum seryugo_object_kind {
 };
 
 /* An object's kind. */
-uint32_t seryugo_kind(struct seryugo *room, uint64_t object, uint64_t *kind);
+uint32_t seryugo_kind(const struct seryugo *room, uint64_t object, uint64_t *kind);
 
 /* A port's channel; and how many messages were multicast on that channel before the first that the port receives. */
-uint32_t seryugo_channel_of(struct seryugo *room, uint64_t port, uint64_t *channel);
-uint32_t seryugo_start_of(struct seryugo *room, uint64_t port, uint64_t *start);
+uint32_t seryugo_channel_of(const struct seryugo *room, uint64_t port, uint64_t *channel);
+uint32_t seryugo_start_of(const struct seryugo *room, uint64_t port, uint64_t *start);
 
 /* How many messages were sent to a mailbox, or multicast on a channel. */
-uint32_t seryugo_sent(struct seryugo *room, uint64_t object, uint64_t *count);
+uint32_t seryugo_sent(const struct seryugo *room, uint64_t object, uint64_t *count);
 
 /* How many were received from a mailbox or a port. */
-uint32_t seryugo_got(struct seryugo *room, uint64_t object, uint64_t *count);
+uint32_t seryugo_got(const struct seryugo *room, uint64_t object, uint64_t *count);
 
 /* How many wait in a mailbox, or are owed to an open port. */
-uint32_t seryugo_owed(struct seryugo *room, uint64_t object, uint64_t *count);
+uint32_t seryugo_owed(const struct seryugo *room, uint64_t object, uint64_t *count);
 
 /* How many messages of a mailbox or a channel are kept, and the place of the first of these. */
-uint32_t seryugo_kept(struct seryugo *room, uint64_t object, uint64_t *count);
-uint32_t seryugo_first(struct seryugo *room, uint64_t object, uint64_t *count);
+uint32_t seryugo_kept(const struct seryugo *room, uint64_t object, uint64_t *count);
+uint32_t seryugo_first(const struct seryugo *room, uint64_t object, uint64_t *count);
 
 /* The message that a variable holds. SERYUGO_NOTHING: it is empty. */
-uint32_t seryugo_held(struct seryugo *room, uint64_t variable, uint64_t *message);
+uint32_t seryugo_held(const struct seryugo *room, uint64_t variable, uint64_t *message);
 
 /* The same of a room of bytes: hands the message over. */
-uint32_t seryugo_bytes_held(struct seryugo *room, uint64_t variable, struct seryugo_bytes *message);
+uint32_t seryugo_bytes_held(const struct seryugo *room, uint64_t variable, struct seryugo_bytes *message);
 
 /* Returns SERYUGO_DONE if a port is open, and else SERYUGO_CLOSED. */
-uint32_t seryugo_is_open(struct seryugo *room, uint64_t port);
+uint32_t seryugo_is_open(const struct seryugo *room, uint64_t port);
 
 /* How many calls were accepted since the room was opened; how many of these entries were cut away; and how many entries the
  * journal takes between two cuts. */
-uint32_t seryugo_entries(struct seryugo *room, uint64_t *count);
-uint32_t seryugo_cut_at(struct seryugo *room, uint64_t *count);
-uint32_t seryugo_limit(struct seryugo *room, uint64_t *count);
+uint32_t seryugo_entries(const struct seryugo *room, uint64_t *count);
+uint32_t seryugo_cut_at(const struct seryugo *room, uint64_t *count);
+uint32_t seryugo_limit(const struct seryugo *room, uint64_t *count);
 
 /* Returns SERYUGO_DONE if the journal takes more entries, and else SERYUGO_JOURNAL_FULL. */
-uint32_t seryugo_is_full(struct seryugo *room);
+uint32_t seryugo_is_full(const struct seryugo *room);
 
 /*
  * ---- a journal that is cut by itself ----
@@ -810,7 +776,7 @@ static inline uint32_t seryugo_keep(struct seryugo_keeper *keeper, struct seryug
     return seryugo_hand_over(keeper) ? (uint32_t)SERYUGO_DONE : (uint32_t)SERYUGO_JOURNAL_FULL;
 }
 
-/* Cuts the journal behind a short one that seryugo_compact wrote under the same lock, with this count. The short journal stands for the
+/* Cuts the journal after a short one that seryugo_compact wrote under the same lock, with this count. The short journal stands for the
  * entries that the keeper keeps, too: they are dropped. From then on the sink's `from` counts from the short journal's beginning. It is
  * never refused. */
 static inline uint32_t seryugo_shorten(struct seryugo_keeper *keeper, struct seryugo *room, uint64_t count)
@@ -841,6 +807,88 @@ static inline bool seryugo_makes_room(struct seryugo_keeper *keeper, struct sery
     }
     *code = seryugo_keep(keeper, room);
     return *code == SERYUGO_DONE;
+}
+
+/*
+ * ---- what the library exports for the inline functions above ----
+ *
+ * Don't call these from C. Those whose names end in _from don't test the pointer: unless the length is 0, it has to be good.
+ */
+
+void seryugo_bytes_release(struct seryugo_share owner);
+uint32_t seryugo_bytes_send_from(struct seryugo *room, uint64_t seat, uint64_t mailbox, const void *at, size_t length);
+uint32_t seryugo_bytes_multicast_from(struct seryugo *room, uint64_t seat, uint64_t channel, const void *at, size_t length);
+uint32_t seryugo_bytes_mvar_init_from(struct seryugo *room, uint64_t seat, const void *at, size_t length, uint64_t *variable);
+uint32_t seryugo_bytes_put_from(struct seryugo *room, uint64_t seat, uint64_t variable, const void *at, size_t length);
+uint32_t seryugo_bytes_swap_from(struct seryugo *room, uint64_t seat, uint64_t variable, const void *at, size_t length, bool is_again,
+                                 struct seryugo_bytes *held);
+uint32_t seryugo_bytes_lane_send_from(struct seryugo *lane, const void *at, size_t length);
+uint32_t seryugo_bytes_checker_feed_from(struct seryugo *checker, const struct seryugo_maker *maker, uint32_t call, uint64_t object,
+                                         const void *sent, size_t sent_length, uint32_t reply, uint64_t name, const void *got,
+                                         size_t got_length);
+uint32_t seryugo_reading_take_from(struct seryugo *reading, const void *at, size_t length);
+
+/* Whether a pointer is null though it has a length. */
+static inline bool seryugo_is_astray(const void *at, size_t length)
+{
+    return at == NULL && length != 0;
+}
+
+static inline void seryugo_bytes_free(struct seryugo_bytes message)
+{
+    if (message.length > SERYUGO_IN_PLACE) {
+        seryugo_bytes_release(message.owner);
+    }
+}
+
+static inline uint32_t seryugo_bytes_send(struct seryugo *room, uint64_t seat, uint64_t mailbox, const void *at, size_t length)
+{
+    return seryugo_is_astray(at, length) ? (uint32_t)SERYUGO_OUT_OF_BOUNDS : seryugo_bytes_send_from(room, seat, mailbox, at, length);
+}
+
+static inline uint32_t seryugo_bytes_multicast(struct seryugo *room, uint64_t seat, uint64_t channel, const void *at, size_t length)
+{
+    return seryugo_is_astray(at, length) ? (uint32_t)SERYUGO_OUT_OF_BOUNDS
+                                         : seryugo_bytes_multicast_from(room, seat, channel, at, length);
+}
+
+static inline uint32_t seryugo_bytes_mvar_init(struct seryugo *room, uint64_t seat, const void *at, size_t length, uint64_t *variable)
+{
+    return seryugo_is_astray(at, length) ? (uint32_t)SERYUGO_OUT_OF_BOUNDS
+                                         : seryugo_bytes_mvar_init_from(room, seat, at, length, variable);
+}
+
+static inline uint32_t seryugo_bytes_put(struct seryugo *room, uint64_t seat, uint64_t variable, const void *at, size_t length)
+{
+    return seryugo_is_astray(at, length) ? (uint32_t)SERYUGO_OUT_OF_BOUNDS : seryugo_bytes_put_from(room, seat, variable, at, length);
+}
+
+static inline uint32_t seryugo_bytes_swap(struct seryugo *room, uint64_t seat, uint64_t variable, const void *at, size_t length,
+                                          bool is_again, struct seryugo_bytes *held)
+{
+    return seryugo_is_astray(at, length) ? (uint32_t)SERYUGO_OUT_OF_BOUNDS
+                                         : seryugo_bytes_swap_from(room, seat, variable, at, length, is_again, held);
+}
+
+static inline uint32_t seryugo_bytes_lane_send(struct seryugo *lane, const void *at, size_t length)
+{
+    return seryugo_is_astray(at, length) ? (uint32_t)SERYUGO_OUT_OF_BOUNDS : seryugo_bytes_lane_send_from(lane, at, length);
+}
+
+static inline uint32_t seryugo_bytes_checker_feed(struct seryugo *checker, const struct seryugo_bytes_entry *entry)
+{
+    if (seryugo_is_astray(entry->call.message.at, entry->call.message.length)
+        || seryugo_is_astray(entry->reply.message.at, entry->reply.message.length)) {
+        return SERYUGO_OUT_OF_BOUNDS;
+    }
+    return seryugo_bytes_checker_feed_from(checker, &entry->maker, entry->call.kind, entry->call.object, entry->call.message.at,
+                                           entry->call.message.length, entry->reply.kind, entry->reply.name,
+                                           entry->reply.message.at, entry->reply.message.length);
+}
+
+static inline uint32_t seryugo_reading_take(struct seryugo *reading, const void *at, size_t length)
+{
+    return seryugo_is_astray(at, length) ? (uint32_t)SERYUGO_OUT_OF_BOUNDS : seryugo_reading_take_from(reading, at, length);
 }
 
 #ifdef __cplusplus

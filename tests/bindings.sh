@@ -96,13 +96,13 @@ has_sanitizer() {
 # The sanitizers of addresses and of undefined behaviour, and that of threads.
 sanitizers_from_c() {
     if has_sanitizer address,undefined; then
-        for program in calls messages keep sealed compact full threads; do
+        for program in calls messages keep sealed compact full threads switchboard; do
             check "nothing wrong with an address: $program" sanitized address,undefined $program
         done
         check 'nothing wrong with an address: requests' sanitized address,undefined requests 20
     fi
     if has_sanitizer thread; then
-        for program in threads keep compact; do
+        for program in threads keep compact switchboard; do
             check "no race: $program" sanitized thread $program
         done
         check 'no race: requests' sanitized thread requests 20
@@ -121,7 +121,7 @@ refusals_from_c() {
 }
 
 rooms_from_c() {
-    for program in calls messages keep sealed compact full threads requests; do
+    for program in calls messages keep sealed compact full threads requests switchboard; do
         check "a program in C of rooms is built: $program" compile $program "$rooms"
         [ -x "$work/$program" ] && check "rooms from C: $program" timeout 60 "$work/$program"
     done

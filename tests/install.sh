@@ -99,6 +99,13 @@ END
     compiled -Wall -Wextra -Werror
 }
 
+# The program at the head of seryugo_switchboard.h.
+first_in_c() {
+    rm -rf "$work/alone" && mkdir "$work/alone" &&
+        sed -n '/^ \*     #include/,/^ \* Compile/{/^ \* Compile/q;s/^ \*     //;s/^ \*$//;p;}' \
+            "$prefix/include/seryugo_switchboard.h" > "$work/alone/program.c" && compiled -Wall -Wextra -Werror -pthread
+}
+
 # The same once the folder lies elsewhere.
 built_elsewhere() {
     mv "$prefix" "$work/elsewhere" && prefix=$work/elsewhere && built "$@"
@@ -111,13 +118,14 @@ replays() {
 }
 
 from_c() {
-    for program in calls threads requests; do
+    for program in calls threads requests switchboard; do
         check "with the shared library: $program" built $program
         check "with the static library: $program" built $program -static
     done
     if [ -n "$replay" ]; then check 'a script replayed' replays; fi
     check 'a program needs the shared library' needs_the_shared_library
     check 'the version at run time, from C' prints "$version" version_in_c
+    check 'the program in the header of switchboards' prints 'received 5' first_in_c
     check 'the installed folder may be moved' built_elsewhere messages
 }
 

@@ -3,6 +3,7 @@
  *
  * A call that fails for want of memory is made again, since it changed nothing. So the program ends well even if one request for
  * memory is refused. */
+#include "require.h"
 #include "seryugo.h"
 
 #include <pthread.h>
@@ -36,14 +37,6 @@ struct part {
 };
 
 static struct part parts[SEATS];
-
-static void require(int holds, const char *what)
-{
-    if (!holds) {
-        fprintf(stderr, "not so: %s\n", what);
-        exit(1);
-    }
-}
 
 /* A call that asks for memory, until there is some. */
 #define WITH_MEMORY(told, call)            \

@@ -1,10 +1,10 @@
 /* Threads on one room: four that send and one that receives, first from seats, then on lanes; and two that both wait, whose
  * calls return that they are stalled. The lock and the condition variables are the program's, since the library never waits. */
+#include "require.h"
 #include "seryugo.h"
 
 #include <pthread.h>
 #include <stdio.h>
-#include <stdlib.h>
 
 #define SENDERS 4
 #define EACH 20000
@@ -28,14 +28,6 @@ struct part {
     uint32_t told;
     uint64_t expected[SENDERS];
 };
-
-static void require(int holds, const char *what)
-{
-    if (!holds) {
-        fprintf(stderr, "not so: %s\n", what);
-        exit(1);
-    }
-}
 
 static void open_board(struct board *board)
 {

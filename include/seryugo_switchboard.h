@@ -1,0 +1,539 @@
+/*
+ * Threads on one room: calls that block, end at a time limit, and wake each other. The library seryugo has no threads, so this
+ * header brings the lock and the waiting, by POSIX threads. All its code is here. It is tested, and not proved.
+ *
+ *     #include <seryugo_switchboard.h>
+ *     #include <stdio.h>
+ *
+ *     static uint64_t mailbox;
+ *
+ *     static void *receive(void *seat)
+ *     {
+ *         uint64_t message = 0;
+ *
+ *         if (seryugo_seat_recv(seat, mailbox, NULL, &message) == SERYUGO_DONE) {
+ *             printf("received %d\n", (int)message);
+ *         }
+ *         seryugo_seat_leave(seat);
+ *         return NULL;
+ *     }
+ *
+ *     int main(void)
+ *     {
+ *         struct seryugo_switchboard board;
+ *         struct seryugo_seat ann, ben;
+ *         pthread_t thread;
+ *
+ *         seryugo_switchboard_open(65536, &board);
+ *         seryugo_seat_open(&board, &ann);
+ *         seryugo_seat_open(&board, &ben);
+ *         seryugo_seat_new_mailbox(&ann, &mailbox);
+ *         pthread_create(&thread, NULL, receive, &ben);
+ *         seryugo_seat_send(&ann, mailbox, 5);
+ *         seryugo_seat_leave(&ann);
+ *         pthread_join(thread, NULL);
+ *         seryugo_switchboard_close(&board);
+ *         return 0;
+ *     }
+ *
+ * Compile with -pthread, and with -std=gnu11 or _POSIX_C_SOURCE 200809L.
+ *
+ * When does a call that waits return?
+ *
+ * - With SERYUGO_DONE or SERYUGO_CLOSED, once it has what it waits for.
+ * - With SERYUGO_TIMED_OUT, at its deadline.
+ * - With SERYUGO_STALLED, if each other seat waits or has left: nobody could answer it. A seat that was opened and doesn't wait may
+ *   still send. So open the seats of all threads before the first one waits. If threads come later, keep a seat open meanwhile.
+ *
+ * Keep these rules. One thread at a time uses a seat. A seat and a switchboard stay where they are in memory. The rules of seryugo.h
+ * hold too.
+ */
+#ifndef SERYUGO_SWITCHBOARD_H
+#define SERYUGO_SWITCHBOARD_H
+
+#include <pthread.h>
+#include <seryugo.h>
+#include <stdlib.h>
+#include <string.h>
+#include <time.h>
+
+#ifdef __cplusplus
+extern "C" {
+#endif
+
+struct seryugo_seat;
+
+/* A room, its lock, and its seats by their numbers. Read `room` for calls that have no function here, between seryugo_switchboard_lock
+ * and seryugo_switchboard_unlock. The other fields are the header's. */
+struct seryugo_switchboard {
+    struct seryugo room;
+    pthread_mutex_t lock;
+    /* The seat of the number `first` + k is at k, or null once it has left. */
+    struct seryugo_seat **seats;
+    uint64_t first;
+    size_t made;
+    size_t capacity;
+    struct seryugo_keeper keeper;
+    bool cuts;
+};
+
+/* A thread's seat. The fields are the header's. */
+struct seryugo_seat {
+    struct seryugo_switchboard *board;
+    uint64_t number;
+    pthread_cond_t due;
+};
+
+/* ---- switchboards ---- */
+
+/* Makes a switchboard on a room that is open, for example on one that seryugo_room_restore opened. It closes the room with itself.
+ * SERYUGO_NO_MEMORY: the room is still yours. */
+static inline uint32_t seryugo_switchboard_of(struct seryugo room, struct seryugo_switchboard *board)
+{
+    if (pthread_mutex_init(&board->lock, NULL) != 0) {
+        return SERYUGO_NO_MEMORY;
+    }
+    board->room = room;
+    board->seats = NULL;
+    board->first = 0;
+    board->made = 0;
+    board->capacity = 0;
+    memset(&board->keeper, 0, sizeof board->keeper);
+    board->cuts = false;
+    return SERYUGO_DONE;
+}
+
+/* Opens a switchboard whose messages are numbers. It fails as seryugo_room_open does. */
+static inline uint32_t seryugo_switchboard_open(uint64_t limit, struct seryugo_switchboard *board)
+{
+    struct seryugo room;
+    uint32_t code = seryugo_room_open(limit, &room);
+
+    if (code == SERYUGO_DONE) {
+        code = seryugo_switchboard_of(room, board);
+        if (code != SERYUGO_DONE) {
+            seryugo_close(room);
+        }
+    }
+    return code;
+}
+
+/* Opens a switchboard whose messages are bytes. */
+static inline uint32_t seryugo_bytes_switchboard_open(uint64_t limit, struct seryugo_switchboard *board)
+{
+    struct seryugo room;
+    uint32_t code = seryugo_bytes_room_open(limit, &room);
+
+    if (code == SERYUGO_DONE) {
+        code = seryugo_switchboard_of(room, board);
+        if (code != SERYUGO_DONE) {
+            seryugo_close(room);
+        }
+    }
+    return code;
+}
+
+/* Closes a switchboard and its room, once each seat has left. Entries that a sink refused are lost. */
+static inline void seryugo_switchboard_close(struct seryugo_switchboard *board)
+{
+    if (board->keeper.is_kept) {
+        seryugo_close(board->keeper.journal);
+    }
+    seryugo_close(board->room);
+    free(board->seats);
+    pthread_mutex_destroy(&board->lock);
+}
+
+/* Says what becomes of a full journal, before the first call: the call that finds it full cuts it, hands its entries to the sink, and is
+ * then made. The sink runs under the lock. Without a sink (null) the entries are dropped. If you don't call this, calls fail with
+ * SERYUGO_JOURNAL_FULL. If the sink returns false, so does the call that found the journal full, and no entry is lost. */
+static inline void seryugo_switchboard_when_full(struct seryugo_switchboard *board, seryugo_sink *sink, void *context)
+{
+    board->keeper.sink = sink;
+    board->keeper.context = context;
+    board->cuts = true;
+}
+
+/* Signals the thread of the next seat that is due, if there is one. It needs the lock, so that the seat doesn't leave meanwhile. */
+static inline bool seryugo_wakes_next(struct seryugo_switchboard *board)
+{
+    uint64_t number = 0;
+
+    if (seryugo_next_due(&board->room, &number) != SERYUGO_DONE) {
+        return false;
+    }
+    if (number - board->first < board->made && board->seats[number - board->first] != NULL) {
+        pthread_cond_signal(&board->seats[number - board->first]->due);
+    }
+    return true;
+}
+
+/* Locks a switchboard, for calls of seryugo.h on its room: lanes, feeds, the journal and readers. */
+static inline void seryugo_switchboard_lock(struct seryugo_switchboard *board)
+{
+    pthread_mutex_lock(&board->lock);
+}
+
+/* Wakes all threads whose calls may go on now, and unlocks the switchboard. */
+static inline void seryugo_switchboard_unlock(struct seryugo_switchboard *board)
+{
+    while (seryugo_wakes_next(board)) {
+    }
+    pthread_mutex_unlock(&board->lock);
+}
+
+/* Does so after one call of a seat: it wakes one thread, and that thread's call wakes the next. */
+static inline void seryugo_let_go(struct seryugo_switchboard *board)
+{
+    (void)seryugo_wakes_next(board);
+    pthread_mutex_unlock(&board->lock);
+}
+
+/* Hands the entries since the last cut to the sink, at the end or before a pause. It fails as seryugo_keep does. */
+static inline uint32_t seryugo_switchboard_keep(struct seryugo_switchboard *board)
+{
+    uint32_t code;
+
+    seryugo_switchboard_lock(board);
+    code = seryugo_keep(&board->keeper, &board->room);
+    seryugo_switchboard_unlock(board);
+    return code;
+}
+
+/* ---- seats ---- */
+
+/* Sees that a seat of this number has a place in the list. */
+static inline bool seryugo_has_place(struct seryugo_switchboard *board, uint64_t number)
+{
+    size_t needed;
+    size_t capacity = board->capacity == 0 ? 8 : 2 * board->capacity;
+    struct seryugo_seat **seats;
+
+    if (board->made == 0) {
+        board->first = number;
+    }
+    needed = (size_t)(number - board->first) + 1;
+    if (needed > board->capacity) {
+        capacity = capacity < needed ? needed : capacity;
+        seats = (struct seryugo_seat **)realloc(board->seats, capacity * sizeof *seats);
+        if (seats == NULL) {
+            return false;
+        }
+        board->seats = seats;
+        board->capacity = capacity;
+    }
+    while (board->made < needed) {
+        board->seats[board->made++] = NULL;
+    }
+    return true;
+}
+
+/* Makes the condition by which a seat's thread waits, whose deadlines are times of CLOCK_MONOTONIC. */
+static inline bool seryugo_has_condition(pthread_cond_t *due)
+{
+    pthread_condattr_t attributes;
+    bool is_made;
+
+    if (pthread_condattr_init(&attributes) != 0) {
+        return false;
+    }
+    is_made = pthread_condattr_setclock(&attributes, CLOCK_MONOTONIC) == 0 && pthread_cond_init(due, &attributes) == 0;
+    pthread_condattr_destroy(&attributes);
+    return is_made;
+}
+
+/* Opens a seat. The only refusal is SERYUGO_NO_MEMORY, and then the seat isn't open. */
+static inline uint32_t seryugo_seat_open(struct seryugo_switchboard *board, struct seryugo_seat *seat)
+{
+    uint32_t code = SERYUGO_NO_MEMORY;
+
+    if (!seryugo_has_condition(&seat->due)) {
+        return code;
+    }
+    seryugo_switchboard_lock(board);
+    code = seryugo_new_seat(&board->room, &seat->number);
+    if (code == SERYUGO_DONE && !seryugo_has_place(board, seat->number)) {
+        (void)seryugo_leave(&board->room, seat->number);
+        code = SERYUGO_NO_MEMORY;
+    }
+    if (code == SERYUGO_DONE) {
+        seat->board = board;
+        board->seats[seat->number - board->first] = seat;
+    }
+    seryugo_switchboard_unlock(board);
+    if (code != SERYUGO_DONE) {
+        pthread_cond_destroy(&seat->due);
+    }
+    return code;
+}
+
+/* A seat leaves: it makes no more calls. Let each seat leave at its end, or the others wait for it for ever. */
+static inline void seryugo_seat_leave(struct seryugo_seat *seat)
+{
+    struct seryugo_switchboard *board = seat->board;
+
+    seryugo_switchboard_lock(board);
+    (void)seryugo_leave(&board->room, seat->number);
+    board->seats[seat->number - board->first] = NULL;
+    seryugo_switchboard_unlock(board);
+    pthread_cond_destroy(&seat->due);
+}
+
+/* ---- how a call waits ---- */
+
+/* The time this many milliseconds from now: a deadline for the calls below. */
+static inline struct timespec seryugo_in_milliseconds(uint64_t milliseconds)
+{
+    struct timespec at;
+
+    clock_gettime(CLOCK_MONOTONIC, &at);
+    at.tv_sec += (time_t)(milliseconds / 1000);
+    at.tv_nsec += (long)(milliseconds % 1000) * 1000000;
+    if (at.tv_nsec >= 1000000000) {
+        at.tv_sec++;
+        at.tv_nsec -= 1000000000;
+    }
+    return at;
+}
+
+/* A call that is being made. */
+struct seryugo_turn {
+    struct seryugo_seat *seat;
+    const struct timespec *deadline;
+    bool is_again;
+    uint32_t code;
+};
+
+/* Locks the switchboard for a seat's call. */
+static inline struct seryugo_turn seryugo_begin(struct seryugo_seat *seat, const struct timespec *deadline)
+{
+    struct seryugo_turn turn = {seat, deadline, false, SERYUGO_DONE};
+
+    seryugo_switchboard_lock(seat->board);
+    return turn;
+}
+
+/* Waits until the seat is due, and returns true; or returns false at the deadline. */
+static inline bool seryugo_waits(struct seryugo_turn *turn)
+{
+    struct seryugo_seat *seat = turn->seat;
+    int failure = 0;
+
+    while (seryugo_is_due(&seat->board->room, seat->number) == SERYUGO_NOTHING) {
+        if (failure != 0) {
+            return false;
+        }
+        if (turn->deadline == NULL) {
+            pthread_cond_wait(&seat->due, &seat->board->lock);
+        } else {
+            failure = pthread_cond_timedwait(&seat->due, &seat->board->lock, turn->deadline);
+        }
+    }
+    return true;
+}
+
+/* Returns true if the call has to be made again: the journal was full and has room now, or the call had to wait. Else it unlocks the
+ * switchboard. */
+static inline bool seryugo_goes_on(struct seryugo_turn *turn)
+{
+    struct seryugo_switchboard *board = turn->seat->board;
+    bool was_again = turn->is_again;
+
+    turn->is_again = false;
+    if (board->cuts && seryugo_makes_room(&board->keeper, &board->room, &turn->code)) {
+        return true;
+    }
+    if (turn->code == SERYUGO_PARKED) {
+        (void)seryugo_wakes_next(board);
+        if (seryugo_waits(turn)) {
+            turn->is_again = true;
+            return true;
+        }
+        turn->code = SERYUGO_TIMED_OUT;
+        (void)seryugo_withdraw(&board->room, turn->seat->number);
+    }
+    /* A parked seat that had no memory for its message may still be parked. */
+    if (turn->code == SERYUGO_NO_MEMORY && was_again) {
+        (void)seryugo_withdraw(&board->room, turn->seat->number);
+    }
+    seryugo_let_go(board);
+    return false;
+}
+
+/* The body of a function that makes one call of `seat`, in which turn.is_again is there. */
+#define SERYUGO_MAKE(deadline, call)                              \
+    struct seryugo_turn turn = seryugo_begin(seat, deadline);     \
+                                                                  \
+    do {                                                          \
+        turn.code = (call);                                       \
+    } while (seryugo_goes_on(&turn));                             \
+    return turn.code
+
+/*
+ * ---- a seat's calls ----
+ *
+ * Each makes the call of seryugo.h of the same name, with its codes. A call with a deadline waits until then, or without end if the
+ * deadline is null. If it returns SERYUGO_TIMED_OUT, it did nothing.
+ */
+
+static inline uint32_t seryugo_seat_new_mailbox(struct seryugo_seat *seat, uint64_t *mailbox)
+{
+    SERYUGO_MAKE(NULL, seryugo_new_mailbox(&seat->board->room, seat->number, mailbox));
+}
+
+static inline uint32_t seryugo_seat_send(struct seryugo_seat *seat, uint64_t mailbox, uint64_t message)
+{
+    SERYUGO_MAKE(NULL, seryugo_send(&seat->board->room, seat->number, mailbox, message));
+}
+
+/* Receives the next message of a mailbox or a port. */
+static inline uint32_t seryugo_seat_recv(struct seryugo_seat *seat, uint64_t source, const struct timespec *deadline,
+                                         uint64_t *message)
+{
+    SERYUGO_MAKE(deadline, seryugo_recv(&seat->board->room, seat->number, source, turn.is_again, message));
+}
+
+static inline uint32_t seryugo_seat_recv_poll(struct seryugo_seat *seat, uint64_t source, uint64_t *message)
+{
+    SERYUGO_MAKE(NULL, seryugo_recv_poll(&seat->board->room, seat->number, source, message));
+}
+
+static inline uint32_t seryugo_seat_new_channel(struct seryugo_seat *seat, uint64_t *channel)
+{
+    SERYUGO_MAKE(NULL, seryugo_new_channel(&seat->board->room, seat->number, channel));
+}
+
+static inline uint32_t seryugo_seat_new_port(struct seryugo_seat *seat, uint64_t channel, uint64_t *port)
+{
+    SERYUGO_MAKE(NULL, seryugo_new_port(&seat->board->room, seat->number, channel, port));
+}
+
+static inline uint32_t seryugo_seat_copy_port(struct seryugo_seat *seat, uint64_t port, uint64_t *copy)
+{
+    SERYUGO_MAKE(NULL, seryugo_copy_port(&seat->board->room, seat->number, port, copy));
+}
+
+static inline uint32_t seryugo_seat_close_port(struct seryugo_seat *seat, uint64_t port)
+{
+    SERYUGO_MAKE(NULL, seryugo_close_port(&seat->board->room, seat->number, port));
+}
+
+static inline uint32_t seryugo_seat_multicast(struct seryugo_seat *seat, uint64_t channel, uint64_t message)
+{
+    SERYUGO_MAKE(NULL, seryugo_multicast(&seat->board->room, seat->number, channel, message));
+}
+
+static inline uint32_t seryugo_seat_new_ivar(struct seryugo_seat *seat, uint64_t *variable)
+{
+    SERYUGO_MAKE(NULL, seryugo_new_ivar(&seat->board->room, seat->number, variable));
+}
+
+static inline uint32_t seryugo_seat_new_mvar(struct seryugo_seat *seat, uint64_t *variable)
+{
+    SERYUGO_MAKE(NULL, seryugo_new_mvar(&seat->board->room, seat->number, variable));
+}
+
+static inline uint32_t seryugo_seat_mvar_init(struct seryugo_seat *seat, uint64_t message, uint64_t *variable)
+{
+    SERYUGO_MAKE(NULL, seryugo_mvar_init(&seat->board->room, seat->number, message, variable));
+}
+
+static inline uint32_t seryugo_seat_put(struct seryugo_seat *seat, uint64_t variable, uint64_t message)
+{
+    SERYUGO_MAKE(NULL, seryugo_put(&seat->board->room, seat->number, variable, message));
+}
+
+static inline uint32_t seryugo_seat_get(struct seryugo_seat *seat, uint64_t variable, const struct timespec *deadline,
+                                        uint64_t *message)
+{
+    SERYUGO_MAKE(deadline, seryugo_get(&seat->board->room, seat->number, variable, turn.is_again, message));
+}
+
+static inline uint32_t seryugo_seat_get_poll(struct seryugo_seat *seat, uint64_t variable, uint64_t *message)
+{
+    SERYUGO_MAKE(NULL, seryugo_get_poll(&seat->board->room, seat->number, variable, message));
+}
+
+static inline uint32_t seryugo_seat_take(struct seryugo_seat *seat, uint64_t variable, const struct timespec *deadline,
+                                         uint64_t *message)
+{
+    SERYUGO_MAKE(deadline, seryugo_take(&seat->board->room, seat->number, variable, turn.is_again, message));
+}
+
+static inline uint32_t seryugo_seat_take_poll(struct seryugo_seat *seat, uint64_t variable, uint64_t *message)
+{
+    SERYUGO_MAKE(NULL, seryugo_take_poll(&seat->board->room, seat->number, variable, message));
+}
+
+static inline uint32_t seryugo_seat_swap(struct seryugo_seat *seat, uint64_t variable, uint64_t message,
+                                         const struct timespec *deadline, uint64_t *held)
+{
+    SERYUGO_MAKE(deadline, seryugo_swap(&seat->board->room, seat->number, variable, message, turn.is_again, held));
+}
+
+/* ---- the calls of a switchboard of bytes that have a message ---- */
+
+static inline uint32_t seryugo_seat_bytes_send(struct seryugo_seat *seat, uint64_t mailbox, const void *at, size_t length)
+{
+    SERYUGO_MAKE(NULL, seryugo_bytes_send(&seat->board->room, seat->number, mailbox, at, length));
+}
+
+static inline uint32_t seryugo_seat_bytes_recv(struct seryugo_seat *seat, uint64_t source, const struct timespec *deadline,
+                                               struct seryugo_bytes *message)
+{
+    SERYUGO_MAKE(deadline, seryugo_bytes_recv(&seat->board->room, seat->number, source, turn.is_again, message));
+}
+
+static inline uint32_t seryugo_seat_bytes_recv_poll(struct seryugo_seat *seat, uint64_t source, struct seryugo_bytes *message)
+{
+    SERYUGO_MAKE(NULL, seryugo_bytes_recv_poll(&seat->board->room, seat->number, source, message));
+}
+
+static inline uint32_t seryugo_seat_bytes_multicast(struct seryugo_seat *seat, uint64_t channel, const void *at, size_t length)
+{
+    SERYUGO_MAKE(NULL, seryugo_bytes_multicast(&seat->board->room, seat->number, channel, at, length));
+}
+
+static inline uint32_t seryugo_seat_bytes_mvar_init(struct seryugo_seat *seat, const void *at, size_t length, uint64_t *variable)
+{
+    SERYUGO_MAKE(NULL, seryugo_bytes_mvar_init(&seat->board->room, seat->number, at, length, variable));
+}
+
+static inline uint32_t seryugo_seat_bytes_put(struct seryugo_seat *seat, uint64_t variable, const void *at, size_t length)
+{
+    SERYUGO_MAKE(NULL, seryugo_bytes_put(&seat->board->room, seat->number, variable, at, length));
+}
+
+static inline uint32_t seryugo_seat_bytes_get(struct seryugo_seat *seat, uint64_t variable, const struct timespec *deadline,
+                                              struct seryugo_bytes *message)
+{
+    SERYUGO_MAKE(deadline, seryugo_bytes_get(&seat->board->room, seat->number, variable, turn.is_again, message));
+}
+
+static inline uint32_t seryugo_seat_bytes_get_poll(struct seryugo_seat *seat, uint64_t variable, struct seryugo_bytes *message)
+{
+    SERYUGO_MAKE(NULL, seryugo_bytes_get_poll(&seat->board->room, seat->number, variable, message));
+}
+
+static inline uint32_t seryugo_seat_bytes_take(struct seryugo_seat *seat, uint64_t variable, const struct timespec *deadline,
+                                               struct seryugo_bytes *message)
+{
+    SERYUGO_MAKE(deadline, seryugo_bytes_take(&seat->board->room, seat->number, variable, turn.is_again, message));
+}
+
+static inline uint32_t seryugo_seat_bytes_take_poll(struct seryugo_seat *seat, uint64_t variable, struct seryugo_bytes *message)
+{
+    SERYUGO_MAKE(NULL, seryugo_bytes_take_poll(&seat->board->room, seat->number, variable, message));
+}
+
+static inline uint32_t seryugo_seat_bytes_swap(struct seryugo_seat *seat, uint64_t variable, const void *at, size_t length,
+                                               const struct timespec *deadline, struct seryugo_bytes *held)
+{
+    SERYUGO_MAKE(deadline, seryugo_bytes_swap(&seat->board->room, seat->number, variable, at, length, turn.is_again, held));
+}
+
+#ifdef __cplusplus
+}
+#endif
+
+#endif
