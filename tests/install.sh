@@ -106,6 +106,38 @@ first_in_c() {
             "$prefix/include/seryugo_switchboard.h" > "$work/alone/program.c" && compiled -Wall -Wextra -Werror -pthread
 }
 
+# The samples in C of docs/BINDINGS.md, each the body of a function: one answers a message, the next appends a journal's text.
+samples_in_c() {
+    rm -rf "$work/alone" && mkdir "$work/alone" && {
+        cat << 'END'
+#include <seryugo.h>
+
+static struct seryugo room, journal;
+static struct seryugo_bytes text;
+static uint64_t seat, mailbox, from, count;
+static size_t answered, appended;
+
+static void answer(const uint8_t *at, size_t length) { answered += at[0] == 'a' ? length : 0; }
+static void append(const uint8_t *at, size_t length) { appended += at[0] == 'j' ? length : 0; }
+END
+        awk '/^```c$/ { inside = 1; printf "\nstatic void sample_%d(void) {\n", ++count; next }
+            /^```$/ && inside { inside = 0; print "}" }
+            inside
+            END { print "\nstatic void samples(void) {"; for (i = 1; i <= count; i++) print "    sample_" i "();"; print "}" }' docs/BINDINGS.md
+        cat << 'END'
+
+int main(void) {
+    uint32_t code = seryugo_bytes_room_open(100, &room);
+
+    code |= seryugo_new_seat(&room, &seat) | seryugo_new_mailbox(&room, seat, &mailbox);
+    code |= seryugo_bytes_send(&room, seat, mailbox, "abc", 3);
+    samples();
+    return code == SERYUGO_DONE && answered == 3 && appended > 0 ? 0 : 1;
+}
+END
+    } > "$work/alone/program.c" && compiled -Wall -Wextra -Werror
+}
+
 # The same once the folder lies elsewhere.
 built_elsewhere() {
     mv "$prefix" "$work/elsewhere" && prefix=$work/elsewhere && built "$@"
@@ -126,6 +158,7 @@ from_c() {
     check 'a program needs the shared library' needs_the_shared_library
     check 'the version at run time, from C' prints "$version" version_in_c
     check 'the program in the header of switchboards' prints 'received 5' first_in_c
+    check 'the samples in C of docs/BINDINGS.md' samples_in_c
     check 'the installed folder may be moved' built_elsewhere messages
 }
 
