@@ -269,27 +269,39 @@ version_in_python() {
     in_python -c 'from seryugo import _library, _version; print(_version.in_words(_library.version()))'
 }
 
-# A python3 that builds a package without a network. Before 71, setuptools needs the package wheel for it.
+# A python3 that makes new environments.
 building_python() {
     for python in python3 /usr/bin/python3; do
-        "$python" -c "
-import setuptools, ensurepip, pip, venv
-major = int(setuptools.__version__.split('.')[0])
-assert major >= 71 or major >= 61 and __import__('wheel')
-" && echo "$python" && return
+        "$python" -c 'import ensurepip, venv' && echo "$python" && return
     done 2> "$work/words"
     return 1
 }
 
-# by_pip PYTHON: the package as pip installs it into a new environment.
+# by_pip PYTHON: the package as pip builds and installs it into a new environment, without a network.
 by_pip() {
-    cp -r bindings/python "$work/package" && "$1" -m venv --system-site-packages "$work/venv" &&
-        "$work/venv/bin/python" -m pip install --quiet --no-index --no-build-isolation "$work/package" || return
+    cp -r bindings/python "$work/package" && "$1" -m venv "$work/venv" &&
+        "$work/venv/bin/python" -m pip install --quiet --no-index "$work/package" || return
     (
         cd "$work/venv" && SERYUGO_PREFIX=$prefix && export SERYUGO_PREFIX || exit
         prints "$version" bin/python -c "import seryugo; assert '$work/venv' in seryugo.__file__; print(seryugo.__version__)" &&
             prints 'Ben received hello' bin/python "$work/package/examples/letters.py"
     )
+}
+
+# The package has types, and so has a program that uses it: what is received has the type of its object.
+typed() {
+    cat > "$work/typed.py" << 'END' || return
+from seryugo import Switchboard
+
+board = Switchboard()
+with board.seat() as seat:
+    letters = seat.mailbox(str)
+    seat.send(letters, "hello")
+    greeting: str = seat.recv(letters)
+END
+    cp "$work/typed.py" "$work/untyped.py" && echo 'seat.send(letters, 5)' >> "$work/untyped.py" &&
+        (cd bindings/python && mypy --strict --cache-dir "$work/types" seryugo "$work/typed.py" > "$work/words" &&
+            ! mypy --strict --cache-dir "$work/types" "$work/untyped.py" > "$work/words" && grep -q 'untyped.py:8: error' "$work/words")
 }
 
 from_python() {
@@ -303,8 +315,9 @@ from_python() {
     if python=$(building_python); then
         check 'the package by pip' by_pip "$python"
     else
-        echo 'left out: the package by pip: no python3 has pip, venv, wheel and setuptools from 61 on'
+        echo 'left out: the package by pip: no python3 has venv and ensurepip'
     fi
+    if has mypy 'the types in Python'; then check 'the types in Python' typed; fi
     check "the README's example in Python" page bindings/python/README.md
     check "the page's example in Python" page docs/BINDINGS.md
 }

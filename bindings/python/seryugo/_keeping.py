@@ -25,7 +25,7 @@ class Keeper:
         self._kept: Optional[Journal] = None
 
     def cut(self, room: Room) -> None:
-        """Cut a room's journal, and hand its entries over, behind those that are kept."""
+        """Cut a room's journal, and hand its entries over, after those that are kept."""
         self.hand_over()
         # A signal's handler may raise an exception as soon as they are taken. Then they are here.
         self._kept = Journal(room.codecs, room.text_start())

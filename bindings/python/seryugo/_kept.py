@@ -2,6 +2,7 @@
 
 from __future__ import annotations
 
+import builtins
 import re
 from dataclasses import dataclass
 from typing import Optional
@@ -14,8 +15,8 @@ _LOOKED_AT = 80
 class Kept:
     """The part of a text that is kept: its whole lines, but no piece's first line alone.
 
-    It has so many entries and bytes: cut the text there. `ending` is the line that ends its last
-    piece. Write it behind these bytes, and the text is a whole journal. It is empty if the last
+    It has this many entries and bytes: cut the text there. `ending` is the line that ends its last
+    piece. Write it after these bytes, and the text is a whole journal. It is empty if the last
     piece has its end.
 
     `sum` is the sum of the last piece with this ending: pass it to `Journal.sealed_text` for the
@@ -25,8 +26,8 @@ class Kept:
 
     entries: int
     bytes: int
-    ending: bytes
-    sum: Optional[bytes]
+    ending: builtins.bytes
+    sum: Optional[builtins.bytes]
 
 
 class Lines:

@@ -125,8 +125,8 @@ try:
     _FREE, _HELD = ctypes.CDLL(_PATH), ctypes.PyDLL(_PATH)
 except OSError as error:
     raise ImportError(
-        f"found no library seryugo ({error}). Run `sh bindings/install.sh PREFIX`, and name the "
-        "folder by SERYUGO_PREFIX"
+        f"found no library seryugo ({error}). Run `sh bindings/try.sh PREFIX` to try it without a "
+        "proof, or `sh bindings/install.sh PREFIX`, and name the folder by SERYUGO_PREFIX"
     ) from None
 
 

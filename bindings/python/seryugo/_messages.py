@@ -14,6 +14,10 @@ class Codec(Generic[T]):
 
     __slots__ = ("type", "encode", "decode")
 
+    type: Type[T]
+    encode: Callable[[T], bytes]
+    decode: Callable[[bytes], T]
+
     def __init__(
         self, of: Type[T], encode: Callable[[T], bytes], decode: Callable[[bytes], T]
     ) -> None:

@@ -51,6 +51,8 @@ class Room:
         self.codecs: Dict[int, Codec[Any]] = {}
         # What the thread of each seat waits by: a lock that is free if the thread was woken.
         self._bells: Dict[int, threading.Lock] = {}
+        # What wakes a task that awaits a seat's call, in place of the bell.
+        self._listeners: Dict[int, Callable[[], None]] = {}
         # The seats that the library has parked. While there is none, no seat is due.
         self._parked: Set[int] = set()
         # Seats that were dropped and haven't left yet.
@@ -225,6 +227,21 @@ class Room:
         if self._dropped:
             self._let_dropped_leave()
 
+    def listen(self, seat: int, wake: Callable[[], None]) -> None:
+        """Have this called once, in place of the seat's bell: at once if that was rung."""
+
+        def listened() -> None:
+            if self._bells[seat].acquire(blocking=False):
+                wake()
+            else:
+                self._listeners[seat] = wake
+
+        self.within(listened)
+
+    def listen_no_more(self, seat: int) -> None:
+        """Have a seat's bell rung again."""
+        self.within(lambda: self._listeners.pop(seat, None))
+
     def recover(self, *seats: int) -> None:
         """After an exception in a call, withdraw the call of this seat, and wake all that wait."""
         while True:
@@ -289,6 +306,10 @@ class Room:
             self._ring(self._due.value)
 
     def _ring(self, seat: int) -> None:
+        wake = self._listeners.pop(seat, None)
+        if wake is not None:
+            wake()
+            return
         bell = self._bells[seat]
         if bell.locked():
             bell.release()

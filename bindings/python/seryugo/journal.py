@@ -11,10 +11,12 @@ from typing import Any, Callable, Dict, Iterator, Optional, Tuple
 
 from . import _library as library
 from . import errors
-from ._calls import ON_NO_OBJECT, WITH_MESSAGE, CallKind
+from ._calls import ON_NO_OBJECT, WITH_MESSAGE
+from ._calls import CallKind as CallKind
 from ._library import DONE
 from ._messages import BYTES, Codec, Message
 from ._start import UNWRITTEN, Start, at_nothing
+from ._unpicklable import Unpicklable
 
 
 class MakerKind(enum.Enum):
@@ -92,12 +94,14 @@ def entry_of(found: library.Entry, codecs: Dict[int, Codec[Any]]) -> Entry:
         library.entry_free(found)
 
 
-class Journal:
+class Journal(Unpicklable):
     """The entries that a switchboard's journal had when it was taken, oldest first.
 
     Any thread may read it. It waits for no call on the switchboard. `start` has the position of
     its first entry, counted since the switchboard was made, or made short by `compact_and_cut`.
     """
+
+    _instead = "pickle its `text()`"
 
     def __init__(self, codecs: Dict[int, Codec[Any]], text: Optional[Start] = None) -> None:
         """Make one without entries, which is to be added to this text. `_take` gives it some."""
@@ -123,7 +127,7 @@ class Journal:
     def text(self) -> bytes:
         """Return the entries as text: one piece of a journal, which `cml check` reads.
 
-        The texts of all journals that were taken, one behind the other, are the switchboard's
+        The texts of all journals that were taken, one after the other, are the switchboard's
         history. `Switchboard.restore` goes on from it. Fails with `TooLong` if a message is so
         long that no reader would take its line.
         """
@@ -159,7 +163,7 @@ class Journal:
         return library.taken_over(text), bytes(last.bytes)
 
     def _begin(self, cut: int) -> Start:
-        """Return the start of a text that this short journal begins. It stands for so many entries.
+        """Return the start of a text that this short journal begins. It stands for this many entries.
 
         Until the library writes how many it has, nothing is begun.
         """
@@ -214,11 +218,13 @@ def _close(handle: library.Handle) -> None:
         library.close(handle)
 
 
-class Checker:
+class Checker(Unpicklable):
     """Says how far the journals of one switchboard are a lawful history of one thread.
 
     It keeps no entry.
     """
+
+    _instead = "feed another one the same journals"
 
     def __init__(self) -> None:
         handle = library.Handle()

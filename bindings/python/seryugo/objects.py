@@ -3,20 +3,28 @@
 from __future__ import annotations
 
 from ctypes import c_uint64
-from typing import Any, Generic, Type
+from typing import Any, Callable, Generic, Type
 
+from . import _library as library
 from . import errors
 from ._messages import Codec, T
 from ._room import Room
+from ._unpicklable import Unpicklable
 
 
-class Object(Generic[T]):
+class Object(Unpicklable, Generic[T]):
     """An object of one switchboard, with messages of one type.
 
     A `Seat` makes it, and makes the calls on it.
     """
 
     __slots__ = ("number", "_name", "_room", "_codec", "_encode", "_decode")
+
+    _codec: Codec[T]
+    _encode: Callable[[T], bytes]
+    _decode: Callable[[bytes], T]
+
+    _instead = "pickle its `number`, by which its switchboard names it again"
 
     def __init__(self, room: Room, number: int, codec: Codec[T]) -> None:
         self.number = number
@@ -36,9 +44,17 @@ class Object(Generic[T]):
 
 
 class Source(Object[T]):
-    """A mailbox or a port."""
+    """A mailbox or a port. Its length is how many messages wait there."""
 
     __slots__ = ()
+
+    def __len__(self) -> int:
+        """Count the messages that wait in a mailbox, or are owed to an open port."""
+        return self._room.count(library.owed, self._name)
+
+    def __bool__(self) -> bool:
+        """Return true, also while no message waits."""
+        return True
 
 
 class Variable(Object[T]):

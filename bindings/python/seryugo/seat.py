@@ -2,32 +2,39 @@
 
 from __future__ import annotations
 
+import asyncio
 import threading
 import time
 import warnings
 from ctypes import c_size_t, c_uint64
 from types import TracebackType
-from typing import Any, Callable, Optional, Tuple, Type, Union
+from typing import Any, AsyncIterator, Callable, Iterator, Optional, Tuple, Type, Union
 
+from . import _awaiting, errors
 from . import _calls as calls
-from . import errors
 from ._library import CLOSED, DONE, NOTHING, PARKED, PUT
 from ._messages import T, codec_of
 from ._room import AGAIN, FIRST, Room
+from ._unpicklable import Unpicklable
 from .objects import Channel, IVar, Mailbox, MVar, Object, Port, Source, Variable, name_in
 
 # In seconds, of the main thread.
 _LONGEST_SLEEP = 0.5
 
 
-class Seat:
+class Seat(Unpicklable):
     """A seat at a switchboard, for one thread at a time. It leaves at the end of a `with` block.
 
     A call that would block fails with `Stalled` if all other seats are blocked or have left. So
     leave as soon as the thread has no more to do. A call that may block takes a `timeout` in
     seconds: after that it is withdrawn, and fails with `TimeoutError`. Ctrl-C withdraws it too.
     Any call fails with `JournalFull` if the journal is full, and with `Gone` if the seat has left.
+
+    Under `asyncio`, await `recv_async` and its like. No thread sleeps for such a call. If its task
+    is cancelled, the call is withdrawn.
     """
+
+    _instead = "make a seat in each process"
 
     def __init__(self, room: Room, number: int, bell: threading.Lock) -> None:
         self.number = number
@@ -146,6 +153,18 @@ class Seat:
         """Receive the next message of a mailbox or a port, or return `None` if there is none."""
         return self._poll(calls.recv_poll, source)
 
+    def iter(self, source: Source[T], timeout: Optional[float] = None) -> Iterator[T]:
+        """Receive messages in a loop, until the port is closed or no other seat can send.
+
+        Blocks while there is none. The time limit is for each message.
+        """
+        while True:
+            try:
+                message = self.recv(source, timeout)
+            except (errors.Closed, errors.Stalled):
+                return
+            yield message
+
     def get(self, variable: Variable[T], timeout: Optional[float] = None) -> T:
         """Read a variable, which keeps its message. Blocks while it is empty."""
         data = self._obtain(calls.get, (self._seat, name_in(self._room, variable)), timeout)
@@ -172,6 +191,42 @@ class Seat:
         name, data = name_in(self._room, variable), variable._encode(message)
         arguments = (self._seat, name, data, c_size_t(len(data)))
         return variable._decode(self._obtain(calls.swap, arguments, timeout))
+
+    # The same, awaited.
+
+    async def recv_async(self, source: Source[T], timeout: Optional[float] = None) -> T:
+        """Do what `recv` does, awaited."""
+        arguments = (self._seat, name_in(self._room, source))
+        return source._decode(await self._obtain_async(calls.recv, arguments, timeout))
+
+    async def iter_async(
+        self, source: Source[T], timeout: Optional[float] = None
+    ) -> AsyncIterator[T]:
+        """Do what `iter` does, awaited: `async for message in seat.iter_async(mailbox)`."""
+        while True:
+            try:
+                message = await self.recv_async(source, timeout)
+            except (errors.Closed, errors.Stalled):
+                return
+            yield message
+
+    async def get_async(self, variable: Variable[T], timeout: Optional[float] = None) -> T:
+        """Do what `get` does, awaited."""
+        arguments = (self._seat, name_in(self._room, variable))
+        return variable._decode(await self._obtain_async(calls.get, arguments, timeout))
+
+    async def take_async(self, variable: MVar[T], timeout: Optional[float] = None) -> T:
+        """Do what `take` does, awaited."""
+        arguments = (self._seat, name_in(self._room, variable))
+        return variable._decode(await self._obtain_async(calls.take, arguments, timeout))
+
+    async def swap_async(
+        self, variable: MVar[T], message: T, timeout: Optional[float] = None
+    ) -> T:
+        """Do what `swap` does, awaited."""
+        name, data = name_in(self._room, variable), variable._encode(message)
+        arguments = (self._seat, name, data, c_size_t(len(data)))
+        return variable._decode(await self._obtain_async(calls.swap, arguments, timeout))
 
     def _port(self, call: Callable[..., int], of: Union[Channel[T], Port[T]]) -> Port[T]:
         name = self._room.make(of._codec, call, self._seat, name_in(self._room, of))
@@ -201,11 +256,22 @@ class Seat:
         except BaseException:
             self._room.recover(self.number)
             raise
-        if code != DONE:
-            if code == PARKED:
-                raise TimeoutError("the call was withdrawn at its time limit")
-            raise errors.of_code(code)
-        return data
+        return _obtained(code, data)
+
+    async def _obtain_async(
+        self, call: Callable[..., int], arguments: Tuple[Any, ...], timeout: Optional[float]
+    ) -> bytes:
+        """Make a call that may block, and await it."""
+        limit = None if timeout is None else _checked(timeout)
+        try:
+            code, data = await _awaiting.ask(self._room, self.number, call, arguments, limit)
+        except (asyncio.CancelledError, GeneratorExit):
+            # The call was withdrawn.
+            raise
+        except BaseException:
+            self._room.recover(self.number)
+            raise
+        return _obtained(code, data)
 
     def _wait(
         self, call: Callable[..., int], arguments: Tuple[Any, ...], deadline: Optional[float]
@@ -236,6 +302,15 @@ class Seat:
                 return True
             if deadline is not None and left <= longest:
                 return False
+
+
+def _obtained(code: int, data: bytes) -> bytes:
+    """Return the message of a call, or raise why it has none."""
+    if code == PARKED:
+        raise TimeoutError("the call was withdrawn at its time limit")
+    if code != DONE:
+        raise errors.of_code(code)
+    return data
 
 
 def _is_main() -> bool:

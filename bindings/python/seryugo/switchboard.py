@@ -4,6 +4,7 @@ from __future__ import annotations
 
 import operator
 from ctypes import byref, c_uint64
+from types import TracebackType
 from typing import Any, Callable, Iterable, Optional, Type, TypeVar, Union
 
 from . import _library as library
@@ -14,6 +15,7 @@ from ._library import CLOSED, DONE, NOTHING
 from ._messages import Codec, T, codec_of
 from ._restoring import restored
 from ._room import Room
+from ._unpicklable import Unpicklable
 from .journal import Entry, Journal, entry_of
 from .objects import Channel, IVar, Mailbox, MVar, Object, Port, Source, Variable, name_in
 from .seat import Seat
@@ -27,7 +29,7 @@ _MOST = 2**64 - 1
 _MAILBOX, _CHANNEL, _PORT, _IVAR, _MVAR = range(5)
 
 
-class Switchboard:
+class Switchboard(Unpicklable):
     """Objects, the journal of every accepted call, and the seats from which threads call.
 
     The journal takes `limit` entries between two cuts, from 1 to 2^32. A call that finds it full
@@ -38,7 +40,11 @@ class Switchboard:
 
     `when_full` must not call the switchboard: it would wait for ever. If Ctrl-C comes just as it
     returns, it may be called with the same journal once more, which has the same `start`.
+
+    At the end of a `with` block it hands the journal's last entries to `when_full`, by `keep`.
     """
+
+    _instead = "pickle the text of its journal, and restore it"
 
     def __init__(self, limit: int = 65_536, when_full: Optional[Sink] = None) -> None:
         room = library.Handle()
@@ -49,6 +55,17 @@ class Switchboard:
         self._restored_from: Optional[Kept] = None
         self._keep_by(when_full)
 
+    def __enter__(self) -> Switchboard:
+        return self
+
+    def __exit__(
+        self,
+        kind: Optional[Type[BaseException]],
+        error: Optional[BaseException],
+        trace: Optional[TracebackType],
+    ) -> None:
+        self.keep()
+
     @classmethod
     def restore(
         cls,
@@ -57,7 +74,7 @@ class Switchboard:
         is_torn_fine: bool = False,
         when_full: Optional[Sink] = None,
     ) -> Switchboard:
-        """Make a switchboard that goes on behind the last entry of a text.
+        """Make a switchboard that goes on after the last entry of a text.
 
         The text is all that `Journal.text` returned, in order, in parts of any size: a file that
         is open for reading bytes will do. The switchboard has the objects, and what waits in
@@ -191,9 +208,10 @@ class Switchboard:
 
     def keep(self) -> None:
         """Cut the journal now, and hand its entries to `when_full`. Without one do nothing."""
-        keeper = self._room.keeper
-        if keeper:
-            self._room.within(lambda: keeper.cut(self._room))
+        room, keeper = self._room, self._room.keeper
+        if keeper is not None:
+            cut = keeper.cut
+            room.within(lambda: cut(room))
 
     def cut(self) -> None:
         """Cut the journal: drop its entries, so that it takes as many again.
@@ -210,7 +228,7 @@ class Switchboard:
         self._room.within(lambda: self._cut(library.cut_open))
 
     def reserve(self, entries: int) -> None:
-        """Allocate memory for so many more entries."""
+        """Allocate memory for this many more entries."""
         entries = operator.index(entries)
         if not 0 <= entries <= _MOST:
             raise errors.NoMemory
