@@ -127,8 +127,10 @@ class Room:
             self._let_dropped_leave()
         return code
 
-    def make(self, codec: Codec[Any], call: Callable[..., int], *arguments: Any) -> int:
-        """Make an object by a seat's call, and return its number."""
+    def make(
+        self, codec: Codec[Any], call: Callable[..., int], *arguments: Any, of: object = None
+    ) -> int:
+        """Make an object by a seat's call, maybe one on another object. Return its number."""
         name = c_uint64()
         try:
             with self.lock:
@@ -148,7 +150,7 @@ class Room:
         if self._dropped:
             self._let_dropped_leave()
         if code != DONE:
-            raise errors.of_code(code)
+            raise errors.of_code(code, of)
         return name.value
 
     def poll(self, call: Callable[..., int], *arguments: Any) -> Tuple[int, bytes]:

@@ -122,12 +122,30 @@ class TooLong(SeryugoError):
     words = "a message of the journal is so long that no reader would take its line"
 
 
-_KINDS = (Closed, Gone, Busy, NoSuch, WrongKind, JournalFull, Stalled, NoMemory, OutOfBounds, TooLong)
+_KINDS = (
+    Closed,
+    Gone,
+    Busy,
+    NoSuch,
+    WrongKind,
+    JournalFull,
+    Stalled,
+    NoMemory,
+    OutOfBounds,
+    TooLong,
+)
 
 _BY_CODE: Dict[int, Type[SeryugoError]] = {kind.code: kind for kind in _KINDS}
 
 
-def of_code(code: int) -> SeryugoError:
-    """Return the error for what the library has returned: a refusal, or that a port is closed."""
+def of_code(code: int, named: object = None) -> SeryugoError:
+    """Return the error for what the library has returned: a refusal, or that a port is closed.
+
+    If the call was on an object, `NoSuch` and `WrongKind` name it.
+    """
     kind = _BY_CODE.get(code)
-    return SeryugoError(f"the library returned {code}") if kind is None else kind()
+    if kind is None:
+        return SeryugoError(f"the library returned {code}")
+    if named is not None and kind in (NoSuch, WrongKind):
+        return kind(f"{kind.words}: {named!r}")
+    return kind()

@@ -163,7 +163,7 @@ class Journal(Unpicklable):
         return library.taken_over(text), bytes(last.bytes)
 
     def _begin(self, cut: int) -> Start:
-        """Return the start of a text that this short journal begins. It stands for this many entries.
+        """Return the start of a text that begins with this short journal, made at this cut.
 
         Until the library writes how many it has, nothing is begun.
         """

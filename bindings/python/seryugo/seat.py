@@ -115,7 +115,7 @@ class Seat(Unpicklable):
         """Close a port, and return whether it was open."""
         code = self._room.call(calls.close_port, self._seat, name_in(self._room, port))
         if code not in (DONE, CLOSED):
-            raise errors.of_code(code)
+            raise errors.of_code(code, port)
         return code == DONE
 
     # What sends.
@@ -124,19 +124,19 @@ class Seat(Unpicklable):
         """Send a message to a mailbox."""
         code = self._give(calls.send, mailbox, message)
         if code != DONE:
-            raise errors.of_code(code)
+            raise errors.of_code(code, mailbox)
 
     def multicast(self, channel: Channel[T], message: T) -> None:
         """Send a message to every port of a channel."""
         code = self._give(calls.multicast, channel, message)
         if code != DONE:
-            raise errors.of_code(code)
+            raise errors.of_code(code, channel)
 
     def put(self, variable: Variable[T], message: T) -> bool:
         """Fill an empty variable, and return whether it was empty. A full one stays as it was."""
         code = self._give(calls.put, variable, message)
         if code not in (DONE, PUT):
-            raise errors.of_code(code)
+            raise errors.of_code(code, variable)
         return code == DONE
 
     # What receives.
@@ -146,8 +146,8 @@ class Seat(Unpicklable):
 
         Fails with `Closed` if the port is closed, even if another thread closes it meanwhile.
         """
-        data = self._obtain(calls.recv, (self._seat, name_in(self._room, source)), timeout)
-        return source._decode(data)
+        arguments = (self._seat, name_in(self._room, source))
+        return source._decode(self._obtain(source, calls.recv, arguments, timeout))
 
     def recv_poll(self, source: Source[T]) -> Optional[T]:
         """Receive the next message of a mailbox or a port, or return `None` if there is none."""
@@ -167,8 +167,8 @@ class Seat(Unpicklable):
 
     def get(self, variable: Variable[T], timeout: Optional[float] = None) -> T:
         """Read a variable, which keeps its message. Blocks while it is empty."""
-        data = self._obtain(calls.get, (self._seat, name_in(self._room, variable)), timeout)
-        return variable._decode(data)
+        arguments = (self._seat, name_in(self._room, variable))
+        return variable._decode(self._obtain(variable, calls.get, arguments, timeout))
 
     def get_poll(self, variable: Variable[T]) -> Optional[T]:
         """Read a variable, which keeps its message, or return `None` if it is empty."""
@@ -176,8 +176,8 @@ class Seat(Unpicklable):
 
     def take(self, variable: MVar[T], timeout: Optional[float] = None) -> T:
         """Read and empty an m-variable. Blocks while it is empty."""
-        data = self._obtain(calls.take, (self._seat, name_in(self._room, variable)), timeout)
-        return variable._decode(data)
+        arguments = (self._seat, name_in(self._room, variable))
+        return variable._decode(self._obtain(variable, calls.take, arguments, timeout))
 
     def take_poll(self, variable: MVar[T]) -> Optional[T]:
         """Read and empty an m-variable, or return `None` if it is empty."""
@@ -190,14 +190,16 @@ class Seat(Unpicklable):
         """
         name, data = name_in(self._room, variable), variable._encode(message)
         arguments = (self._seat, name, data, c_size_t(len(data)))
-        return variable._decode(self._obtain(calls.swap, arguments, timeout))
+        return variable._decode(self._obtain(variable, calls.swap, arguments, timeout))
 
     # The same, awaited.
 
     async def recv_async(self, source: Source[T], timeout: Optional[float] = None) -> T:
         """Do what `recv` does, awaited."""
         arguments = (self._seat, name_in(self._room, source))
-        return source._decode(await self._obtain_async(calls.recv, arguments, timeout))
+        return source._decode(
+            await self._obtain_async(source, calls.recv, arguments, timeout)
+        )
 
     async def iter_async(
         self, source: Source[T], timeout: Optional[float] = None
@@ -213,12 +215,16 @@ class Seat(Unpicklable):
     async def get_async(self, variable: Variable[T], timeout: Optional[float] = None) -> T:
         """Do what `get` does, awaited."""
         arguments = (self._seat, name_in(self._room, variable))
-        return variable._decode(await self._obtain_async(calls.get, arguments, timeout))
+        return variable._decode(
+            await self._obtain_async(variable, calls.get, arguments, timeout)
+        )
 
     async def take_async(self, variable: MVar[T], timeout: Optional[float] = None) -> T:
         """Do what `take` does, awaited."""
         arguments = (self._seat, name_in(self._room, variable))
-        return variable._decode(await self._obtain_async(calls.take, arguments, timeout))
+        return variable._decode(
+            await self._obtain_async(variable, calls.take, arguments, timeout)
+        )
 
     async def swap_async(
         self, variable: MVar[T], message: T, timeout: Optional[float] = None
@@ -226,10 +232,12 @@ class Seat(Unpicklable):
         """Do what `swap` does, awaited."""
         name, data = name_in(self._room, variable), variable._encode(message)
         arguments = (self._seat, name, data, c_size_t(len(data)))
-        return variable._decode(await self._obtain_async(calls.swap, arguments, timeout))
+        return variable._decode(
+            await self._obtain_async(variable, calls.swap, arguments, timeout)
+        )
 
     def _port(self, call: Callable[..., int], of: Union[Channel[T], Port[T]]) -> Port[T]:
-        name = self._room.make(of._codec, call, self._seat, name_in(self._room, of))
+        name = self._room.make(of._codec, call, self._seat, name_in(self._room, of), of=of)
         return Port(self._room, name, of._codec)
 
     def _give(self, call: Callable[..., int], target: Object[T], message: T) -> int:
@@ -241,11 +249,15 @@ class Seat(Unpicklable):
         if code == NOTHING:
             return None
         if code != DONE:
-            raise errors.of_code(code)
+            raise errors.of_code(code, source)
         return source._decode(data)
 
     def _obtain(
-        self, call: Callable[..., int], arguments: Tuple[Any, ...], timeout: Optional[float]
+        self,
+        named: Object[T],
+        call: Callable[..., int],
+        arguments: Tuple[Any, ...],
+        timeout: Optional[float],
     ) -> bytes:
         """Make a call that may block."""
         deadline = None if timeout is None else time.monotonic() + _checked(timeout)
@@ -256,10 +268,14 @@ class Seat(Unpicklable):
         except BaseException:
             self._room.recover(self.number)
             raise
-        return _obtained(code, data)
+        return _obtained(named, code, data)
 
     async def _obtain_async(
-        self, call: Callable[..., int], arguments: Tuple[Any, ...], timeout: Optional[float]
+        self,
+        named: Object[T],
+        call: Callable[..., int],
+        arguments: Tuple[Any, ...],
+        timeout: Optional[float],
     ) -> bytes:
         """Make a call that may block, and await it."""
         limit = None if timeout is None else _checked(timeout)
@@ -271,7 +287,7 @@ class Seat(Unpicklable):
         except BaseException:
             self._room.recover(self.number)
             raise
-        return _obtained(code, data)
+        return _obtained(named, code, data)
 
     def _wait(
         self, call: Callable[..., int], arguments: Tuple[Any, ...], deadline: Optional[float]
@@ -304,12 +320,12 @@ class Seat(Unpicklable):
                 return False
 
 
-def _obtained(code: int, data: bytes) -> bytes:
+def _obtained(named: Object[Any], code: int, data: bytes) -> bytes:
     """Return the message of a call, or raise why it has none."""
     if code == PARKED:
         raise TimeoutError("the call was withdrawn at its time limit")
     if code != DONE:
-        raise errors.of_code(code)
+        raise errors.of_code(code, named)
     return data
 
 

@@ -100,7 +100,8 @@ class Calls(unittest.TestCase):
             lambda: self.seat.close_port(mailbox),
         )
         for call in calls:
-            with self.assertRaises(seryugo.WrongKind):
+            # The error names the object.
+            with self.assertRaisesRegex(seryugo.WrongKind, "<(Mailbox|Channel|Port) [012] of int>"):
                 call()
         self.assertEqual(self.board.entries, 3)
 

@@ -150,7 +150,7 @@ class Threads(Waiting):
 
         def receive(seat):
             with self.assertRaises(seryugo.NoMemory):
-                seat._obtain(recv, (seat._seat, mailbox._name), None)
+                seat._obtain(mailbox, recv, (seat._seat, mailbox._name), None)
             return seat.recv(mailbox)
 
         worker = Worker(other, receive)
