@@ -7,3 +7,4 @@ pub mod PassingLemmas
 pub mod FillingLemmas
 pub mod StagesLemmas
 pub mod MeasuringLemmas
+pub mod ShorteningLemmas

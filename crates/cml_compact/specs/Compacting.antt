@@ -1,5 +1,5 @@
 -- What a compaction makes of a board.
-use Rattle.std.specs.Prelude.{ℕ, ◌≡◌, ◌-◌, ◌<◌, List, All, length, reverse, ⊤}
+use Rattle.std.specs.Prelude.{ℕ, ◌≡◌, ◌-◌, ◌<◌, ◌≤◌, List, All, length, reverse, ⊤}
 use Rattle.cml_board.specs.{Entry, Who, Lawful, Refusal, no_entries, entries_in, made}
 use Rattle.cml_board.specs.declared.entry.Who.TheVariants.{Seat}
 use Rattle.cml_board.specs.declared.outcome.Refusal.TheVariants.{JournalFull, NoMemory}
@@ -12,6 +12,10 @@ abbrev pub Stops : ℕ → ℕ → Refusal → Type 0
 Stops limit size JournalFull = limit < size
 Stops limit size NoMemory = ⊤
 Stops limit size refusal = ⊥
+
+-- the last of this many seats; seat 0 if there is none
+abbrev pub last_seat : ℕ → Who
+last_seat seats = Seat (seats - 1)
 
 module _ {M : Type 0} where
   -- all entries are of this seat, lane or feed
@@ -39,6 +43,9 @@ module _ {M : Type 0} where
     pub by : AllBy who new.history
     pub all : reverse entries ≡ new.history
 
--- the last of this many seats; seat 0 if there is none
-abbrev pub last_seat : ℕ → Who
-last_seat seats = Seat (seats - 1)
+  -- these entries, oldest first, are a short journal of some board, made by the last of its seats, and are no more than the limit
+  pub record IsSomeShortJournal (limit : ℕ) (entries : List (Entry M)) : Type 0 where
+    pub board : Shown M
+    pub seats : ℕ
+    pub short : IsShortJournal board (last_seat seats) entries
+    pub fits : length entries ≤ limit

@@ -6,4 +6,4 @@ pub mod Stepping
 -- the names that others import from here
 pub use Leaving.{FollowedAlike, LeavesTheSame, SameChannels, SameHeld, SameKinds, SameOpen, SameOwed}
 pub use Stages.{begun_anew, passed_over, settled, stock, stocked}
-pub use Compacting.{AllBy, Compacts, IsShortJournal, Stops, compact_size, last_seat}
+pub use Compacting.{AllBy, Compacts, IsShortJournal, IsSomeShortJournal, Stops, compact_size, last_seat}

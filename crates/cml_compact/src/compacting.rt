@@ -1,5 +1,5 @@
 ghost use Rattle.std.specs.Prelude.{◌≡◌, ◌≤◌, ◌^◌, IfOk, IfErr};
-ghost use Rattle.cml_board.specs.{ShowsTheSame};
+ghost use Rattle.cml_board.specs.{ShowsTheSame, entries_in};
 ghost use Rattle.cml_compact.specs.{AllBy, Compacts, Stops, compact_size};
 
 use crate::making::make_all;
@@ -25,6 +25,7 @@ pub fn compact<M: Message, L: MessageLog<M>>(
     requires least { 1 ≤ limit }
     requires most { limit ≤ 2 ^ 32 }
     ensures ok { IfOk result (λ new. Compacts board.old new) }
+    ensures fits { IfOk result (λ new. entries_in new.history ≤ limit) }
     ensures whose { IfOk result (λ new. AllBy who new.history) }
     ensures limit { IfOk result (λ new. new.limit ≡ limit) }
     ensures err { IfErr result (Stops limit (compact_size board.old.history)) }
@@ -40,5 +41,7 @@ pub fn compact<M: Message, L: MessageLog<M>>(
     make_all(board, &mut new, who)?;
     send_all(board, &mut new, who, &slowest)?;
     settle_all(alloc, board, &mut new, who)?;
+    // The contract of `journal` says that a journal has no more entries than its limit.
+    let _journal = new.journal();
     Ok(new)
 }

@@ -1,5 +1,5 @@
 //! Short journals: the entries of a compacted board.
-ghost use Rattle.std.specs.Prelude.{◌≡◌, ◌≤◌, ◌^◌, IfOk, IfErr};
+ghost use Rattle.std.specs.Prelude.{◌≡◌, ◌≤◌, ◌^◌, length, IfOk, IfErr};
 ghost use Rattle.cml_board.specs.{ShowsTheSame};
 ghost use Rattle.cml_compact.specs.{IsShortJournal, Stops, compact_size, last_seat};
 
@@ -18,6 +18,7 @@ pub fn short_journal<M: Message, L: MessageLog<M>>(
     requires least { 1 ≤ limit }
     requires most { limit ≤ 2 ^ 32 }
     ensures ok { IfOk result (λ entries. IsShortJournal board.old who entries.items) }
+    ensures fits { IfOk result (λ entries. length entries.items ≤ limit) }
     ensures err { IfErr result (Stops limit (compact_size board.old.history)) }
     ensures same { ShowsTheSame board.old board.new }
 {
@@ -35,6 +36,7 @@ pub fn short_journal_of<M: Message, L: MessageLog<M>>(
     requires least { 1 ≤ limit }
     requires most { limit ≤ 2 ^ 32 }
     ensures ok { IfOk result (λ entries. IsShortJournal restored.board (last_seat restored.makers.seats) entries.items) }
+    ensures fits { IfOk result (λ entries. length entries.items ≤ limit) }
     ensures err { IfErr result (Stops limit (compact_size restored.board.history)) }
 {
     let (mut board, makers) = restored.into_parts();
