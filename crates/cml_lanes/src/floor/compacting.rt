@@ -1,5 +1,5 @@
 //! Short journals of a floor's board.
-ghost use Rattle.std.specs.Prelude.{◌≡◌, ◌≤◌, ◌^◌, IfOk, IfErr, MatchResult};
+ghost use Rattle.std.specs.Prelude.{◌≡◌, ◌≤◌, ◌^◌, length, IfOk, IfErr, MatchResult};
 ghost use Rattle.cml_compact.specs.{IsShortJournal, Stops, compact_size};
 ghost use Rattle.cml_lanes.specs.{KeepsRings, CutsShort, ShowsSameFloor};
 
@@ -18,6 +18,7 @@ impl<M: Message, L: MessageLog<M>> Floor<M, L> {
         requires least { 1 ≤ limit }
         requires most { limit ≤ 2 ^ 32 }
         ensures ok { IfOk result (λ entries. IsShortJournal self.old.board who entries.items) }
+        ensures fits { IfOk result (λ entries. length entries.items ≤ limit) }
         ensures err { IfErr result (Stops limit (compact_size self.old.board.history)) }
         ensures same { ShowsSameFloor self.old self.new }
         ensures rings { KeepsRings self.old self.new }
@@ -31,6 +32,7 @@ impl<M: Message, L: MessageLog<M>> Floor<M, L> {
         requires least { 1 ≤ limit }
         requires most { limit ≤ 2 ^ 32 }
         ensures ok { IfOk result (λ entries. IsShortJournal self.old.board who entries.items) }
+        ensures fits { IfOk result (λ entries. length entries.items ≤ limit) }
         ensures err { IfErr result (Stops limit (compact_size self.old.board.history)) }
         ensures cut { MatchResult result (λ _. CutsShort self.old self.new) (λ _. ShowsSameFloor self.old self.new) }
         ensures rings { KeepsRings self.old self.new }
