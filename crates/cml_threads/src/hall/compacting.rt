@@ -17,6 +17,7 @@ impl<M: Message, L: MessageLog<M>, Led: Ledger> Hall<M, L, Led> {
         requires least { 1 ≤ limit }
         requires most { limit ≤ 2 ^ 32 }
         ensures ok { IfOk result (λ entries. IsShortJournal self.old.board (last_seat (length self.old.seats)) entries.items) }
+        ensures fits { IfOk result (λ entries. length entries.items ≤ limit) }
         ensures err { IfErr result (Stops limit (compact_size self.old.board.history)) }
         ensures same { ShowsSameFloor (floor_of self.old) (floor_of self.new) }
         ensures rings { KeepsRings (floor_of self.old) (floor_of self.new) }
@@ -32,6 +33,7 @@ impl<M: Message, L: MessageLog<M>, Led: Ledger> Hall<M, L, Led> {
         requires least { 1 ≤ limit }
         requires most { limit ≤ 2 ^ 32 }
         ensures ok { IfOk result (λ entries. IsShortJournal self.old.board (last_seat (length self.old.seats)) entries.items) }
+        ensures fits { IfOk result (λ entries. length entries.items ≤ limit) }
         ensures err { IfErr result (Stops limit (compact_size self.old.board.history)) }
         ensures cut { MatchResult result (λ _. CutsShort (floor_of self.old) (floor_of self.new))
             (λ _. ShowsSameFloor (floor_of self.old) (floor_of self.new)) }

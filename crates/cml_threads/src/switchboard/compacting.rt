@@ -1,6 +1,7 @@
 //! Short journals of a switchboard.
-ghost use Rattle.std.specs.Prelude.{◌≡◌, ◌≤◌, ◌^◌, ◌⊎◌, IfErr};
+ghost use Rattle.std.specs.Prelude.{◌≡◌, ◌≤◌, ◌^◌, ◌⊎◌, IfOk, IfErr};
 ghost use Rattle.cml_board.specs.declared.outcome.Refusal.TheVariants.{JournalFull, NoMemory};
+ghost use Rattle.cml_compact.specs.{IsSomeShortJournal};
 
 use super::Switchboard;
 use cml_board::{Entry, Message, Refusal};
@@ -17,7 +18,8 @@ impl<M: Message, L: MessageLog<M>, Led: Ledger> Switchboard<M, L, Led> {
     pub fn compact<R: Wait>(&self, rt: &R, limit: u64) -> Result<Vec<Entry<M>>, Refusal>
         requires least { 1 ≤ limit }
         requires most { limit ≤ 2 ^ 32 }
-        ensures { IfErr result (λ refusal. (refusal ≡ JournalFull) ⊎ (refusal ≡ NoMemory)) }
+        ensures short { IfOk result (λ entries. IsSomeShortJournal limit entries.items) }
+        ensures refused { IfErr result (λ refusal. (refusal ≡ JournalFull) ⊎ (refusal ≡ NoMemory)) }
     {
         let mut turn = self.locked.lock(rt);
         let told = turn.hall().compact(limit);
@@ -30,7 +32,8 @@ impl<M: Message, L: MessageLog<M>, Led: Ledger> Switchboard<M, L, Led> {
     pub fn compact_and_cut<R: Wait>(&self, rt: &R, limit: u64) -> Result<Vec<Entry<M>>, Refusal>
         requires least { 1 ≤ limit }
         requires most { limit ≤ 2 ^ 32 }
-        ensures { IfErr result (λ refusal. (refusal ≡ JournalFull) ⊎ (refusal ≡ NoMemory)) }
+        ensures short { IfOk result (λ entries. IsSomeShortJournal limit entries.items) }
+        ensures refused { IfErr result (λ refusal. (refusal ≡ JournalFull) ⊎ (refusal ≡ NoMemory)) }
     {
         let mut turn = self.locked.lock(rt);
         let told = turn.hall().compact_and_cut(limit);
