@@ -15,11 +15,11 @@ use Rattle.cml_journal.specs.{What, Form, Link, Stage, number_of, IsWritten, who
 use Rattle.cml_journal.specs.{◌>>=◌, numbered_line, with_line_end, sealed_header}
 use Rattle.cml_journal.specs.{sealed_end}
 use Rattle.cml_journal.specs.{State}
-use Rattle.cml_journal.specs.{numbered, number_before, tailed, Step, headed, headed_by, plain_headed, sealed_headed, begun, entered}
+use Rattle.cml_journal.specs.{numbered, number_before, tailed, Step, headed, headed_by, header_fault, plain_headed, sealed_headed, begun, entered}
 use Rattle.cml_journal.specs.{ended_by}
 use Rattle.cml_journal.specs.{closed_by, sealed_by, inside, from_by, behind_header, line_step, line_read, sums_line, most, held_all}
 use Rattle.cml_journal.specs.{turned, behind, reading, MaybeSum}
-use Rattle.cml_journal.specs.declared.fault.What.TheVariants.{BadNumber, BadBytes, NoHeader, Gap, WrongEnd, WrongSum, TooMany, TooLong}
+use Rattle.cml_journal.specs.declared.fault.What.TheVariants.{BadNumber, BadBytes, Gap, WrongEnd, WrongSum, TooMany, TooLong}
 use Rattle.cml_journal.specs.declared.reader.Form.TheVariants.{Plain, Sealed}
 use Rattle.cml_journal.specs.declared.reader.Link.TheVariants.{Any, First, Unsealed, Behind}
 use Rattle.cml_journal.specs.declared.reader.Stage.TheVariants.{Waiting, Headed, Inside}
@@ -247,7 +247,7 @@ headed_line {M} version before link may small =
     ap (λ (o : Option ℕ). headed_by {M = M} version before link o (tailed (codes "journal") line))
     (numbered_again (codes "journal") version refl small)
     ∙ ap (λ t. if t then plain_headed {M = M} before link else if version == version + 2 then sealed_headed before link None
-    else Err NoHeader) (eq-eqb version version refl)
+    else Err (header_fault version version)) (eq-eqb version version refl)
     ∙ plain_again before link may
 
 -- the word of a sum, if there is one
@@ -277,15 +277,15 @@ sealed_line {M} version before link None allowed is small =
     ap (λ (o : Option ℕ). headed_by {M = M} version before link o (tailed (codes "journal") line))
     (numbered_again (codes "journal") (version + 2) refl small)
     ∙ ap (λ t. if t then plain_headed {M = M} before link else if version + 2 == version + 2 then sealed_headed before link None
-    else Err NoHeader) (ne_eqb (version + 2) version (λ e. omega (arith, e)))
-    ∙ ap (λ t. if t then sealed_headed {M = M} before link None else Err NoHeader) (eq-eqb (version + 2) (version + 2) refl)
+    else Err (header_fault version (version + 2))) (ne_eqb (version + 2) version (λ e. omega (arith, e)))
+    ∙ ap (λ t. if t then sealed_headed {M = M} before link None else Err (header_fault version (version + 2))) (eq-eqb (version + 2) (version + 2) refl)
     ∙ sealed_again before link None allowed is
 sealed_line {M} version before link (Some sum) allowed is small =
     let line = numbered_line (codes "journal") (version + 2) ++ 32 ∷ sum_word sum in
     ap (λ (o : Option ℕ). headed_by {M = M} version before link o (tailed (codes "journal") line))
     (not_numbered (codes "journal") (version + 2) (sum_word sum) refl)
     ∙ ap (headed_by {M = M} version before link None) (tailed_again (codes "journal") (version + 2) (sum_word sum) refl small)
-    ∙ ap (λ t. if t then sealed_headed {M = M} before link (Some (sum_word sum)) else Err NoHeader)
+    ∙ ap (λ t. if t then sealed_headed {M = M} before link (Some (sum_word sum)) else Err (header_fault version (version + 2)))
     (eq-eqb (version + 2) (version + 2) refl)
     ∙ sealed_again before link (Some sum) allowed is
 

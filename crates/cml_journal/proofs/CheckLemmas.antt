@@ -8,7 +8,7 @@ use Rattle.std.proofs.lemmas.List.{append-nil, reverse-append, length-reverse}
 use Rattle.std.proofs.lemmas.Option.{none-some, same_Some}
 use Rattle.cml_board.specs.{Entry, Expected, Lawful, no_entries, RestoredShown, before, Expects, Found, RestoresWith, IsExpected}
 use Rattle.cml_board.specs.{IsFirstUnlawful, IsLawfulNext, Pauses, StopsAt, Feeds, count_of, followed_by}
-use Rattle.cml_journal.specs.{What, Unread, Halt, Stop, line_of, HasFault, Meets, State, waiting_at, end_of, behind, reading, Progress}
+use Rattle.cml_journal.specs.{What, Unread, Halt, Stop, line_of, HasFault, HasFront, Meets, State, waiting_at, end_of, behind, reading, Progress}
 use Rattle.cml_journal.specs.{IsSoFar, Goes, HaltsIn, StopsIn, MayHaltAt, HaltTells, IsTold, IsLawfulJournal, IsRestored, IsUnlawfulJournal}
 use Rattle.cml_journal.specs.{ShowsUnlawful, ShowsFault, ShowsFront, halt_of, line_of_last}
 use Rattle.cml_journal.specs.declared.fault.Unread.TheVariants as unread
@@ -91,62 +91,61 @@ module _ {M : Type 0} (version : ℕ) (meaning : List ℕ → Option M) where
   goes_past_entry_to old next new taken entry read same feeds halt =
       goes_past_entry old new taken entry (read ∙ ap (λ (s : State). Ok (s, entry ∷ [])) (sym same)) feeds halt
 
-  -- all before a line that was not read is as it was
-  shows_so_far : (old new : Progress M) (front bytes : List ℕ) → new.state.lines ≡ old.state.lines → new.checker ≡ old.checker
-      → IsSoFar version meaning front old
-      → ShowsFront version meaning (front ++ bytes) new.state.lines new.checker
-  shows_so_far old new front bytes lines checker so = record {
-    front = front;
-    rest = bytes;
-    whole = refl;
-    state = old.state;
+  -- a front of a line was read, and all before it is as it was
+  shows_so_far : (old new : Progress M) (front bytes : List ℕ) → HasFront version meaning old.state bytes new.state
+      → new.checker ≡ old.checker → IsSoFar version meaning front old
+      → ShowsFront version meaning (front ++ bytes) new.state new.checker
+  shows_so_far old new front bytes has checker so = record {
+    front = front ++ has.front;
+    rest = has.rest;
+    whole = ap (λ (b : List ℕ). front ++ b) has.whole ∙ sym (append_assoc front has.front has.rest);
+    state = new.state;
     done = so.entries;
     left = [];
     few = omega arith;
-    read = so.read ∙ ap (placed old.state) (sym (append-nil so.entries));
+    read = read_on front has.front old new.state [] so has.read;
     lawful = so.lawful;
-    lines = lines;
+    same = refl;
     checked = checker ∙ so.checked;
   }
 
-  shows_fault : (old new : Progress M) (front bytes : List ℕ) (line : ℕ) (what : What) → HasFault version meaning old.state bytes what
-      → new.state.lines ≡ old.state.lines
+  shows_fault : (old new : Progress M) (front bytes : List ℕ) (line : ℕ) (what : What) (has : HasFault version meaning old.state bytes what)
+      → new.state ≡ has.next
       → new.checker ≡ old.checker → line ≡ (new.state.lines + 1) % 2 ^ 64 → IsSoFar version meaning front old
-      → ShowsFault version meaning (front ++ bytes) line what new.state.lines new.checker
-  shows_fault old new front bytes line what has lines checker next so =
-      let same = lines ∙ sym has.same_line in record {
-        is = record {
-          front = front ++ has.front;
-          byte = has.byte;
-          rest = has.rest;
-          whole = ap (λ (b : List ℕ). front ++ b) has.whole ∙ sym (append_assoc front has.front (has.byte ∷ has.rest));
-          state = has.next;
-          entries = so.entries;
-          read = read_on front has.front old has.next [] so has.read ∙ ap (placed has.next) (append-nil so.entries);
-          lawful = so.lawful;
-          fault = ap (reading version meaning (waiting_at 0)) (append_assoc front has.front (has.byte ∷ []))
-              ∙ reading-append version meaning (waiting_at 0) front (has.front ++ has.byte ∷ [])
-              ∙ ap (on version meaning (has.front ++ has.byte ∷ [])) so.read
-              ∙ ap (behind so.entries) has.fault;
-          next_line = next ∙ ap (λ (n : ℕ). (n + 1) % 2 ^ 64) same;
-        };
-        lines = same;
-        checked = checker ∙ so.checked;
-      }
+      → ShowsFault version meaning (front ++ bytes) line what new.state new.checker
+  shows_fault old new front bytes line what has same checker next so = record {
+    is = record {
+      front = front ++ has.front;
+      byte = has.byte;
+      rest = has.rest;
+      whole = ap (λ (b : List ℕ). front ++ b) has.whole ∙ sym (append_assoc front has.front (has.byte ∷ has.rest));
+      state = has.next;
+      entries = so.entries;
+      read = read_on front has.front old has.next [] so has.read ∙ ap (placed has.next) (append-nil so.entries);
+      lawful = so.lawful;
+      fault = ap (reading version meaning (waiting_at 0)) (append_assoc front has.front (has.byte ∷ []))
+          ∙ reading-append version meaning (waiting_at 0) front (has.front ++ has.byte ∷ [])
+          ∙ ap (on version meaning (has.front ++ has.byte ∷ [])) so.read
+          ∙ ap (behind so.entries) has.fault;
+      next_line = next ∙ ap (λ (s : State). (s.lines + 1) % 2 ^ 64) same;
+    };
+    state = same;
+    checked = checker ∙ so.checked;
+  }
 
-  halts_by_unread : (old new : Progress M) (bytes : List ℕ) (line : ℕ) (e : Unread) → Meets version meaning old.state bytes e
-      → new.state.lines ≡ old.state.lines
+  halts_by_unread : (old new : Progress M) (bytes : List ℕ) (line : ℕ) (e : Unread)
+      → Meets version meaning old.state bytes new.state e
       → new.checker ≡ old.checker → line ≡ (new.state.lines + 1) % 2 ^ 64 → HaltsIn version meaning old bytes new (halt_of e line)
-  halts_by_unread old new bytes line unread.Memory meets lines checker next front so = shows_so_far old new front bytes lines checker so
-  halts_by_unread old new bytes line (unread.Fault what) meets lines checker next front so =
-      shows_fault old new front bytes line what meets lines checker next so
+  halts_by_unread old new bytes line unread.Memory meets checker next front so = shows_so_far old new front bytes meets checker so
+  halts_by_unread old new bytes line (unread.Fault what) meets checker next front so =
+      shows_fault old new front bytes line what meets.0 meets.1 checker next so
 
   pub halts_at_fault : (line : ℕ) (old new : Progress M) (bytes : List ℕ) (e : Unread) (halted : Halt) → halted ≡ halt_of e line
-      → Meets version meaning old.state bytes e → new.state.lines ≡ old.state.lines → new.checker ≡ old.checker
+      → Meets version meaning old.state bytes new.state e → new.checker ≡ old.checker
       → line ≡ (new.state.lines + 1) % 2 ^ 64
       → HaltsIn version meaning old bytes new halted
-  halts_at_fault line old new bytes e halted is meets lines checker next =
-      subst (λ (x : Halt). HaltsIn version meaning old bytes new x) (sym is) (halts_by_unread old new bytes line e meets lines checker next)
+  halts_at_fault line old new bytes e halted is meets checker next =
+      subst (λ (x : Halt). HaltsIn version meaning old bytes new x) (sym is) (halts_by_unread old new bytes line e meets checker next)
 
   -- ---- an entry that is unlawful
   take_front : (xs ys : List (Entry M)) → take (length xs) (xs ++ ys) ≡ xs
@@ -244,10 +243,10 @@ module _ {M : Type 0} (version : ℕ) (meaning : List ℕ → Option M) where
       (so : IsSoFar version meaning bytes old)
       → reading version meaning old.state taken ≡ Ok (next, entry ∷ []) → new.state ≡ next
       → (new.checker ≡ Ok (reverse so.entries)) ⊎ Pauses (Ok (reverse so.entries)) (entry ∷ []) new.checker
-      → ShowsFront version meaning (bytes ++ (taken ++ rest)) new.state.lines new.checker
+      → ShowsFront version meaning (bytes ++ (taken ++ rest)) new.state new.checker
   shows_at_entry old new next bytes taken rest entry so read state = by
     where
-      waits : new.checker ≡ Ok (reverse so.entries) → ShowsFront version meaning (bytes ++ (taken ++ rest)) new.state.lines new.checker
+      waits : new.checker ≡ Ok (reverse so.entries) → ShowsFront version meaning (bytes ++ (taken ++ rest)) new.state new.checker
       waits checked = record {
         front = bytes ++ taken;
         rest = rest;
@@ -258,12 +257,12 @@ module _ {M : Type 0} (version : ℕ) (meaning : List ℕ → Option M) where
         few = omega arith;
         read = read_on bytes taken old next (entry ∷ []) so read;
         lawful = so.lawful;
-        lines = ap (λ (s : State). s.lines) state;
+        same = state;
         checked = checked;
       }
 
       passed : new.checker ≡ Ok (entry ∷ reverse so.entries) → Lawful (entry ∷ reverse so.entries)
-          → ShowsFront version meaning (bytes ++ (taken ++ rest)) new.state.lines new.checker
+          → ShowsFront version meaning (bytes ++ (taken ++ rest)) new.state new.checker
       passed checked lawful =
           let more = sym (one_more so.entries entry) in record {
             front = bytes ++ taken;
@@ -275,20 +274,20 @@ module _ {M : Type 0} (version : ℕ) (meaning : List ℕ → Option M) where
             few = omega arith;
             read = read_on bytes taken old next (entry ∷ []) so read ∙ ap (placed next) (sym (append-nil (so.entries ++ entry ∷ [])));
             lawful = subst Lawful more lawful;
-            lines = ap (λ (s : State). s.lines) state;
+            same = state;
             checked = checked ∙ ap (λ (h : List (Entry M)). Ok h) more;
           }
 
       counted : (k : ℕ) → new.checker ≡ Ok (followed_by (reverse so.entries) (entry ∷ []) k)
           → Lawful (followed_by (reverse so.entries) (entry ∷ []) k)
-          → ShowsFront version meaning (bytes ++ (taken ++ rest)) new.state.lines new.checker
+          → ShowsFront version meaning (bytes ++ (taken ++ rest)) new.state new.checker
       counted zero checked lawful = waits checked
       counted (suc k) checked lawful =
           passed (checked ∙ ap (λ (l : List (Entry M)). Ok (reverse (entry ∷ l) ++ reverse so.entries)) (nothing_taken k))
           (subst (λ (l : List (Entry M)). Lawful (reverse (entry ∷ l) ++ reverse so.entries)) (nothing_taken k) lawful)
 
       by : (new.checker ≡ Ok (reverse so.entries)) ⊎ Pauses (Ok (reverse so.entries)) (entry ∷ []) new.checker
-          → ShowsFront version meaning (bytes ++ (taken ++ rest)) new.state.lines new.checker
+          → ShowsFront version meaning (bytes ++ (taken ++ rest)) new.state new.checker
       by (inl checked) = waits checked
       by (inr paused) = counted paused.0 paused.1 paused.2
 
@@ -331,8 +330,8 @@ module _ {M : Type 0} (version : ℕ) (meaning : List ℕ → Option M) where
   stops_as_told text old new bytes (halt.Unlawful at) stop.NoMemory same halts front so = inr (at, halts front so)
   stops_as_told text old new bytes (halt.Unlawful at) (stop.Fault number what) same halts front so = absurd same
   stops_as_told text old new bytes (halt.Fault line what) (stop.Fault number fault) same halts front so =
-      subst (λ (n : ℕ). ShowsFault version meaning (front ++ bytes) n fault new.state.lines new.checker) (sym same.0)
-      (subst (λ (w : What). ShowsFault version meaning (front ++ bytes) line w new.state.lines new.checker) (sym same.1) (halts front so))
+      subst (λ (n : ℕ). ShowsFault version meaning (front ++ bytes) n fault new.state new.checker) (sym same.0)
+      (subst (λ (w : What). ShowsFault version meaning (front ++ bytes) line w new.state new.checker) (sym same.1) (halts front so))
   stops_as_told text old new bytes (halt.Fault line what) stop.NoMemory same halts front so = absurd same
   stops_as_told text old new bytes (halt.Fault line what) (stop.Unlawful position words) same halts front so = absurd same
   stops_as_told text old new bytes halt.NoMemory stop.NoMemory same halts front so = inl (halts front so)

@@ -1,11 +1,11 @@
 -- What is read of bytes, however they are cut.
-use Rattle.std.proofs.Common.{◌≡◌, ℕ, ◌+◌, ◌<◌, ◌≤◌, Bool, true, false, ◌||◌, ◌==◌, nat_lt, nat_le, if◌then◌else◌, List, [], ◌∷◌, ◌++◌}
-use Rattle.std.proofs.Common.{length, Option, Result, Ok, Err, refl, sym, ap, subst, ◌∙◌, arith, append_assoc, length-append, ◌⊎◌, inl, inr}
+use Rattle.std.proofs.Common.{◌≡◌, ℕ, ◌+◌, ◌<◌, ◌≤◌, false, ◌||◌, ◌==◌, nat_lt, nat_le, if◌then◌else◌, List, [], ◌∷◌, ◌++◌}
+use Rattle.std.proofs.Common.{zero, suc, ◌-◌, take, length, Option, Result, Ok, Err, refl, sym, ap, subst, ◌∙◌, arith, append_assoc, length-append, ◌⊎◌, inl, inr}
 use Rattle.std.specs.Option.{option_to_list}
 use Rattle.std.proofs.lemmas.Bool.{or_parts, leb-true, le-leb, ltb-true, lt-ltb, false_from_ne_true, cases_lt}
 use Rattle.std.proofs.lemmas.List.{append-nil}
 use Rattle.cml_board.specs.{Entry}
-use Rattle.cml_journal.specs.{What, Unread, ◌>>=◌, Fails, HasFault, Meets, State, held, held_all, most, turned, no_entry, byte_read, Read}
+use Rattle.cml_journal.specs.{What, Unread, ◌>>=◌, Fails, HasFault, HasFront, Leaves, Meets, State, filled, held, held_all, most, turned, no_entry, byte_read, Read}
 use Rattle.cml_journal.specs.{behind, reading, has_line_end}
 use Rattle.cml_journal.specs.declared.fault.What.TheVariants.{TooLong}
 use Rattle.cml_journal.specs.declared.fault.Unread.TheVariants as unread
@@ -109,58 +109,6 @@ reading-line {M} version read state front rest short none =
     by (Err what) = refl
 
 -- ---- what `next` promises
--- the first byte that is not read
-pub record Breaks {M : Type 0} (version : ℕ) (read : List ℕ → Option M) (state : State) (bytes : List ℕ) (what : What) : Type 0 where
-  pub front : List ℕ
-  pub byte : ℕ
-  pub rest : List ℕ
-  pub whole : bytes ≡ front ++ byte ∷ rest
-  pub next : State
-  pub entries : List (Entry M)
-  pub taken : reading version read state front ≡ Ok (next, entries)
-  pub fault : reading version read state (front ++ byte ∷ []) ≡ Err what
-
-unbehind : {M : Type 0} (given : List (Entry M)) (read : Read M) (what : What) → behind given read ≡ Err what → read ≡ Err what
-unbehind given (Ok x) what is = cc
-unbehind given (Err fault) what is = is
-
-breaks : {M : Type 0} (version : ℕ) (read : List ℕ → Option M) (state : State) (bytes : List ℕ) (what : What)
-    → reading version read state bytes ≡ Err what
-    → Breaks version read state bytes what
-unfolding reading
-breaks version read state [] what is = absurd (cc)
-breaks {M} version read state (b ∷ bs) what is =
-    by (byte_read version read state b) refl is (λ next broken. breaks version read next bs what broken)
-  where
-    by : (r : Result (State × Option (Entry M)) What) → byte_read version read state b ≡ r
-        → (r >>= λ first. behind (option_to_list first.1) (reading version read first.0 bs)) ≡ Err what
-        → ((next : State) → reading version read next bs ≡ Err what → Breaks version read next bs what)
-        → Breaks version read state (b ∷ bs) what
-    by (Ok first) at broken later =
-        let more = later first.0 (unbehind (option_to_list first.1) (reading version read first.0 bs) what broken) in record {
-          front = b ∷ more.front;
-          byte = more.byte;
-          rest = more.rest;
-          whole = ap (λ (l : List ℕ). b ∷ l) more.whole;
-          next = more.next;
-          entries = option_to_list first.1 ++ more.entries;
-          taken = ap (λ (r : Result (State × Option (Entry M)) What). r >>= λ f.
-              behind (option_to_list f.1) (reading version read f.0 more.front)) at ∙ ap (behind (option_to_list first.1)) more.taken;
-          fault = ap (λ (r : Result (State × Option (Entry M)) What). r >>= λ f. behind (option_to_list f.1)
-              (reading version read f.0 (more.front ++ more.byte ∷ []))) at ∙ ap (behind (option_to_list first.1)) more.fault;
-        }
-    by (Err fault) at broken later = record {
-      front = [];
-      byte = b;
-      rest = bs;
-      whole = refl;
-      next = state;
-      entries = [];
-      taken = refl;
-      fault = ap (λ (r : Result (State × Option (Entry M)) What). r >>= λ f. behind (option_to_list f.1) (reading version read f.0 [])) at
-          ∙ broken;
-    }
-
 -- a front of bytes without a line end has none
 no_end_in_front : (front rest : List ℕ) → has_line_end (front ++ rest) ≡ false → has_line_end front ≡ false
 no_end_in_front [] rest none = refl
@@ -168,85 +116,148 @@ no_end_in_front (b ∷ bs) rest none =
     let parts = or_parts (b == 10) (has_line_end (bs ++ rest)) none in
     ap (λ t. t || has_line_end bs) parts.0 ∙ no_end_in_front bs rest parts.1
 
--- bytes of a line end none
-held_on_line : {M : Type 0} (state next : State) (bytes : List ℕ) (entries : List (Entry M))
-    → alone {M = M} (held_all state bytes) ≡ Ok (next, entries)
-    → (next.lines ≡ state.lines) × (entries ≡ [])
-held_on_line {M} state next bytes entries = by (nat_le (length state.line + length bytes) most)
+-- more bytes than a line may have, up to the first that is too many
+record Cuts (k : ℕ) (bytes : List ℕ) : Type 0 where
+  byte : ℕ
+  rest : List ℕ
+  cut : bytes ≡ take k bytes ++ byte ∷ rest
+  front : length (take k bytes) ≡ k
+
+cuts : (k : ℕ) (bytes : List ℕ) → k < length bytes → Cuts k bytes
+cuts k [] more = absurd (omega (arith, more))
+cuts zero (b ∷ bs) more = record { byte = b; rest = bs; cut = refl; front = refl }
+cuts (suc k) (b ∷ bs) more =
+    let later = cuts k bs (omega (arith, more)) in record {
+      byte = later.byte;
+      rest = later.rest;
+      cut = ap (λ (l : List ℕ). b ∷ l) later.cut;
+      front = ap suc later.front;
+    }
+
+fits_line : (state : State) (bytes : List ℕ) → length state.line + length bytes ≤ most
+    → held_all state bytes ≡ Ok (record state { line = state.line ++ bytes })
+fits_line state bytes le = ap (λ t. if t then Ok (record state { line = state.line ++ bytes }) else Err TooLong)
+    (le-leb (length state.line + length bytes) most le)
+
+overfills : (state : State) (bytes : List ℕ) → most < length state.line + length bytes → held_all state bytes ≡ Err TooLong
+overfills state bytes more = ap (λ t. if t then Ok (record state { line = state.line ++ bytes }) else Err TooLong)
+    (false_from_ne_true (nat_le (length state.line + length bytes) most) (λ t. absurd (omega (arith, more, leb-true _ _ t))))
+
+too_many : (state : State) (bytes : List ℕ) (what : What) → held_all state bytes ≡ Err what
+    → (most < length state.line + length bytes) × (TooLong ≡ what)
+too_many state bytes what fails = by (cases_lt most (length state.line + length bytes))
   where
-    by : (t : Bool) → alone {M = M} (if t then Ok (record state { line = state.line ++ bytes }) else Err TooLong) ≡ Ok (next, entries)
-        → (next.lines ≡ state.lines) × (entries ≡ [])
-    by true is =
-        let both : (record state { line = state.line ++ bytes }, []) ≡ (next, entries) = cc in
-        (sym (ap (λ (p : State × List (Entry M)). p.0.lines) both), sym (ap (λ (p : State × List (Entry M)). p.1) both))
-    by false is = absurd (cc)
+    failed : Result State What
+    failed = Err TooLong
 
--- a fault in a line that has not ended
-line_breaks : {M : Type 0} (version : ℕ) (read : List ℕ → Option M) (state : State) (bytes : List ℕ) (what : What)
-    → length state.line ≤ most → has_line_end bytes ≡ false
-    → Breaks version read state bytes what → HasFault version read state bytes what
-line_breaks {M} version read state bytes what short none broken =
-    let free =
-    no_end_in_front broken.front (broken.byte ∷ broken.rest) (subst (λ (l : List ℕ). has_line_end l ≡ false) broken.whole none) in
-    let on_line = held_on_line state broken.next broken.front broken.entries
-    (sym (reading-held version read state broken.front short free) ∙ broken.taken) in record {
-      front = broken.front;
-      byte = broken.byte;
-      rest = broken.rest;
-      whole = broken.whole;
-      next = broken.next;
-      read = broken.taken ∙ ap (placed broken.next) on_line.1;
-      same_line = on_line.0;
-      fault = broken.fault;
-    }
+    same : failed ≡ Err what → TooLong ≡ what
+    same is = cc
 
+    filling : Result State What
+    filling = Ok (record state { line = state.line ++ bytes })
+
+    never : filling ≡ Err what → ⊥
+    never is = cc
+
+    by : (most < length state.line + length bytes) ⊎ (length state.line + length bytes ≤ most)
+        → (most < length state.line + length bytes) × (TooLong ≡ what)
+    by (inl more) = (more, same (sym (overfills state bytes more) ∙ fails))
+    by (inr le) = absurd (never (sym (fits_line state bytes le) ∙ fails))
+
+-- bytes that are too many have a fault behind those that fill the line
 held_breaks : {M : Type 0} (version : ℕ) (read : List ℕ → Option M) (state : State) (bytes : List ℕ) (what : What)
-    → length state.line ≤ most → has_line_end bytes ≡ false
-    → held_all state bytes ≡ Err what → HasFault version read state bytes what
+    → length state.line ≤ most → has_line_end bytes ≡ false → held_all state bytes ≡ Err what
+    → (has : HasFault version read state bytes what) × (filled state bytes ≡ has.next)
 held_breaks {M} version read state bytes what short none fails =
-    line_breaks version read state bytes what short none
-    (breaks version read state bytes what (reading-held version read state bytes short none ∙ ap (alone {M = M}) fails))
+    let (more, long) = too_many state bytes what fails in
+    let room = most - length state.line in
+    let parts = cuts room bytes (omega (arith, more, short)) in
+    let front = take room bytes in
+    let until : List ℕ = front ++ parts.byte ∷ [] in
+    let whole : bytes ≡ until ++ parts.rest = parts.cut ∙ sym (append_assoc front (parts.byte ∷ []) parts.rest) in
+    let free = no_end_in_front front (parts.byte ∷ parts.rest) (subst (λ (l : List ℕ). has_line_end l ≡ false) parts.cut none) in
+    let free_until = no_end_in_front until parts.rest (subst (λ (l : List ℕ). has_line_end l ≡ false) whole none) in (
+      record {
+        front = front;
+        byte = parts.byte;
+        rest = parts.rest;
+        whole = parts.cut;
+        next = filled state bytes;
+        read = reading-held version read state front short free
+            ∙ ap (alone {M = M}) (fits_line state front (omega (arith, parts.front, short)));
+        same_line = refl;
+        fault = reading-held version read state until short free_until
+            ∙ ap (alone {M = M}) (overfills state until (omega (arith, parts.front, short, length-append front (parts.byte ∷ []))))
+            ∙ ap (λ (w : What). Err w) long;
+      },
+      refl,
+    )
 
-pub fault_held : {M : Type 0} (version : ℕ) (read : List ℕ → Option M) (state : State) (bytes : List ℕ) (e : Unread)
-    → length state.line ≤ most → has_line_end bytes ≡ false
-    → Fails e (held_all state bytes) → Meets version read state bytes e
-fault_held version read state bytes unread.Memory short none fails = tt
-fault_held version read state bytes (unread.Fault what) short none fails = held_breaks version read state bytes what short none fails
-
-pub fault_front : {M : Type 0} (version : ℕ) (read : List ℕ → Option M) (state : State) (front rest : List ℕ) (e : Unread)
-    → length state.line ≤ most → has_line_end front ≡ false
-    → Fails e (held_all state front) → Meets version read state (front ++ 10 ∷ rest) e
-fault_front version read state front rest unread.Memory short none fails = tt
-fault_front version read state front rest (unread.Fault what) short none fails =
-    let first = held_breaks version read state front what short none fails in record {
-      front = first.front;
-      byte = first.byte;
-      rest = first.rest ++ 10 ∷ rest;
-      whole = ap (λ (l : List ℕ). l ++ 10 ∷ rest) first.whole ∙ append_assoc first.front (first.byte ∷ first.rest) (10 ∷ rest);
-      next = first.next;
-      read = first.read;
-      same_line = first.same_line;
-      fault = first.fault;
-    }
-
-pub fault_turned : {M : Type 0} (version : ℕ) (read : List ℕ → Option M) (state next : State) (front rest : List ℕ) (e : Unread)
-    → length state.line ≤ most → has_line_end front ≡ false
-    → held_all state front ≡ Ok next → next.lines ≡ state.lines → Fails e (turned version read next)
-    → Meets version read state (front ++ 10 ∷ rest) e
-fault_turned version read state next front rest unread.Memory short none held same fails = tt
-fault_turned {M} version read state next front rest (unread.Fault what) short none held same fails = record {
-  front = front;
-  byte = 10;
-  rest = rest;
+-- nothing of the bytes is read
+read_none : {M : Type 0} (version : ℕ) (read : List ℕ → Option M) (state new : State) (bytes : List ℕ) → new ≡ state
+    → HasFront version read state bytes new
+unfolding reading
+read_none {M} version read state new bytes same = record {
+  front = [];
+  rest = bytes;
   whole = refl;
-  next = next;
-  read = reading-held version read state front short none ∙ ap (alone {M = M}) held;
-  same_line = same;
-  fault = reading-line version read state front [] short none
-      ∙ ap (turning {M = M} version read []) held
-      ∙ ap (λ (r : Result (State × Option (Entry M)) What). r >>= λ first.
-      behind (option_to_list first.1) (reading version read first.0 [])) fails;
+  read = ap (λ (s : State). placed {M = M} s []) (sym same);
 }
+
+pub fault_held : {M : Type 0} (version : ℕ) (read : List ℕ → Option M) (state new : State) (bytes : List ℕ) (e : Unread)
+    → length state.line ≤ most → has_line_end bytes ≡ false
+    → Fails e (held_all state bytes) → Leaves state bytes new e → Meets version read state bytes new e
+fault_held version read state new bytes unread.Memory short none fails left = read_none version read state new bytes left
+fault_held version read state new bytes (unread.Fault what) short none fails left =
+    let met = held_breaks version read state bytes what short none fails in (met.0, left ∙ met.1)
+
+pub fault_front : {M : Type 0} (version : ℕ) (read : List ℕ → Option M) (state new : State) (front rest : List ℕ) (e : Unread)
+    → length state.line ≤ most → has_line_end front ≡ false
+    → Fails e (held_all state front) → Leaves state front new e → Meets version read state (front ++ 10 ∷ rest) new e
+fault_front version read state new front rest unread.Memory short none fails left = read_none version read state new (front ++ 10 ∷ rest) left
+fault_front version read state new front rest (unread.Fault what) short none fails left =
+    let met = held_breaks version read state front what short none fails in
+    let first = met.0 in (
+      record {
+        front = first.front;
+        byte = first.byte;
+        rest = first.rest ++ 10 ∷ rest;
+        whole = ap (λ (l : List ℕ). l ++ 10 ∷ rest) first.whole ∙ append_assoc first.front (first.byte ∷ first.rest) (10 ∷ rest);
+        next = first.next;
+        read = first.read;
+        same_line = first.same_line;
+        fault = first.fault;
+      },
+      left ∙ met.1,
+    )
+
+pub fault_turned : {M : Type 0} (version : ℕ) (read : List ℕ → Option M) (state next new : State) (front rest : List ℕ) (e : Unread)
+    → length state.line ≤ most → has_line_end front ≡ false
+    → held_all state front ≡ Ok next → next.lines ≡ state.lines → Fails e (turned version read next) → new ≡ next
+    → Meets version read state (front ++ 10 ∷ rest) new e
+fault_turned {M} version read state next new front rest unread.Memory short none held same fails stays = record {
+  front = front;
+  rest = 10 ∷ rest;
+  whole = refl;
+  read = reading-held version read state front short none ∙ ap (alone {M = M}) held
+      ∙ ap (λ (s : State). placed {M = M} s []) (sym stays);
+}
+fault_turned {M} version read state next new front rest (unread.Fault what) short none held same fails stays = (
+  record {
+    front = front;
+    byte = 10;
+    rest = rest;
+    whole = refl;
+    next = next;
+    read = reading-held version read state front short none ∙ ap (alone {M = M}) held;
+    same_line = same;
+    fault = reading-line version read state front [] short none
+        ∙ ap (turning {M = M} version read []) held
+        ∙ ap (λ (r : Result (State × Option (Entry M)) What). r >>= λ first.
+        behind (option_to_list first.1) (reading version read first.0 [])) fails;
+  },
+  stays,
+)
 
 pub taken_line : {M : Type 0} (version : ℕ) (read : List ℕ → Option M) (state next last : State) (entry : Option (Entry M)) (front : List ℕ)
     → length state.line ≤ most → has_line_end front ≡ false

@@ -15,7 +15,7 @@ use Rattle.cml_sums.specs.{Sum, Summed, nothing_summed, sum_by, sum_word, sum_in
 use Rattle.cml_journal.specs.{What, Form, Link, Stage, IsWritten, ◌>>=◌, entry_in, numbered_line, with_line_end}
 use Rattle.cml_journal.specs.{text_of, IsTextOf, from_lines, sealed_header, sealed_end}
 use Rattle.cml_journal.specs.{State, fresh, end_by, end_of, numbered, tailed, headed}
-use Rattle.cml_journal.specs.{headed_by, plain_headed, sealed_headed, begun, entered, ended_by, closed_by, sealed_by, inside, from_by}
+use Rattle.cml_journal.specs.{headed_by, header_fault, plain_headed, sealed_headed, begun, entered, ended_by, closed_by, sealed_by, inside, from_by}
 use Rattle.cml_journal.specs.{behind_header, line_step, line_read, sums, sums_line, most, held, turned, no_entry, byte_read, behind}
 use Rattle.cml_journal.specs.{reading}
 use Rattle.cml_journal.specs.declared.fault.What.TheVariants.{BadNumber, BadBytes, NoHeader, Gap, WrongEnd, WrongSum, TooMany, TooLong}
@@ -218,22 +218,22 @@ headed_adds {M} version text before link summed line told empty e =
     by (Some n) tail is other f =
         elim (chosen (n == version) (plain_headed before link) _ (Ok told) f) [
           | inl h ↦ plain n h.0 (numbered_takes (codes "journal") line n is) h.1
-          | inr h ↦ elim (chosen (n == version + 2) (sealed_headed before link None) (Err NoHeader) (Ok told) h.1) [
+          | inr h ↦ elim (chosen (n == version + 2) (sealed_headed before link None) (Err (header_fault version n)) (Ok told) h.1) [
             | inl k ↦ sealed n None k.0 (numbered_takes (codes "journal") line n is) k.1
-            | inr k ↦ absurd (failed_not told k.1)
+            | inr k ↦ absurd (failed_not (header_fault version n) told k.1)
           ]
         ]
       where
-        failed_not : (y : Stage × Option (Entry M)) → Err NoHeader ≡ Ok y → ⊥
-        failed_not y g = cc
+        failed_not : (what : What) (y : Stage × Option (Entry M)) → Err what ≡ Ok y → ⊥
+        failed_not what y g = cc
     by None (Some found) none is f =
-        elim (chosen (found.0 == version + 2) (sealed_headed before link (Some found.1)) (Err NoHeader) (Ok told) f) [
+        elim (chosen (found.0 == version + 2) (sealed_headed before link (Some found.1)) (Err (header_fault version found.0)) (Ok told) f) [
           | inl k ↦ sealed found.0 (Some found.1) k.0 (tailed_takes (codes "journal") line found is) k.1
-          | inr k ↦ absurd (failed_not told k.1)
+          | inr k ↦ absurd (failed_not (header_fault version found.0) told k.1)
         ]
       where
-        failed_not : (y : Stage × Option (Entry M)) → Err NoHeader ≡ Ok y → ⊥
-        failed_not y g = cc
+        failed_not : (what : What) (y : Stage × Option (Entry M)) → Err what ≡ Ok y → ⊥
+        failed_not what y g = cc
     by None None none other f = let e : Err NoHeader ≡ Ok told = f in absurd cc
 
 pub line_adds : {M : Type 0} (version : ℕ) (text : M → List ℕ) (fits : M → Bool) (read : List ℕ → Option M) (written : IsWritten text fits read)

@@ -11,10 +11,10 @@ use Rattle.cml_board.specs.{Entry}
 use Rattle.cml_grammar.specs.{is_bad_byte}
 use Rattle.cml_sums.specs.{Sum, Summed, sum_by, sum_word, sum_in}
 use Rattle.cml_journal.specs.{What, Form, Link, Stage, ◌>>=◌, entry_in, State, Step, waiting_at, end_of, end_by, numbered, tailed, headed}
-use Rattle.cml_journal.specs.{headed_by, plain_headed, sealed_headed, sealed_where, begun, entered, ended_by, closed_by, sealed_by, inside}
+use Rattle.cml_journal.specs.{headed_by, header_fault, plain_headed, sealed_headed, sealed_where, begun, entered, ended_by, closed_by, sealed_by, inside}
 use Rattle.cml_journal.specs.{from_by, behind_header, line_step, line_read, sums_line, held, turned, no_entry, byte_read, Read}
 use Rattle.cml_journal.specs.{behind, reading}
-use Rattle.cml_journal.specs.declared.fault.What.TheVariants.{BadNumber, BadBytes, NoHeader, Gap, WrongEnd, WrongSum, TooMany, TooLong}
+use Rattle.cml_journal.specs.declared.fault.What.TheVariants.{BadNumber, BadBytes, Gap, WrongEnd, WrongSum, TooMany, TooLong}
 use Rattle.cml_journal.specs.declared.reader.Form.TheVariants.{Plain, Sealed}
 use Rattle.cml_journal.specs.declared.reader.Link.TheVariants.{Any, First, Unsealed, Behind}
 use Rattle.cml_journal.specs.declared.reader.Stage.TheVariants.{Waiting, Headed, Inside}
@@ -111,15 +111,15 @@ module _ {M : Type 0} (version : ℕ) (read : List ℕ → Option M) where
   unfolding headed
   headed_moves p link line = by (numbered (codes "journal") line) (tailed (codes "journal") line)
     where
-      of_version : (t u : Bool) (word : Option (List ℕ))
-          → Moves {M = M} p (if t then plain_headed (Some p) link else if u then sealed_headed (Some p) link word else Err NoHeader)
-      of_version true u word = plain_moves p link
-      of_version false true word = sealed_moves p link word
-      of_version false false word = tt
+      of_version : (t u : Bool) (word : Option (List ℕ)) (what : What)
+          → Moves {M = M} p (if t then plain_headed (Some p) link else if u then sealed_headed (Some p) link word else Err what)
+      of_version true u word what = plain_moves p link
+      of_version false true word what = sealed_moves p link word
+      of_version false false word what = tt
 
       by : (found : Option ℕ) (tail : Option (ℕ × List ℕ)) → Moves {M = M} p (headed_by version (Some p) link found tail)
-      by (Some found) tail = of_version (found == version) (found == version + 2) None
-      by None (Some found) = of_version false (found.0 == version + 2) (Some found.1)
+      by (Some found) tail = of_version (found == version) (found == version + 2) None (header_fault version found)
+      by None (Some found) = of_version false (found.0 == version + 2) (Some found.1) (header_fault version found.0)
       by None None = tt
 
   begun_inside : (form : Form) (summed : Summed) (p from : ℕ) (line : List ℕ)

@@ -107,15 +107,15 @@ module _ {M : Type 0} (version : ℕ) (meaning : List ℕ → Option M) where
     pub fault : reading version meaning (waiting_at 0) (front ++ byte ∷ []) ≡ Err what
     pub next_line : line ≡ (state.lines + 1) % 2 ^ 64
 
-  -- a check that halted shows how many lines have ended and which entries are checked before such a fault
-  pub record ShowsFault (bytes : List ℕ) (line : ℕ) (what : What) (ended : ℕ) (checker : Found M) : Type 0 where
+  -- a check that halted shows how far it was read and which entries are checked before such a fault
+  pub record ShowsFault (bytes : List ℕ) (line : ℕ) (what : What) (shown : State) (checker : Found M) : Type 0 where
     pub is : IsFaultyJournal bytes line what
-    pub lines : ended ≡ is.state.lines
+    pub state : shown ≡ is.state
     pub checked : checker ≡ Ok (reverse is.entries)
 
-  -- a check that had no memory shows how many lines a front of the bytes has. All its entries, or all but the last, are checked
+  -- a check that had no memory shows how far a front of the bytes was read. All its entries, or all but the last, are checked
   -- and lawful
-  pub record ShowsFront (bytes : List ℕ) (ended : ℕ) (checker : Found M) : Type 0 where
+  pub record ShowsFront (bytes : List ℕ) (shown : State) (checker : Found M) : Type 0 where
     pub front : List ℕ
     pub rest : List ℕ
     pub whole : bytes ≡ front ++ rest
@@ -125,23 +125,23 @@ module _ {M : Type 0} (version : ℕ) (meaning : List ℕ → Option M) where
     pub few : length left ≤ 1
     pub read : reading version meaning (waiting_at 0) front ≡ Ok (state, done ++ left)
     pub lawful : Lawful (reverse done)
-    pub lines : ended ≡ state.lines
+    pub same : shown ≡ state
     pub checked : checker ≡ Ok (reverse done)
 
   -- what a halt says of the bytes of a journal
   abbrev pub HaltTells : List ℕ → Progress M → Halt → Type 0
   HaltTells bytes new (halt.Unlawful at) = ShowsUnlawful bytes at new
-  HaltTells bytes new (halt.Fault line what) = ShowsFault bytes line what new.state.lines new.checker
-  HaltTells bytes new halt.NoMemory = ShowsFront bytes new.state.lines new.checker
+  HaltTells bytes new (halt.Fault line what) = ShowsFault bytes line what new.state new.checker
+  HaltTells bytes new halt.NoMemory = ShowsFront bytes new.state new.checker
 
   -- a check had no memory, or found an unlawful entry and had no memory for its line
   abbrev pub MayTellNone : List ℕ → Progress M → Type 0
-  MayTellNone bytes new = ShowsFront bytes new.state.lines new.checker ⊎ ((at : ℕ) × ShowsUnlawful bytes at new)
+  MayTellNone bytes new = ShowsFront bytes new.state new.checker ⊎ ((at : ℕ) × ShowsUnlawful bytes at new)
 
   -- the same of a stop, which has the entry's line
   abbrev pub StopTells : (M → List ℕ) → List ℕ → Progress M → Stop → Type 0
   StopTells text bytes new (stop.Unlawful at line) = (shows : ShowsUnlawful bytes at new) × (string_bytes line ≡ line_of text shows.entry)
-  StopTells text bytes new (stop.Fault line what) = ShowsFault bytes line what new.state.lines new.checker
+  StopTells text bytes new (stop.Fault line what) = ShowsFault bytes line what new.state new.checker
   StopTells text bytes new stop.NoMemory = MayTellNone bytes new
 
   -- these bytes were read behind any others, and all entries in them are lawful there

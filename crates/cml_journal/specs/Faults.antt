@@ -1,9 +1,9 @@
 -- Where the first fault of bytes is.
-use Rattle.std.specs.Prelude.{◌≡◌, ℕ, List, [], ◌∷◌, ◌++◌, Option, Ok, Err, ⊤}
+use Rattle.std.specs.Prelude.{◌≡◌, ℕ, List, [], ◌∷◌, ◌++◌, Option, Ok, Err}
 use Rattle.cml_journal.specs.declared.fault.What.{What}
 use Rattle.cml_journal.specs.declared.fault.Unread.{Unread}
 use Rattle.cml_journal.specs.declared.fault.Unread.TheVariants as unread
-use Rattle.cml_journal.specs.Feeding.{State, reading}
+use Rattle.cml_journal.specs.Feeding.{State, filled, reading}
 
 module _ {M : Type 0} (version : ℕ) (meaning : List ℕ → Option M) where
   -- all bytes of the front are read, and the next byte is a fault, on the line that the state is on
@@ -17,7 +17,21 @@ module _ {M : Type 0} (version : ℕ) (meaning : List ℕ → Option M) where
     pub same_line : next.lines ≡ state.lines
     pub fault : reading version meaning state (front ++ byte ∷ []) ≡ Err what
 
-  -- the bytes have what a reader met in them, unless there was no memory
-  abbrev pub Meets : State → List ℕ → Unread → Type 0
-  Meets state bytes unread.Memory = ⊤
-  Meets state bytes (unread.Fault what) = HasFault state bytes what
+  -- a front of the bytes, without a line end, is read up to this state
+  pub record HasFront (state : State) (bytes : List ℕ) (new : State) : Type 0 where
+    pub front : List ℕ
+    pub rest : List ℕ
+    pub whole : bytes ≡ front ++ rest
+    pub read : reading version meaning state front ≡ Ok (new, [])
+
+  -- the bytes have what a reader met in them, and it stays in the state before the byte that is a fault. If there was no memory, it
+  -- has read a front of them
+  abbrev pub Meets : State → List ℕ → State → Unread → Type 0
+  Meets state bytes new unread.Memory = HasFront state bytes new
+  Meets state bytes new (unread.Fault what) = (has : HasFault state bytes what) × (new ≡ has.next)
+
+-- what bytes of a line leave where they were not read: as much of the line as there may be, or, if there was no memory, no more than
+-- was there
+abbrev pub Leaves : State → List ℕ → State → Unread → Type 0
+Leaves state bytes new unread.Memory = new ≡ state
+Leaves state bytes new (unread.Fault what) = new ≡ filled state bytes

@@ -1,5 +1,6 @@
 -- A journal's text is read byte by byte.
-use Rattle.std.specs.Prelude.{◌≡◌, ⊤, ℕ, ◌+◌, ◌%◌, ◌^◌, ◌≤◌, ◌==◌, Bool, nat_lt, nat_le, if◌then◌else◌, List, [], ◌∷◌, ◌++◌, length}
+use Rattle.std.specs.Prelude.{◌≡◌, ⊤, ℕ, ◌+◌, ◌-◌, ◌%◌, ◌^◌, ◌≤◌, ◌==◌, ◌&&◌, ◌||◌, Bool, nat_lt, nat_le, if◌then◌else◌}
+use Rattle.std.specs.Prelude.{List, [], ◌∷◌, ◌++◌, length, take}
 use Rattle.std.specs.Prelude.{Option, Some, None, is_some, is_none, true, false, Result, Ok, Err, codes}
 use Rattle.std.specs.Option.{option_map, option_and_then, option_to_list}
 use Rattle.std.specs.List.{list_any, flat_map}
@@ -8,7 +9,8 @@ use Rattle.cml_board.specs.{Entry}
 use Rattle.cml_grammar.specs.{is_bad_byte}
 use Rattle.cml_sums.specs.{Summed, nothing_summed, and_bytes, sum_by, Sum, IsSum, sum_word, sum_in}
 use Rattle.cml_journal.specs.declared.fault.What.{What}
-use Rattle.cml_journal.specs.declared.fault.What.TheVariants.{BadNumber, BadBytes, NoHeader, Gap, WrongEnd, WrongSum, TooMany, TooLong}
+use Rattle.cml_journal.specs.declared.fault.What.TheVariants.{BadNumber, BadBytes, NoHeader, OtherVersion, OtherType, Gap, WrongEnd}
+use Rattle.cml_journal.specs.declared.fault.What.TheVariants.{WrongSum, TooMany, TooLong}
 use Rattle.cml_journal.specs.declared.reader.Form.{Form}
 use Rattle.cml_journal.specs.declared.reader.Form.TheVariants.{Plain, Sealed}
 use Rattle.cml_journal.specs.declared.reader.Link.{Link}
@@ -111,13 +113,20 @@ sealed_headed before Unsealed word = Err NoHeader
 sealed_headed before (Behind sum) None = sealed_where before false
 sealed_headed before (Behind sum) (Some word) = sealed_where before (bytes_eq word (sum_word sum))
 
+-- the fault of a header with this number, where it isn't one that may be there: the number may be of a version with messages of
+-- another type, or of no version
+abbrev pub header_fault : ℕ → ℕ → What
+header_fault version found =
+    if found == version || found == version + 2 then NoHeader
+    else if nat_le 1 found && nat_le found 4 then OtherType else OtherVersion
+
 -- a header without a word behind its version, or with one
 abbrev pub headed_by : {M : Type 0} → ℕ → Option ℕ → Link → Option ℕ → Option (ℕ × List ℕ) → Step M
 headed_by version before link (Some found) tail =
     if found == version then plain_headed before link
-    else if found == version + 2 then sealed_headed before link None else Err NoHeader
+    else if found == version + 2 then sealed_headed before link None else Err (header_fault version found)
 headed_by version before link None (Some found) =
-    if found.0 == version + 2 then sealed_headed before link (Some found.1) else Err NoHeader
+    if found.0 == version + 2 then sealed_headed before link (Some found.1) else Err (header_fault version found.0)
 headed_by version before link None None = Err NoHeader
 
 -- a header of this version, or of the sealed one
@@ -198,6 +207,10 @@ held state b = if nat_lt (length state.line) most then Ok (record state { line =
 abbrev pub held_all : State → List ℕ → Result State What
 held_all state bytes = if nat_le (length state.line + length bytes) most
     then Ok (record state { line = state.line ++ bytes }) else Err TooLong
+
+-- as many bytes of a line as it may have
+abbrev pub filled : State → List ℕ → State
+filled state bytes = record state { line = state.line ++ take (most - length state.line) bytes }
 
 abbrev pub has_line_end : List ℕ → Bool
 has_line_end bytes = list_any (λ b. b == 10) bytes

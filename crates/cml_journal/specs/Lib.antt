@@ -10,6 +10,7 @@ pub mod Streams
 pub mod Feeding
 pub mod Lengths
 pub mod Faults
+pub mod Due
 pub mod Checks
 -- the names that others import from here
 pub use Lines.{HasLine, ReplyFits, call_text, field, line_of, reply_text, who_number, who_text, who_word}
@@ -26,11 +27,12 @@ pub use Streams.{IsJournalOf, IsTextOf, named_line, piece_sum, sealed_end, seale
 pub use Streams.{stream_sum}
 pub use Lengths.{AreShort, IsShort, IsTooLong, MayBeTooLong}
 pub use Feeding.{IsReadable, IsSealedRead, MaybeSum, Read, State, Step, begun, behind, byte_read, closed_by, end_by, end_of, ended_by}
-pub use Feeding.{fresh, from_by}
+pub use Feeding.{filled, fresh, from_by, header_fault}
 pub use Feeding.{has_line_end, headed_by, held, held_all, inside_by, last_sum, line_step, link_at, most, no_entry, number_before, numbered}
 pub use Feeding.{kept_by, kept_sum, plain_headed, sealed_by, sealed_headed, sealed_where, sum_behind, sum_within, sums, sums_line, tailed, waiting_at}
 unfoldable pub use Feeding.{behind_header, entered, headed, inside, line_read, reading, turned}
-pub use Faults.{HasFault, Meets}
+pub use Faults.{HasFault, HasFront, Leaves, Meets}
+pub use Due.{due_inside, due_line, end_due, first_due, from_due, headers_due, quoted, shown_byte, shown_front, shown_line, stage_due}
 pub use Checks.{Goes, HaltTells, HaltsIn, IsFaultyJournal, IsLawfulJournal, IsRestored, IsSoFar, IsSpent, IsTold, IsUnlawfulJournal}
 pub use Checks.{MayHaltAt, Progress, ShowsFault, ShowsFront, ShowsUnlawful, StopsIn, halt_of, is_whole, line_of_last}
 pub use declared.fault.Unread.{Unread}

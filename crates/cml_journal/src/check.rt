@@ -3,7 +3,7 @@ ghost use Rattle.std.specs.Prelude.{◌≡◌, ◌≤◌, ◌-◌, ◌^◌, ◌�
 ghost use Rattle.std.specs.Prelude.{OnOk, OnErr, OnSome, IsErr, IsTrue, is_none, not, ◌&&◌, ◌==◌, option_map, string_bytes};
 ghost use Rattle.cml_board.specs.{Feeds, count_of, expected_of};
 ghost use Rattle.cml_journal.specs.{Halt, State, end_of, IsSoFar, Goes, HaltsIn, StopsIn, MayHaltAt, IsTold, IsSpent, is_whole};
-ghost use Rattle.cml_journal.specs.{line_of_last, kept_sum, last_sum, IsLawfulJournal, IsRestored};
+ghost use Rattle.cml_journal.specs.{due_line, line_of_last, kept_sum, last_sum, shown_line, IsLawfulJournal, IsRestored};
 
 use crate::fault::What;
 use crate::reader::Reader;
@@ -53,7 +53,7 @@ impl<M: Message + Written> Check<M> {
     /// Reads the stream's next bytes, cut anywhere, and checks the entries in them.
     ///
     /// Errors: the first entry that isn't lawful, or the first fault, whichever comes first; `NoMemory` if an allocation fails.
-    /// `lines` and `entries` then say how far it was read. A check that failed is spent: it fails the same way from then on, or
+    /// `lines` and `entries` then say how far it was read. After a fault `found` shows its line, and `due` says what that may be. A check that failed is spent: it fails the same way from then on, or
     /// with `NoMemory` if there is no memory for an entry's line.
     pub fn take(&mut self, bytes: &[u8]) -> Result<(), Stop>
         ensures taken { OnOk result (Goes M.VERSION M.meaning self.old bytes.now self.new) }
@@ -235,6 +235,21 @@ impl<M: Message + Written> Check<M> {
         ensures { result ≡ last_sum self.now.state }
     {
         self.reader.sum()
+    }
+
+    /// Returns what the line that has not ended may be, in words for a person, once the check has stopped at this fault.
+    pub fn due(&self, what: What) -> Result<String, AllocError>
+        ensures { IfOk result (λ due. string_bytes due ≡ due_line M.VERSION self.now.state what) }
+    {
+        self.reader.due::<M>(self.alloc, what)
+    }
+
+    /// Returns what has come of the line that has not ended, in words for a person: once the check has stopped at a fault, the
+    /// line that has it.
+    pub fn found(&self) -> Result<String, AllocError>
+        ensures { IfOk result (λ found. string_bytes found ≡ shown_line self.now.state.line) }
+    {
+        self.reader.found(self.alloc)
     }
 
     /// Does what `Reader::kept_sum` does, also once it has stopped.

@@ -31,9 +31,15 @@ pub enum What {
     /// A byte is neither printed nor a space.
     #[error("bad bytes")]
     BadBytes,
-    /// A piece does not begin with the header of this version.
+    /// A piece does not begin with a header that may be there.
     #[error("no header")]
     NoHeader,
+    /// A header has a version that is none of 1 to 4.
+    #[error("another version")]
+    OtherVersion,
+    /// A header has a version of 1 to 4 whose messages are of another type.
+    #[error("another type of messages")]
+    OtherType,
     /// A piece does not begin where the one before ended.
     #[error("gap")]
     Gap,

@@ -3,6 +3,7 @@
 
 mod bytes;
 mod check;
+mod due;
 mod fault;
 mod laws;
 mod pieces;

@@ -1,20 +1,21 @@
 //! How a journal's text is read as it comes.
 ghost use Rattle.std.specs.Prelude.{◌≡◌, ◌≤◌, ◌-◌, ◌+◌, ◌==◌, ◌++◌, ◌∷◌, [], ℕ, List, Ok, false, length, position, IfOk, IfErr};
-ghost use Rattle.std.specs.Prelude.{OnOk, OnErr, OnSome, MatchOption};
+ghost use Rattle.std.specs.Prelude.{OnOk, OnErr, OnSome, MatchOption, string_bytes};
 ghost use Rattle.std.specs.Option.{option_map, option_to_list};
 ghost use Rattle.cml_sums.specs.{nothing_summed};
-ghost use Rattle.cml_journal.specs.{Gives, Meets, State, fresh, waiting_at, numbered, number_before, tailed, headed, begun, entered};
+ghost use Rattle.cml_journal.specs.{Gives, Meets, State, fresh, waiting_at, numbered, tailed, headed, begun, entered};
 ghost use Rattle.cml_journal.specs.{plain_headed, sealed_where, sealed_headed, headed_by, sealed_by, closed_by, ended_by, inside_by};
 ghost use Rattle.cml_journal.specs.{inside, from_by, behind_header, line_step, line_read, sums, sums_line, has_line_end, held_all, most};
-ghost use Rattle.cml_journal.specs.{turned, reading, end_of, kept_sum, last_sum, with_line_end};
+ghost use Rattle.cml_journal.specs.{turned, reading, end_of, kept_sum, last_sum, with_line_end, header_fault, Leaves, due_line, shown_line};
 ghost use Rattle.cml_journal.specs.declared.reader.Form.TheVariants.{Plain, Sealed};
 
+use crate::due::{write_due, write_found};
 use crate::fault::{Unread, What};
 use crate::reading::read_entry;
-use crate::words::cut;
+use crate::words::{numbered, tailed};
 use crate::written::Written;
 use cml_board::Entry;
-use cml_grammar::{has_bad_byte, number_of};
+use cml_grammar::has_bad_byte;
 use cml_sums::{Sum, Summing};
 use std::alloc::{AllocError, Global};
 use std::marker::Model;
@@ -55,34 +56,6 @@ pub(crate) enum Stage {
 
 /// The stage behind a line, and the entry that the line was, if it was one.
 type Told<M> = (Stage, Option<Entry<M>>);
-
-/// The number behind this word, if the line has just these.
-fn numbered(word: &str, line: &str) -> Option<u64>
-    ensures { result ≡ numbered word.now line.now }
-{
-    match cut(line) {
-        Some((first, number)) if first == word => number_of(number),
-        _ => None,
-    }
-}
-
-/// The number behind this word, and what is behind that.
-fn tailed<'a>(word: &str, line: &'a str) -> Option<(u64, &'a str)>
-    ensures { option_map (λ found. (found.0, found.1.now)) result ≡ tailed word.now line.now }
-{
-    match cut(line) {
-        Some((first, rest)) if first == word => number_before(rest),
-        _ => None,
-    }
-}
-
-fn number_before(text: &str) -> Option<(u64, &str)>
-    ensures { option_map (λ found. (found.0, found.1.now)) result ≡ number_before text.now }
-{
-    let (word, rest) = cut(text)?;
-    let number = number_of(word)?;
-    Some((number, rest))
-}
 
 /// Whether this is the version of sealed pieces.
 fn is_sealed<M: Written>(found: u64) -> bool
@@ -127,6 +100,19 @@ fn sealed_headed<M: Written>(
     }
 }
 
+/// The fault of a header with this number, if it isn't one that may be there.
+fn header_fault<M: Written>(found: u64) -> What
+    ensures { result ≡ header_fault M.VERSION found }
+{
+    if found == M::VERSION || is_sealed::<M>(found) {
+        return What::NoHeader;
+    }
+    match found {
+        1..=4 => What::OtherType,
+        _ => What::OtherVersion,
+    }
+}
+
 #[tactic(auto, unfolding(crate::specs::Feeding::headed))]
 fn headed<M: Written>(before: Option<u64>, link: Link, line: &str) -> Result<Told<M>, Unread>
     ensures { Gives (λ told. told) result (headed M.VERSION before link line.now) }
@@ -138,11 +124,12 @@ fn headed<M: Written>(before: Option<u64>, link: Link, line: &str) -> Result<Tol
         if is_sealed::<M>(found) {
             return sealed_headed(before, link, None);
         }
-        return Err(Unread::Fault(What::NoHeader));
+        return Err(Unread::Fault(header_fault::<M>(found)));
     }
     match tailed("journal", line) {
         Some((found, word)) if is_sealed::<M>(found) => sealed_headed(before, link, Some(word)),
-        _ => Err(Unread::Fault(What::NoHeader)),
+        Some((found, _)) => Err(Unread::Fault(header_fault::<M>(found))),
+        None => Err(Unread::Fault(What::NoHeader)),
     }
 }
 
@@ -376,7 +363,8 @@ impl Reader {
     /// Reads the bytes up to the first line end, or all bytes if no line ends. It returns the entry on that line, if it has one,
     /// and the bytes that are left.
     ///
-    /// Errors: `Memory` if an allocation fails; else the stream's first fault. The fault is on line `lines() + 1`. Read no more.
+    /// Errors: `Memory` if an allocation fails; else the stream's first fault. The fault is on line `lines() + 1`, `found` shows that
+    /// line, and `due` says what it may be. Read no more.
     pub fn next<'a, M: Written>(
         &mut self,
         alloc: Global,
@@ -384,7 +372,7 @@ impl Reader {
     ) -> Result<(Option<Entry<M>>, &'a [u8]), Unread>
         ensures taken { IfOk result (λ given. (taken : List ℕ) × (bytes.now ≡ taken ++ given.1.now)
             × (reading M.VERSION M.meaning self.old taken ≡ Ok (self.new, option_to_list given.0))) }
-        ensures fault { IfErr result (λ unread. Meets M.VERSION M.meaning self.old bytes.now unread) }
+        ensures fault { IfErr result (λ unread. Meets M.VERSION M.meaning self.old bytes.now self.new unread) }
         ensures ended { IfOk result (λ given. OnSome given.0 (self.new.line ≡ [])) }
         ensures shorter { IfOk result (λ given. length given.1.now ≤ length bytes.now - 1) }
         ensures line { OnErr result (self.new.lines ≡ self.old.lines) }
@@ -398,13 +386,16 @@ impl Reader {
         Ok((entry, rest))
     }
 
-    /// Adds bytes to the line that has not ended.
+    /// Adds bytes to the line that has not ended. If they are too many, it adds as many as a line may have.
     fn hold(&mut self, bytes: &[u8]) -> Result<(), Unread>
         ensures held { Gives (λ _. self.new) result (held_all self.old bytes.now) }
+        ensures leaves { IfErr result (λ unread. Leaves self.old bytes.now self.new unread) }
         ensures short { length self.old.line ≤ most }
         ensures line { self.new.lines ≡ self.old.lines }
     {
-        if bytes.len() > MOST - self.line.len() {
+        let room = MOST - self.line.len();
+        if bytes.len() > room {
+            self.line.extend_from_slice(&bytes[..room])?;
             return Err(Unread::Fault(What::TooLong));
         }
         self.line.extend_from_slice(bytes)?;
@@ -416,7 +407,7 @@ impl Reader {
     fn turn<M: Written>(&mut self, alloc: Global) -> Result<Option<Entry<M>>, Unread>
         ensures turned { Gives (λ entry. (self.new, entry)) result (turned M.VERSION M.meaning self.old) }
         ensures ended { OnOk result (self.new.line ≡ []) }
-        ensures line { OnErr result (self.new.lines ≡ self.old.lines) }
+        ensures stays { OnErr result (self.new ≡ self.old) }
     {
         let (stage, entry) = line_read(alloc, &self.summing, self.stage, &self.line)?;
         sum_read(&mut self.summing, stage, &self.line);
@@ -464,5 +455,26 @@ impl Reader {
             Stage::Waiting(_, Link::Any | Link::First | Link::Unsealed) => Ok(None),
             Stage::Headed(_, _) | Stage::Inside(_, Form::Plain) => Ok(None),
         }
+    }
+
+    /// Returns what the line that has not ended may be, in words for a person, once `next` has failed with this fault.
+    pub fn due<M: Written>(&self, alloc: Global, what: What) -> Result<String, AllocError>
+        ensures { IfOk result (λ due. string_bytes due ≡ due_line M.VERSION self.now what) }
+    {
+        let mut due = String::new(alloc);
+        match what {
+            What::TooLong => due.push_str("at most 1,114,112 bytes")?,
+            _ => write_due::<M>(&mut due, self.stage, &self.summing)?,
+        }
+        Ok(due)
+    }
+
+    /// Returns what has come of the line that has not ended, in words for a person.
+    pub fn found(&self, alloc: Global) -> Result<String, AllocError>
+        ensures { IfOk result (λ found. string_bytes found ≡ shown_line self.now.line) }
+    {
+        let mut found = String::new(alloc);
+        write_found(&mut found, &self.line)?;
+        Ok(found)
     }
 }

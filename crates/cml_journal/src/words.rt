@@ -1,7 +1,7 @@
-//! The next word of a line.
+//! Words of a line.
 ghost use Rattle.std.specs.Prelude.{◌≡◌, Ok};
 ghost use Rattle.std.specs.Option.{option_map};
-ghost use Rattle.cml_journal.specs.{Gives, cut, without_colon, word_at, last_at, number_in, name_in};
+ghost use Rattle.cml_journal.specs.{Gives, cut, without_colon, word_at, last_at, number_in, name_in, numbered, number_before, tailed};
 
 use crate::fault::{Unread, What};
 use cml_board::Name;
@@ -59,4 +59,32 @@ pub(crate) fn name_in(word: &str) -> Result<Name, Unread>
 {
     let number = number_in(word)?;
     Ok(Name(number))
+}
+
+/// The number behind this word, if the line has just these.
+pub(crate) fn numbered(word: &str, line: &str) -> Option<u64>
+    ensures { result ≡ numbered word.now line.now }
+{
+    match cut(line) {
+        Some((first, number)) if first == word => number_of(number),
+        _ => None,
+    }
+}
+
+/// The number behind this word, and what is behind that.
+pub(crate) fn tailed<'a>(word: &str, line: &'a str) -> Option<(u64, &'a str)>
+    ensures { option_map (λ found. (found.0, found.1.now)) result ≡ tailed word.now line.now }
+{
+    match cut(line) {
+        Some((first, rest)) if first == word => number_before(rest),
+        _ => None,
+    }
+}
+
+fn number_before(text: &str) -> Option<(u64, &str)>
+    ensures { option_map (λ found. (found.0, found.1.now)) result ≡ number_before text.now }
+{
+    let (word, rest) = cut(text)?;
+    let number = number_of(word)?;
+    Some((number, rest))
 }

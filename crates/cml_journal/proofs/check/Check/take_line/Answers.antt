@@ -19,7 +19,7 @@ pub returns-in-Err-clause-halted : goal.returns-in-Err-clause-halted
 returns-in-Err-clause-halted g c =
     let old = was g (goal.at.returns-in-Err-clause-halted g c).After-next in
     rw (← c.self.view_is) (halts_at_fault g.M.Written.VERSION g.M.Written.meaning _ old (record old { state = c.next.new.self })
-    c.args.bytes.now c.in-Err.unread c.of_unread.result c.of_unread.ensures c.in-Err.ensures.fault c.in-Err.ensures.line refl
+    c.args.bytes.now c.in-Err.unread c.of_unread.result c.of_unread.ensures c.in-Err.ensures.fault refl
     (ap (λ (n : ℕ). (n + 1) % 2 ^ 64) c.lines-line.ensures))
 
 pub returns-in_err-feed-clause-halted : goal.returns-in_err-feed-clause-halted

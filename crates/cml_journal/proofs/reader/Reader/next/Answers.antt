@@ -8,8 +8,8 @@ use Rattle.cml_journal.proofs.reader.Reader.next.Goals as goal
 pub returns-in_err-hold-clause-fault : goal.returns-in_err-hold-clause-fault
 returns-in_err-hold-clause-fault g c =
     let p = err_from_is_err_and c.from_residual.result c.from_residual.ensures.1 in
-    rw (p.1, p.2) (fault_held g.M.Written.VERSION g.M.Written.meaning c.args.self.now c.args.bytes.now c.in_err-hold.field-0.0
-    c.hold.ensures.short c.in_default.ensures c.in_err-hold.ensures.held)
+    rw (p.1, p.2) (fault_held g.M.Written.VERSION g.M.Written.meaning c.args.self.now c.hold.new.self c.args.bytes.now
+    c.in_err-hold.field-0.0 c.hold.ensures.short c.in_default.ensures c.in_err-hold.ensures.held c.in_err-hold.ensures.leaves)
 
 pub returns-in_default-clause-taken : goal.returns-in_default-clause-taken
 returns-in_default-clause-taken g c =
@@ -23,18 +23,21 @@ returns-in_default-clause-taken g c =
 pub returns-in_err-hold-2-clause-fault : goal.returns-in_err-hold-2-clause-fault
 returns-in_err-hold-2-clause-fault g c =
     let p = err_from_is_err_and c.from_residual-in_err-hold-2.result c.from_residual-in_err-hold-2.ensures.1 in
-    let fault = fault_front g.M.Written.VERSION g.M.Written.meaning c.args.self.now c.in-Some.front.now c.in-Some.rest.now
-    c.in_err-hold-2.field-0.0 c.hold-2.ensures.short c.in-Some.ensures.1 c.in_err-hold-2.ensures.held in
-    rw (p.1, p.2) (subst (λ (bytes : List ℕ). Meets g.M.Written.VERSION g.M.Written.meaning c.args.self.now bytes c.in_err-hold-2.field-0.0)
+    let fault = fault_front g.M.Written.VERSION g.M.Written.meaning c.args.self.now c.hold-2.new.self c.in-Some.front.now c.in-Some.rest.now
+    c.in_err-hold-2.field-0.0 c.hold-2.ensures.short c.in-Some.ensures.1 c.in_err-hold-2.ensures.held
+    c.in_err-hold-2.ensures.leaves in
+    rw (p.1, p.2) (subst (λ (bytes : List ℕ). Meets g.M.Written.VERSION g.M.Written.meaning c.args.self.now bytes c.hold-2.new.self
+    c.in_err-hold-2.field-0.0)
     (sym c.in-Some.ensures.0) fault)
 
 pub returns-in_err-entry-clause-fault : goal.returns-in_err-entry-clause-fault
 returns-in_err-entry-clause-fault g c =
     let p = err_from_is_err_and c.from_residual-in_err-entry.result c.from_residual-in_err-entry.ensures.1 in
-    let fault = fault_turned g.M.Written.VERSION g.M.Written.meaning c.args.self.now c.hold-2.new.self c.in-Some.front.now
-    c.in-Some.rest.now c.in_err-entry.field-0.0 c.hold-2.ensures.short c.in-Some.ensures.1 c.in_ok-hold-2.ensures.held
-    c.hold-2.ensures.line c.in_err-entry.ensures.turned in
-    rw (p.1, p.2) (subst (λ (bytes : List ℕ). Meets g.M.Written.VERSION g.M.Written.meaning c.args.self.now bytes c.in_err-entry.field-0.0)
+    let fault = fault_turned g.M.Written.VERSION g.M.Written.meaning c.args.self.now c.hold-2.new.self c.turn.new.self
+    c.in-Some.front.now c.in-Some.rest.now c.in_err-entry.field-0.0 c.hold-2.ensures.short c.in-Some.ensures.1 c.in_ok-hold-2.ensures.held
+    c.hold-2.ensures.line c.in_err-entry.ensures.turned c.in_err-entry.ensures.stays in
+    rw (p.1, p.2) (subst (λ (bytes : List ℕ). Meets g.M.Written.VERSION g.M.Written.meaning c.args.self.now bytes c.turn.new.self
+    c.in_err-entry.field-0.0)
     (sym c.in-Some.ensures.0) fault)
 
 pub returns-clause-taken : goal.returns-clause-taken
