@@ -145,7 +145,8 @@ ends() {
 endings() {
     ends 'an unlawful journal' 7 "$(printf 'unlawful at 1: seat 0 recv 0: 5\nanswer: waits')" none \
         'journal 1 / seat 0 mailbox: made 0 / seat 0 recv 0: 5 / end 2'
-    ends 'a fault' 2 none 'journal: line 2: unknown word' 'journal 1 / seat 0 letter: made 0 / end 1'
+    ends 'a fault' 2 none "$(printf 'journal: line 2: unknown word\nexpected: an entry, or `end 0`\nfound: `seat 0 letter: made 0`')" \
+        'journal 1 / seat 0 letter: made 0 / end 1'
     ends 'a torn journal' 2 none 'journal: torn behind line 2' 'journal 1 / seat 0 mailbox: made 0'
     ends 'a journal behind a cut' 2 none 'journal: begins behind a cut' 'journal 1 / from 1 / end 1'
     run compact < /dev/null

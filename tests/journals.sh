@@ -68,6 +68,9 @@ chain='journal 3 / seat 0 mailbox: made 0 / end 1 SUM / journal 3 BEFORE / from 
  / journal 3 BEFORE / from 2 / seat 0 recv 0: 5 / end 3 SUM'
 chain=$(printf '%s' "$chain" | tr -d '\n')
 cut='journal 1 / from 10 / seat 0 recv 2: 5 / end 11'
+# What may be on a journal's first line, and on the first of its entries.
+any_header='`journal 1`, `journal 2`, `journal 3` or `journal 4`'
+entry_or_end='an entry, or `end 0`'
 
 # each_call VERSION: a journal of each call of the table on each kind of object that takes it, with each reply.
 each_call() { awk -v part=journal -v version="$1" -f tests/models/calls.awk -f tests/models/each_call.awk; }
@@ -157,26 +160,30 @@ sum SUM"
         "journal 4 / seat 0 mailbox: made 0 / end 1 SUM / journal 4 BEFORE / from 1 / seat 1 send 0 =a'%20b: done / end 2 SUM"
     told_sealed 'a sealed piece of nothing' 0 "$(verdict 1)" none \
         'journal 3 / seat 0 mailbox: made 0 / end 1 SUM / journal 3 BEFORE / from 1 / end 1 SUM'
+    within='an entry, or `end 0 SUM`'
     for fault in \
-        '2 wrong sum|journal 3 / end 0 OTHER' \
-        '2 wrong sum|journal 3 / end 0 x' \
-        '2 wrong end|journal 3 / end 1 SUM' \
-        '2 wrong end|journal 3 / end 1 x' \
-        '2 too few words|journal 3 / end 0' \
-        '2 bad number|journal 3 / end 00 SUM' \
-        '2 unknown word|journal 1 / end 0 SUM' \
-        '1 wrong sum|journal 3 OTHER / end 0 SUM' \
-        '1 wrong sum|journal 3 x / end 0 SUM' \
-        '1 no header|journal 1 OTHER / end 0' \
-        '1 no header|journal 5 OTHER / end 0' \
-        '3 wrong sum|journal 3 / end 0 SUM / journal 3 / end 0 SUM' \
-        '3 wrong sum|journal 3 / end 0 SUM / journal 3 OTHER / end 0 SUM' \
-        '3 no header|journal 3 / end 0 SUM / journal 1 / end 0' \
-        '3 no header|journal 3 / end 0 SUM / journal 4 BEFORE / end 0 SUM' \
-        '3 no header|journal 1 / end 0 / journal 3 / end 0 SUM' \
-        '4 gap|journal 3 / end 0 SUM / journal 3 BEFORE / from 1 / end 1 SUM'; do
+        "2 wrong sum|$within|journal 3 / end 0 OTHER" \
+        "2 wrong sum|$within|journal 3 / end 0 x" \
+        "2 wrong end|$within|journal 3 / end 1 SUM" \
+        "2 wrong end|$within|journal 3 / end 1 x" \
+        '4 wrong end|an entry, or `end 2 SUM`|journal 3 / seat 0 mailbox: made 0 / lane 0 send 0 5: done / end 1 SUM' \
+        "2 too few words|$within|journal 3 / end 0" \
+        "2 bad number|$within|journal 3 / end 00 SUM" \
+        '2 unknown word|an entry, or `end 0`|journal 1 / end 0 SUM' \
+        "1 wrong sum|$any_header|journal 3 OTHER / end 0 SUM" \
+        "1 wrong sum|$any_header|journal 3 x / end 0 SUM" \
+        "1 no header|$any_header|journal 1 OTHER / end 0" \
+        "1 another version|$any_header|journal 5 OTHER / end 0" \
+        '3 wrong sum|`journal 3 LAST`|journal 3 / end 0 SUM / journal 3 / end 0 SUM' \
+        '3 wrong sum|`journal 3 LAST`|journal 3 / end 0 SUM / journal 3 OTHER / end 0 SUM' \
+        '3 no header|`journal 4 LAST`|journal 4 / end 0 SUM / journal 2 / end 0' \
+        '3 another type of messages|`journal 3 LAST`|journal 3 / end 0 SUM / journal 4 BEFORE / end 0 SUM' \
+        '3 another version|`journal 3 LAST`|journal 3 / end 0 SUM / journal 6 BEFORE / end 0 SUM' \
+        '3 no header|`journal 1`|journal 1 / end 0 / journal 3 / end 0 SUM' \
+        '4 gap|an entry, or `end 0 SUM`|journal 3 / end 0 SUM / journal 3 BEFORE / from 1 / end 1 SUM'; do
         place=${fault%%|*}
-        told_sealed "sealed: $place" 2 none "journal: line ${place%% *}: ${place#* }" "${fault#*|}"
+        rest=${fault#*|}
+        faulty_sealed "${place#* }" "${place%% *}" "${rest%%|*}" "${rest#*|}"
     done
     told_sealed 'sealed behind a cut' 2 none 'journal: begins behind a cut' 'journal 3 / from 1 / end 1 SUM'
     told_sealed 'a sealed line that is torn' 2 none 'journal: torn behind line 1' 'journal 3'
@@ -185,43 +192,78 @@ sum SUM"
     expect 'the state of sealed pieces' 0 "$(verdict 3 | sed "s/SUM/$(sed -n '$s/.* //p' "$work/in")/"; printf '\nmailbox 0: sent 1 got 1 waits 0')" none
 }
 
-# faulty FAULT LINE LINES
-faulty() { told "$1" 2 none "journal: line $2: $1" "$3"; }
+# faulty FAULT LINE EXPECTED LINES: a journal with this fault on this line, what is expected there, and the line, which is short.
+faulty() { told "$1" 2 none "$(fault_lines "$1" "$2" "$3" "$(script "$4" | sed -n "$2p")")" "$4"; }
+
+# faulty_sealed: the same of sealed pieces. `SUM` in EXPECTED becomes the sum of the piece's lines before the fault, and `LAST` the
+# sum of the piece before.
+faulty_sealed() {
+    seal "$4" > "$work/in"
+    last=$(head -n $(($2 - 1)) "$work/in" | sed -n '$s/.* //p')
+    so_far=$(head -n $(($2 - 1)) "$work/in" | awk '/^journal / { piece = "" } { piece = piece $0 "\n" } END { printf "%s", piece }' | sha256sum)
+    expected=$(echo "$3" | sed "s/SUM/${so_far%% *}/; s/LAST/$last/")
+    told_sealed "sealed: $1" 2 none "$(fault_lines "$1" "$2" "$expected" "$(sed -n "$2p" "$work/in")")" "$4"
+}
+
+# fault_lines FAULT LINE EXPECTED FOUND: what standard error says.
+fault_lines() {
+    case ${#4} in
+        0) shown='an empty line' ;;
+        [1-9] | [1-7][0-9] | 80) shown=\`$4\` ;;
+        *) shown=\`$(echo "$4" | cut -c 1-80)\`.. ;;
+    esac
+    printf 'journal: line %s: %s\nexpected: %s\nfound: %s' "$2" "$1" "$3" "$shown"
+}
 
 faults() {
-    faulty 'no header' 1 'journal 5 / end 0'
-    faulty 'no header' 1 'journal 01 / end 0'
-    faulty 'no header' 1 'seat 0 mailbox: made 0'
-    faulty 'no header' 3 'journal 1 / end 0 / journal 2 / end 0'
-    faulty 'unknown word' 2 'journal 1 / seat 0 letter 5: done / end 1'
-    faulty 'unknown word' 2 'journal 1 / thread 0 mailbox: made 0 / end 1'
-    faulty 'bad number' 2 'journal 1 / seat 00 mailbox: made 0 / end 1'
-    faulty 'bad number' 2 'journal 1 / seat 18446744073709551616 mailbox: made 0 / end 1'
-    faulty 'bad message' 2 'journal 1 / seat 0 send 0 x: done / end 1'
-    faulty 'bad message' 2 'journal 2 / seat 0 send 0 5: done / end 1'
-    faulty 'bad message' 2 'journal 2 / seat 0 send 0 =%2: done / end 1'
-    faulty 'bad message' 2 'journal 2 / seat 0 send 0 =%61: done / end 1'
-    faulty 'wrong reply' 2 'journal 1 / seat 0 mailbox: done / end 1'
-    faulty 'wrong reply' 3 'journal 1 / seat 0 mailbox: made 0 / seat 0 send 0 5: none / end 2'
-    faulty 'wrong end' 3 'journal 1 / seat 0 mailbox: made 0 / end 2'
-    faulty 'gap' 5 'journal 1 / seat 0 mailbox: made 0 / end 1 / journal 1 / from 2 / end 2'
-    faulty 'gap' 5 'journal 1 / seat 0 mailbox: made 0 / end 1 / journal 1 / seat 0 mailbox: made 1 / end 2'
-    faulty 'bad bytes' 2 "journal 1 / seat 0$(printf '\t')mailbox: made 0 / end 1"
+    faulty 'another version' 1 "$any_header" 'journal 5 / end 0'
+    faulty 'another version' 1 "$any_header" 'journal 0 / end 0'
+    faulty 'another version' 1 "$any_header" 'journal 20 / end 0'
+    faulty 'another version' 1 "$any_header" 'journal 5 / from 1 / end 1'
+    faulty 'another version' 3 '`journal 2`' 'journal 2 / end 0 / journal 5 x / end 0'
+    faulty 'another type of messages' 3 '`journal 1`' 'journal 1 / end 0 / journal 2 / end 0'
+    faulty 'another type of messages' 3 '`journal 1`' 'journal 1 / end 0 / journal 4 / end 0'
+    faulty 'another type of messages' 4 '`journal 2`' 'journal 2 / seat 0 mvar =: made 0 / end 1 / journal 1 / from 1 / end 1'
+    faulty 'no header' 1 "$any_header" 'journal 01 / end 0'
+    faulty 'no header' 1 "$any_header" 'journal 2 x / end 0'
+    faulty 'no header' 1 "$any_header" 'seat 0 mailbox: made 0'
+    faulty 'no header' 1 "$any_header" 'seat 0 mafrom 1'
+    faulty 'no header' 1 "$any_header" ' / end 0'
+    faulty 'no header' 3 '`journal 1`' 'journal 1 / end 0 / end 0'
+    faulty 'unknown word' 2 "$entry_or_end" 'journal 1 / seat 0 letter 5: done / end 1'
+    faulty 'unknown word' 2 "$entry_or_end" 'journal 1 / thread 0 mailbox: made 0 / end 1'
+    faulty 'bad number' 2 "$entry_or_end" 'journal 1 / seat 00 mailbox: made 0 / end 1'
+    faulty 'bad number' 2 "$entry_or_end" 'journal 1 / seat 18446744073709551616 mailbox: made 0 / end 1'
+    faulty 'bad message' 2 "$entry_or_end" 'journal 1 / seat 0 send 0 x: done / end 1'
+    faulty 'bad message' 2 "$entry_or_end" 'journal 2 / seat 0 send 0 5: done / end 1'
+    faulty 'bad message' 2 "$entry_or_end" 'journal 2 / seat 0 send 0 =%2: done / end 1'
+    faulty 'bad message' 2 "$entry_or_end" 'journal 2 / seat 0 send 0 =%61: done / end 1'
+    faulty 'wrong reply' 2 "$entry_or_end" 'journal 1 / seat 0 mailbox: done / end 1'
+    faulty 'wrong reply' 3 'an entry, or `end 1`' 'journal 1 / seat 0 mailbox: made 0 / seat 0 send 0 5: none / end 2'
+    faulty 'wrong end' 3 'an entry, or `end 1`' 'journal 1 / seat 0 mailbox: made 0 / end 2'
+    faulty 'gap' 5 '`from 1`' 'journal 1 / seat 0 mailbox: made 0 / end 1 / journal 1 / from 2 / end 2'
+    faulty 'gap' 5 '`from 1`' 'journal 1 / seat 0 mailbox: made 0 / end 1 / journal 1 / seat 0 mailbox: made 1 / end 2'
+    faulty 'gap' 4 "$entry_or_end" 'journal 1 / end 0 / journal 1 / from 1 / end 1'
+    told 'bad bytes' 2 none "$(printf 'journal: line 2: bad bytes\nexpected: %s\nfound: `seat 0?mailbox: made 0`' "$entry_or_end")" \
+        "journal 1 / seat 0$(printf '\t')mailbox: made 0 / end 1"
     told 'behind a cut' 2 none 'journal: begins behind a cut' 'journal 1 / from 1 / end 1'
-    faulty 'bad bytes' 2 'journal 1 / seat x mailbox: made é / end 1'
-    faulty 'no header' 1 'journal 5 / from 1 / end 1'
-    faulty 'no header' 1 'seat 0 mafrom 1'
-    faulty 'bad number' 2 'journal 1 / thread 00 mailbox: made 0 / end 1'
-    faulty 'too few words' 2 'journal 1 / mailbox / end 1'
-    faulty 'too few words' 2 'journal 1 / end 00'
-    faulty 'no colon' 2 'journal 1 / seat 0 recv x 5 / end 1'
-    faulty 'unknown word' 2 'journal 1 / seat 0 recv 0: a b / end 1'
-    faulty 'bad message' 2 'journal 1 / seat 0 recv 0: made / end 1'
-    faulty 'bad number' 4 'journal 1 / end 0 / journal 1 / from 0 / end 0'
+    told 'bytes of a letter' 2 none "$(printf 'journal: line 2: bad bytes\nexpected: %s\nfound: `seat x mailbox: made ??`' "$entry_or_end")" \
+        'journal 1 / seat x mailbox: made é / end 1'
+    faulty 'bad number' 2 "$entry_or_end" 'journal 1 / thread 00 mailbox: made 0 / end 1'
+    faulty 'too few words' 2 "$entry_or_end" 'journal 1 / mailbox / end 1'
+    faulty 'too few words' 2 "$entry_or_end" 'journal 1 / end 00'
+    faulty 'too few words' 2 "$entry_or_end" 'journal 1 /  / end 0'
+    faulty 'no colon' 2 "$entry_or_end" 'journal 1 / seat 0 recv x 5 / end 1'
+    faulty 'unknown word' 2 "$entry_or_end" 'journal 1 / seat 0 recv 0: a b / end 1'
+    faulty 'bad message' 2 "$entry_or_end" 'journal 1 / seat 0 recv 0: made / end 1'
+    faulty 'bad number' 4 "$entry_or_end" 'journal 1 / end 0 / journal 1 / from 0 / end 0'
+    wide=$(head -c 80 /dev/zero | tr '\0' w)
+    faulty 'too few words' 2 "$entry_or_end" "journal 1 / $wide"
+    faulty 'too few words' 2 "$entry_or_end" "journal 1 / ${wide}w"
     told 'a cut line that is torn' 2 none 'journal: torn behind line 1' 'journal 1'
     printf 'journal 1\nseat 0 mail\000box: made 0\nend 1\n' > "$work/in"
     run check < "$work/in"
-    expect 'a byte 0' 2 none 'journal: line 2: bad bytes'
+    expect 'a byte 0' 2 none "$(printf 'journal: line 2: bad bytes\nexpected: %s\nfound: `seat 0 mail?box: made 0`' "$entry_or_end")"
     run check < /dev/null
     expect 'no input' 2 none 'journal: torn behind line 0'
     { printf 'journal 2\nseat 0 mvar ='; head -c 1000000 /dev/zero | tr '\0' a; printf ': made 0\nend 1\n'; } > "$work/in"
@@ -229,12 +271,16 @@ faults() {
     expect 'a message of a million bytes' 0 'lawful 1' none
 }
 
+# too_long LINE FRONT: what standard error says of a line that is too long, by its first 80 bytes.
+too_long() { printf 'journal: line %s: line too long\nexpected: at most 1,114,112 bytes\nfound: `%s`..' "$1" "$2"; }
+
 # long_line CASE BYTES: a line of so many bytes, of which few are kept.
 long_line() {
     { printf 'journal 2\nseat 0 mvar ='; head -c "$2" /dev/zero | tr '\0' a; printf ': made 0\nend 1\n'; } > "$work/in"
     (ulimit -v 65536 && run check < "$work/in" && echo "$status" > "$work/status")
     status=$(cat "$work/status")
-    expect "$1" 2 none 'journal: line 2: line too long'
+    begins=$(head -c 67 /dev/zero | tr '\0' a)
+    expect "$1" 2 none "$(too_long 2 "seat 0 mvar =$begins")"
 }
 
 long_lines() {
@@ -242,7 +288,7 @@ long_lines() {
     long_line 'a line of 10 MB' 10000000
     head -c 10000000 /dev/zero | tr '\0' ' ' > "$work/in"
     run check < "$work/in"
-    expect '10 MB of spaces' 2 none 'journal: line 1: line too long'
+    expect '10 MB of spaces' 2 none "$(too_long 1 "$(printf '%80s' '')")"
 }
 
 # A journal of 400,001 entries, in memory for what waits: one message.
@@ -328,8 +374,7 @@ says='
     for file; do
         output=$(timeout 60 "$program" check --state < "$file" 2> "$told.$$.errors")
         status=$?
-        errors=
-        read -r errors < "$told.$$.errors"
+        errors=$(cat "$told.$$.errors")
         echo "== $file"
         [ -z "$output" ] || echo "$output"
         echo "status $status $errors"

@@ -4,7 +4,7 @@
 #     awk -f tests/models/calls.awk -f tests/models/journal_judge.awk FILE..
 #
 # For each file it prints `== FILE`, then what the program that checks journals writes to standard output, and then `status N`
-# with what the program writes to standard error. With `-v state=1` it prints the lines of the objects too.
+# with what the program writes to standard error, whose further lines follow. With `-v state=1` it prints the lines of the objects too.
 #
 # Numbers have up to 64 bits and awk's have not, so they are compared as texts. A file has no bytes 0 or 1.
 
@@ -35,12 +35,14 @@ function judge(text,    line, count, k, fault, unended) {
     unended = count ? line[count] : ""
     for (k = 1; k < count; k++) {
         if (k == 2 && line[2] ~ /^from /) return no_journal("journal: begins behind a cut")
+        remember()
         fault = fault_of(line[k])
-        if (fault != "") return no_journal("journal: line " k ": " fault)
+        if (fault != "") return faulty(k, fault, line[k])
         if (!is_lawful) return unlike(line[k])
     }
     if (count == 2 && unended ~ /^from /) return no_journal("journal: begins behind a cut")
-    if (length(unended) > longest) return no_journal("journal: line " count ": line too long")
+    remember()
+    if (length(unended) > longest) return faulty(count, "line too long", unended)
     if (stage != "ended" || unended != "") return no_journal("journal: torn behind line " (count ? count - 1 : 0))
     print "lawful " entries
     if (sealed) print "sum " sum
@@ -49,6 +51,35 @@ function judge(text,    line, count, k, fault, unended) {
 }
 
 function no_journal(why) { print "status 2 " why }
+
+# What is said of a fault: its line, what that line may be, and what it is.
+function faulty(k, fault, line) {
+    no_journal("journal: line " k ": " fault)
+    print "expected: " due(fault)
+    print "found: " found(line)
+}
+
+# Where the line is that is read next.
+function remember() {
+    place = stage
+    lines = piece
+    last = sum
+}
+
+function due(fault) {
+    if (fault == "line too long") return "at most 1,114,112 bytes"
+    if (place == "none") return "`journal 1`, `journal 2`, `journal 3` or `journal 4`"
+    if (place == "ended") return "`journal " shown (sealed ? " " last : "") "`"
+    if (place == "headed" && entries > 0) return "`from " entries "`"
+    return "an entry, or `end " entries (sealed ? " " sum_of(lines) : "") "`"
+}
+
+function found(line,    front) {
+    if (line == "") return "an empty line"
+    front = substr(line, 1, 80)
+    gsub(/[^ -~]/, "?", front)
+    return "`" front "`" (length(line) > 80 ? ".." : "")
+}
 
 function unlike(entry) {
     print "unlawful at " (entries - 1) ": " entry
@@ -86,10 +117,16 @@ function fault_of(line) {
     return entry(line)
 }
 
-function header(line) {
+function header(line,    number) {
+    number = substr(line, 9)
+    sub(/ .*/, "", number)
+    if (line !~ /^journal / || !is_number(number)) return "no header"
+    if (number !~ /^[1-4]$/) return "another version"
+    # Odd versions have numbers, and even ones bytes.
+    if (shown != "" && number % 2 != shown % 2) return "another type of messages"
     if (line !~ /^journal [1-4]$/ && line !~ /^journal [34] /) return "no header"
-    if (shown != "" && substr(line, 9, 1) != shown) return "no header"
-    shown = substr(line, 9, 1)
+    if (shown != "" && number != shown) return "no header"
+    shown = number
     sealed = shown > 2
     version = sealed ? shown - 2 : shown
     if (sealed && substr(line, 10) != (stage == "none" ? "" : " " sum)) return "wrong sum"
@@ -101,15 +138,20 @@ function header(line) {
 # The last line of a piece with a sum has a number and a word.
 function is_sealed_end(line) { return line ~ /^end [^ ]* / && is_number(substr(line, 5, index(substr(line, 5), " ") - 1)) }
 
-# The sum is that of the piece's lines before. They have printed bytes alone, so the shell takes them as they are.
-function sealed_end(line,    number, command) {
+# They have printed bytes alone, so the shell takes them as they are.
+function sum_of(text,    command, word) {
+    gsub(/'/, "'\\''", text)
+    command = "printf %s '" text "' | sha256sum"
+    command | getline word
+    close(command)
+    return substr(word, 1, 64)
+}
+
+# The sum is that of the piece's lines before.
+function sealed_end(line,    number) {
     number = substr(line, 5, index(substr(line, 5), " ") - 1)
     if (!same(number, entries)) return "wrong end"
-    gsub(/'/, "'\\''", piece)
-    command = "printf %s '" piece "' | sha256sum"
-    command | getline sum
-    close(command)
-    sum = substr(sum, 1, 64)
+    sum = sum_of(piece)
     if (line != "end " number " " sum) return "wrong sum"
     stage = "ended"
     return ""

@@ -5,6 +5,7 @@ use Rattle.std.proofs.lemmas.List.{append-nil, take_all, take_at, take-append-dr
 use Rattle.std.proofs.KnownBytes.{Consumes-nil, Consumes-trans}
 use Rattle.std.specs.Io.KnownBytes.{Appends, Consumes, IsAtEnd}
 use Rattle.cml_journal.specs.{Stop, line_of, State, Read, last_sum, Progress, IsSoFar, Goes, StopsIn, ShowsUnlawful}
+use Rattle.cml_journal.specs.{ShowsFault, What, shown_line}
 use Rattle.cml_journal.specs.{IsLawfulJournal, IsRestored}
 use Rattle.cml_journal.specs.{number_of, bytes_text, message_of_word}
 use Rattle.cml_journal.specs.declared.stop.Stop.TheVariants as stop
@@ -17,10 +18,10 @@ use Rattle.cml.specs.declared.check.ending.Ending.TheVariants.{Lawful as lawful,
 use Rattle.cml.specs.declared.check.ending.Ending.TheVariants.{WriteFault, NoMemory, Compacted, TooLong}
 use Rattle.cml.specs.declared.check.wanted.Wanted.{Wanted}
 use Rattle.cml.specs.declared.check.wanted.Wanted.TheVariants as wanted
-use Rattle.cml.specs.{Writes, answer_text, lines_for, object_line, object_lines, state_lines, told_state, told_sum}
+use Rattle.cml.specs.{Writes, answer_text, expected_text, lines_for, object_line, object_lines, state_lines, told_state, told_sum}
 use Rattle.cml.specs.{IsSilent, IsRead, IsFront}
 use Rattle.cml.specs.{GivesCut, EndsInFront, is_behind_cut, IsVerdict, TellsAs, ConcludesAs, ConcludesBy, is_of_bytes, Tells, EndsAs}
-use Rattle.cml.specs.{EndsIn, IsEarly, IsHeardOut, IsStateOf, IsToldLawful, IsToldUnlawful, Concludes}
+use Rattle.cml.specs.{EndsIn, IsEarly, IsHeardOut, IsStateOf, IsToldFaulty, IsToldLawful, IsToldUnlawful, Concludes}
 
 -- a front that is all
 short_front : (front : List ℕ) → length front ≤ 15 → front ≡ take 15 (front ++ [])
@@ -42,7 +43,20 @@ module _ {M : Type 0} (version : ℕ) (meaning : List ℕ → Option M) (text : 
         answered = ends.2 shows.expected (ap expected_of shows.shown);
       })
 
-  pub ends_as_stopped : (old new : Progress M) (bytes : List ℕ) (told : Stop) (ending : Ending) → EndsAs text new told ending
+  told_faulty : (bytes : List ℕ) (line number : ℕ) (what fault : What) (due found : String Global) (new : Progress M)
+      → ShowsFault version meaning bytes line what new.state new.checker
+      → (number ≡ line) × (fault ≡ what) × (string_bytes due ≡ expected_text version new.state what)
+      × (string_bytes found ≡ shown_line new.state.line)
+      → IsToldFaulty version meaning text bytes number fault (string_bytes due) (string_bytes found)
+  told_faulty bytes line number what fault due found new shows ends =
+      subst (λ (k : ℕ). IsToldFaulty version meaning text bytes k fault (string_bytes due) (string_bytes found)) (sym ends.0)
+      (subst (λ (w : What). IsToldFaulty version meaning text bytes line w (string_bytes due) (string_bytes found)) (sym ends.1) (record {
+        is = shows.is;
+        expected = ends.2 ∙ ap (λ (s : State). expected_text version s what) shows.state;
+        shown = ends.3 ∙ ap (λ (s : State). shown_line s.line) shows.state;
+      }))
+
+  pub ends_as_stopped : (old new : Progress M) (bytes : List ℕ) (told : Stop) (ending : Ending) → EndsAs version text new told ending
       → StopsIn version meaning text old bytes new told → EndsIn version meaning text old bytes ending
   ends_as_stopped old new bytes (stop.Unlawful at line) (Unlawful position entry answer) ends stops = (
     tt,
@@ -51,15 +65,26 @@ module _ {M : Type 0} (version : ℕ) (meaning : List ℕ → Option M) (text : 
   )
   ends_as_stopped old new bytes (stop.Unlawful at line) NoMemory ends stops = (tt, λ asked before so. tt)
   ends_as_stopped old new bytes (stop.Unlawful at line) (lawful count state) ends stops = absurd ends
-  ends_as_stopped old new bytes (stop.Unlawful at line) (Fault number what) ends stops = absurd ends
+  ends_as_stopped old new bytes (stop.Unlawful at line) (Fault number what due found) ends stops = absurd ends
   ends_as_stopped old new bytes (stop.Unlawful at line) (Torn number) ends stops = absurd ends
   ends_as_stopped old new bytes (stop.Unlawful at line) BehindCut ends stops = absurd ends
   ends_as_stopped old new bytes (stop.Unlawful at line) (Compacted written) ends stops = absurd ends
   ends_as_stopped old new bytes (stop.Unlawful at line) (TooLong place) ends stops = absurd ends
   ends_as_stopped old new bytes (stop.Unlawful at line) ReadFault ends stops = absurd ends
   ends_as_stopped old new bytes (stop.Unlawful at line) WriteFault ends stops = absurd ends
-  ends_as_stopped old new bytes (stop.Fault line what) ending ends stops =
-      subst (λ (e : Ending). EndsIn version meaning text old bytes e) (sym ends) (tt, λ asked before so. (stops before so).is)
+  ends_as_stopped old new bytes (stop.Fault line what) (Fault number fault due found) ends stops = (
+    tt,
+    λ asked before so. told_faulty (before ++ bytes) line number what fault due found new (stops before so) ends,
+  )
+  ends_as_stopped old new bytes (stop.Fault line what) NoMemory ends stops = (tt, λ asked before so. tt)
+  ends_as_stopped old new bytes (stop.Fault line what) (lawful count state) ends stops = absurd ends
+  ends_as_stopped old new bytes (stop.Fault line what) (Unlawful position entry answer) ends stops = absurd ends
+  ends_as_stopped old new bytes (stop.Fault line what) (Torn number) ends stops = absurd ends
+  ends_as_stopped old new bytes (stop.Fault line what) BehindCut ends stops = absurd ends
+  ends_as_stopped old new bytes (stop.Fault line what) (Compacted written) ends stops = absurd ends
+  ends_as_stopped old new bytes (stop.Fault line what) (TooLong place) ends stops = absurd ends
+  ends_as_stopped old new bytes (stop.Fault line what) ReadFault ends stops = absurd ends
+  ends_as_stopped old new bytes (stop.Fault line what) WriteFault ends stops = absurd ends
   ends_as_stopped old new bytes stop.NoMemory ending ends stops =
       subst (λ (e : Ending). EndsIn version meaning text old bytes e) (sym ends) (tt, λ asked before so. tt)
 
@@ -108,7 +133,7 @@ module _ {M : Type 0} (version : ℕ) (meaning : List ℕ → Option M) (text : 
   heard_early (Compacted written) new is = absurd is
   heard_early (TooLong place) new is = absurd is
   heard_early (Unlawful at line answer) new is = tt
-  heard_early (Fault line what) new is = tt
+  heard_early (Fault line what due found) new is = tt
   heard_early NoMemory new is = tt
   heard_early BehindCut new is = tt
   heard_early ReadFault new is = tt
@@ -120,7 +145,7 @@ module _ {M : Type 0} (version : ℕ) (meaning : List ℕ → Option M) (text : 
   heard_at_end (Compacted written) new end = end
   heard_at_end (TooLong place) new end = end
   heard_at_end (Unlawful at line answer) new end = tt
-  heard_at_end (Fault line what) new end = tt
+  heard_at_end (Fault line what due found) new end = tt
   heard_at_end NoMemory new end = tt
   heard_at_end BehindCut new end = tt
   heard_at_end ReadFault new end = tt
@@ -228,7 +253,7 @@ silent_heard NoMemory new silent = tt
 silent_heard BehindCut new silent = tt
 silent_heard (lawful count state) new silent = absurd silent
 silent_heard (Unlawful at line answer) new silent = absurd silent
-silent_heard (Fault line what) new silent = absurd silent
+silent_heard (Fault line what due found) new silent = absurd silent
 silent_heard (Torn line) new silent = absurd silent
 silent_heard (Compacted written) new silent = absurd silent
 silent_heard (TooLong place) new silent = absurd silent
@@ -242,7 +267,7 @@ silent_tells version meaning text asked bytes NoMemory silent = tt
 silent_tells version meaning text asked bytes BehindCut silent = absurd silent
 silent_tells version meaning text asked bytes (lawful count state) silent = absurd silent
 silent_tells version meaning text asked bytes (Unlawful at line answer) silent = absurd silent
-silent_tells version meaning text asked bytes (Fault line what) silent = absurd silent
+silent_tells version meaning text asked bytes (Fault line what due found) silent = absurd silent
 silent_tells version meaning text asked bytes (Torn line) silent = absurd silent
 silent_tells version meaning text asked bytes (Compacted written) silent = absurd silent
 silent_tells version meaning text asked bytes (TooLong place) silent = absurd silent
@@ -290,7 +315,7 @@ verdict_in_front asked old new WriteFault ends = verdict_silent asked old new Wr
 verdict_in_front asked old new NoMemory ends = verdict_silent asked old new NoMemory ends.0 ends.1
 verdict_in_front asked old new (lawful count state) ends = absurd ends.0
 verdict_in_front asked old new (Unlawful at line answer) ends = absurd ends.0
-verdict_in_front asked old new (Fault line what) ends = absurd ends.0
+verdict_in_front asked old new (Fault line what due found) ends = absurd ends.0
 verdict_in_front asked old new (Torn line) ends = absurd ends.0
 verdict_in_front asked old new (Compacted written) ends = absurd ends.0
 verdict_in_front asked old new (TooLong place) ends = absurd ends.0
@@ -302,7 +327,7 @@ silent_in_front old new NoMemory silent read = (silent, read)
 silent_in_front old new BehindCut silent read = absurd silent
 silent_in_front old new (lawful count state) silent read = absurd silent
 silent_in_front old new (Unlawful at line answer) silent read = absurd silent
-silent_in_front old new (Fault line what) silent read = absurd silent
+silent_in_front old new (Fault line what due found) silent read = absurd silent
 silent_in_front old new (Torn line) silent read = absurd silent
 silent_in_front old new (Compacted written) silent read = absurd silent
 silent_in_front old new (TooLong place) silent read = absurd silent
@@ -330,7 +355,7 @@ writes_line old new ending line is appends = by ending (subst (Appends old new) 
     by : (e : Ending) → Appends old new (lines_for e) → Writes e old new
     by (lawful count state) h = h
     by (Unlawful at entry answer) h = h
-    by (Fault number what) h = h
+    by (Fault number what due found) h = h
     by (Torn number) h = h
     by BehindCut h = h
     by ReadFault h = h

@@ -4,12 +4,12 @@ use Rattle.std.specs.Prelude.{length, reverse, is_some, String, Option, Some, No
 use Rattle.std.specs.Io.KnownBytes.{Consumes, IsAtEnd}
 use Rattle.cml_board.specs.{Entry, Lawful, Expected, RestoredShown, expected_of}
 use Rattle.cml_journal.specs.{Stop, State, waiting_at, end_of, last_sum, reading, Progress, IsSoFar, IsUnlawfulJournal, IsFaultyJournal}
-use Rattle.cml_journal.specs.{IsLawfulJournal, IsRestored, number_of, bytes_text, message_of_word, line_of}
+use Rattle.cml_journal.specs.{What, shown_line, IsLawfulJournal, IsRestored, number_of, bytes_text, message_of_word, line_of}
 use Rattle.cml_journal.specs.declared.stop.Stop.TheVariants as stop
 use Rattle.std.specs.List.{starts_with}
 use Rattle.std.specs.Fmt.{decimal}
 use Rattle.std.specs.Global.{Global}
-use Rattle.cml.specs.Lines.{answer_text, told_state, told_sum}
+use Rattle.cml.specs.Lines.{answer_text, expected_text, told_state, told_sum}
 use Rattle.cml.specs.declared.check.ending.Ending.{Ending}
 use Rattle.cml.specs.declared.check.ending.Ending.TheVariants.{Lawful as lawful, Unlawful, Fault, Torn, BehindCut, ReadFault}
 use Rattle.cml.specs.declared.check.ending.Ending.TheVariants.{WriteFault, NoMemory, Compacted, TooLong}
@@ -17,15 +17,19 @@ use Rattle.cml.specs.declared.check.wanted.Wanted.{Wanted}
 use Rattle.cml.specs.declared.check.wanted.Wanted.TheVariants as wanted
 use Rattle.cml.specs.Compacted.{IsCompactOf, IsNoneOf}
 
--- the ending by what stopped a check: there may be no memory for the right answer to the call
-abbrev pub EndsAs : {M : Type 0} → (M → List ℕ) → Progress M → Stop → Ending → Type 0
-EndsAs {M} text progress (stop.Unlawful at line) (Unlawful position entry answer) =
+-- the ending by what stopped a check: there may be no memory for the right answer to the call, or for what is said of a fault
+abbrev pub EndsAs : {M : Type 0} → ℕ → (M → List ℕ) → Progress M → Stop → Ending → Type 0
+EndsAs {M} version text progress (stop.Unlawful at line) (Unlawful position entry answer) =
     (position ≡ at) × (entry ≡ line)
     × ((expected : Expected M) → expected_of progress.checker ≡ Some expected → string_bytes answer ≡ answer_text text expected)
-EndsAs text progress (stop.Unlawful at line) NoMemory = ⊤
-EndsAs text progress (stop.Unlawful at line) ending = ⊥
-EndsAs text progress (stop.Fault line what) ending = ending ≡ Fault line what
-EndsAs text progress stop.NoMemory ending = ending ≡ NoMemory
+EndsAs version text progress (stop.Unlawful at line) NoMemory = ⊤
+EndsAs version text progress (stop.Unlawful at line) ending = ⊥
+EndsAs version text progress (stop.Fault line what) (Fault number fault due found) =
+    (number ≡ line) × (fault ≡ what) × (string_bytes due ≡ expected_text version progress.state what)
+    × (string_bytes found ≡ shown_line progress.state.line)
+EndsAs version text progress (stop.Fault line what) NoMemory = ⊤
+EndsAs version text progress (stop.Fault line what) ending = ⊥
+EndsAs version text progress stop.NoMemory ending = ending ≡ NoMemory
 
 -- how a check ends that gave this
 abbrev pub ending_of : Result Ending Ending → Ending
@@ -109,11 +113,17 @@ module _ {M : Type 0} (version : ℕ) (meaning : List ℕ → Option M) (text : 
     pub told : line ≡ line_of text entry
     pub answered : answer ≡ answer_text text expected
 
+  -- this is the first fault, on this line, and these are what is expected there and what was found
+  pub record IsToldFaulty (bytes : List ℕ) (line : ℕ) (what : What) (due found : List ℕ) : Type 0 where
+    pub is : IsFaultyJournal version meaning bytes line what
+    pub expected : due ≡ expected_text version is.state what
+    pub shown : found ≡ shown_line is.state.line
+
   -- what an ending says of the bytes of a journal
   abbrev pub Tells : Wanted → List ℕ → Ending → Type 0
   Tells asked bytes (lawful count state) = IsToldLawful asked bytes count (string_bytes state)
   Tells asked bytes (Unlawful at line answer) = IsToldUnlawful bytes at (string_bytes line) (string_bytes answer)
-  Tells asked bytes (Fault line what) = IsFaultyJournal version meaning bytes line what
+  Tells asked bytes (Fault line what due found) = IsToldFaulty bytes line what (string_bytes due) (string_bytes found)
   Tells asked bytes (Torn line) = IsTornJournal bytes line
   Tells asked bytes BehindCut = is_behind_cut bytes ≡ true
   Tells asked bytes (Compacted written) =

@@ -13,7 +13,7 @@ abbrev pub status_of_check : CheckEnding → ℕ
 status_of_check (Lawful count state) = 0
 status_of_check (Compacted written) = 0
 status_of_check (Unlawful at line answer) = 7
-status_of_check (Fault line what) = 2
+status_of_check (Fault line what expected found) = 2
 status_of_check (Torn line) = 2
 status_of_check BehindCut = 2
 status_of_check (TooLong place) = 2

@@ -10,8 +10,8 @@ pub use CommandLine.{performing, state_by, usage}
 pub use Endings.{is_check_shown, is_script_shown, status_of_check}
 pub use Compacted.{IsCompactOf, IsNoneOf, IsShortened, IsTextOf, IsUnwritten, whole_piece}
 pub use Checking.{Concludes, ConcludesAs, ConcludesBy, EndsAs, EndsIn, EndsInFront, GivesCut, IsEarly, IsFront, IsHeardOut, IsRead}
-pub use Checking.{IsSilent, IsStateOf, IsToldLawful, IsToldShort, IsToldUnlawful, IsVerdict, Tells, TellsAs, ending_of, is_behind_cut}
+pub use Checking.{IsSilent, IsStateOf, IsToldFaulty, IsToldLawful, IsToldShort, IsToldUnlawful, IsVerdict, Tells, TellsAs, ending_of, is_behind_cut}
 pub use Checking.{is_of_bytes, is_plain_cut, is_sealed_cut, wanted_by}
-pub use Lines.{Writes, answer_text, channel_line, counted, lines_for, mailbox_line, object_head, object_line, object_lines, port_line}
+pub use Lines.{Writes, answer_text, channel_line, counted, expected_text, lines_for, mailbox_line, object_head, object_line, object_lines, port_line}
 pub use Lines.{state_lines, told_state, told_sum, variable_line}
 pub use declared.asked.Order.{Order}

@@ -1,5 +1,5 @@
 -- What is written of an ending.
-use Rattle.std.specs.Prelude.{ℕ, zero, suc, List, [], ◌∷◌, ◌++◌, codes, string_bytes, unwrap_or, Option, Some, None, ⊤}
+use Rattle.std.specs.Prelude.{ℕ, zero, suc, ◌==◌, if◌then◌else◌, List, [], ◌∷◌, ◌++◌, codes, string_bytes, unwrap_or, Option, Some, None, ⊤}
 use Rattle.std.specs.Fmt.{decimal}
 use Rattle.std.specs.Io.KnownBytes.{Appends}
 use Rattle.cml_calls.specs.{Kind}
@@ -9,7 +9,8 @@ use Rattle.cml_board.specs.{kind_of}
 use Rattle.cml_board.specs.declared.outcome.Refusal.TheVariants.{NoSuch}
 use Rattle.cml_board.specs.declared.expected.Expected.TheVariants as expected
 use Rattle.cml_sums.specs.{Sum, sum_word}
-use Rattle.cml_journal.specs.{reply_text}
+use Rattle.cml_journal.specs.{reply_text, State as ReaderState, What, due_line}
+use Rattle.cml_journal.specs.declared.fault.What.TheVariants.{TooLong as TooLongLine}
 use Rattle.cml.specs.declared.check.ending.Ending.{Ending}
 use Rattle.cml.specs.declared.check.ending.Ending.TheVariants.{Lawful, Unlawful, WriteFault, Compacted}
 use Rattle.cml.specs.declared.check.wanted.Wanted.{Wanted}
@@ -18,6 +19,12 @@ use Rattle.cml.specs.declared.check.wanted.Wanted.TheVariants.{State}
 -- a count, and 0 where there is none
 abbrev pub counted : Option ℕ → List ℕ
 counted count = decimal (unwrap_or count 0)
+
+-- what is expected in place of a line with this fault. The first header settles the version, so it may be any of these
+abbrev pub expected_text : ℕ → ReaderState → What → List ℕ
+expected_text version state TooLongLine = due_line version state TooLongLine
+expected_text version state what =
+    if state.lines == 0 then codes "`journal 1`, `journal 2`, `journal 3` or `journal 4`" else due_line version state what
 
 module _ {M : Type 0} (text : M → List ℕ) where
   -- the right answer to the call of an unlawful entry

@@ -4,6 +4,7 @@ mod answer;
 mod checking;
 mod compacted;
 mod ending;
+mod faulty;
 mod state;
 mod wanted;
 mod written;

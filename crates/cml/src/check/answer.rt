@@ -4,20 +4,24 @@ ghost use Rattle.cml_board.specs.{Expected, expected_of};
 ghost use Rattle.cml.specs.{answer_text, EndsAs};
 
 use crate::check::ending::Ending;
+use crate::check::faulty::fault_of;
 use cml_board::{Expected, Message, Refusal};
 use cml_journal::{Check, Stop, Written, write_reply};
 use std::alloc::{AllocError, Global};
 
 /// How a check ends that this stopped.
 pub(crate) fn ending_of<M: Message + Written>(alloc: Global, check: &Check<M>, stop: Stop) -> Ending
-    ensures { EndsAs M.text check.now stop result }
+    ensures { EndsAs M.VERSION M.text check.now stop result }
 {
     match stop {
         Stop::Unlawful(at, line) => match answer_in(alloc, check) {
             Ok(answer) => Ending::Unlawful(at, line, answer),
             Err(AllocError) => Ending::NoMemory,
         },
-        Stop::Fault(line, what) => Ending::Fault(line, what),
+        Stop::Fault(line, what) => match fault_of(alloc, check, line, what) {
+            Ok(ending) => ending,
+            Err(AllocError) => Ending::NoMemory,
+        },
         Stop::NoMemory => Ending::NoMemory,
     }
 }

@@ -8,7 +8,7 @@ use cml_journal::What;
 use std::alloc::{AllocError, AllocFailed};
 use thiserror::Error;
 
-/// How the check of a journal ends. It shows as the line for standard error. Of a lawful or an unlawful journal standard output
+/// How the check of a journal ends. It shows as the lines for standard error. Of a lawful or an unlawful journal standard output
 /// says that, or has the short journal.
 #[derive(Debug, Drop, Error)]
 pub enum Ending {
@@ -22,9 +22,9 @@ pub enum Ending {
     /// All entries are lawful, and a short journal was asked for. This is its text.
     #[error("cml: compacted")]
     Compacted(String),
-    /// This line has a fault.
-    #[error("journal: line {0}: {1}")]
-    Fault(u64, What),
+    /// This line has a fault. Behind it are what is expected there, and what was found.
+    #[error("journal: line {0}: {1}\nexpected: {2}\nfound: {3}")]
+    Fault(u64, What, String, String),
     /// The last piece has no end. So many lines have ended.
     #[error("journal: torn behind line {0}")]
     Torn(u64),
@@ -61,13 +61,14 @@ impl Ending {
         match self {
             Ending::Lawful(_, _) | Ending::Compacted(_) => 0,
             Ending::Unlawful(_, _, _) => 7,
-            Ending::Fault(_, _) | Ending::Torn(_) | Ending::BehindCut | Ending::TooLong(_) => 2,
+            Ending::Fault(_, _, _, _) | Ending::Torn(_) | Ending::BehindCut | Ending::TooLong(_) =>
+                2,
             Ending::ReadFault | Ending::WriteFault => 4,
             Ending::NoMemory => 5,
         }
     }
 
-    /// Whether standard error shows the line.
+    /// Whether standard error shows the lines.
     pub(crate) fn is_shown(&self) -> bool
         ensures { result ≡ is_check_shown self.now }
     {
