@@ -55,6 +55,9 @@ guide_refused() {
     [ "$met" -gt 0 ] || fail 'no example of the guide met a refusal'
 }
 
+# A journal whose end is wrong.
+printf '%s\n' 'journal 3' 'seat 0 mailbox: made 0' 'seat 0 send 0 5: done' 'end 1 x' > "$work/faulty.journal"
+
 # Each step of the table of calls, with each reply that it may have.
 awk -v part=script -f tests/models/calls.awk -f tests/models/each_call.awk | sed 's/: .*//' > "$work/each_call.cml"
 
@@ -84,6 +87,7 @@ sweeps() {
             echo "journal $how examples/$name.journal $cml check"
             echo "compact $how examples/$name.journal $cml compact"
         done
+        echo "faulty $how $work/faulty.journal $cml check"
     done
 }
 

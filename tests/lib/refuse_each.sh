@@ -12,6 +12,7 @@
 #   threads  the same where threads are refused, and not memory: with no report
 #   chart    a report by `cml_chart`: its chart, or status 5, nothing written and `cml_chart: no memory`
 #   journal  a journal by `cml check`: its verdict, or status 5, nothing written and `cml: no memory`
+#   faulty   a journal with a fault by `cml check`: what is said of the fault and status 2, or the same
 #   compact  a journal by `cml compact`: its short journal, or the same
 #
 # The last line is `KIND HOW INPUT: N passed, M failed, K met`: so often a call, or the whole program, told of a refusal.
@@ -106,6 +107,8 @@ judge_script() {
             met=$((met + 1))
         elif [ -z "$told" ] && report_stands "$room/out.$number"; then
             passed=$((passed + 1))
+        elif [ "$kind $status" = 'faulty 2' ] && cmp -s "$room/report" "$room/err.$number" && [ ! -s "$room/out.$number" ]; then
+            passed=$((passed + 1))
         else
             failed=$((failed + 1))
             echo "failed: $input, $kind, $how $number: status $status, $told"
@@ -114,7 +117,10 @@ judge_script() {
     echo "$kind $how $input: $passed passed, $failed failed, $met met"
 }
 
-case $kind in replay | chart | journal | compact | written) "$@" < "$input" > "$room/report" ;; esac
+case $kind in
+    replay | chart | journal | compact | written) "$@" < "$input" > "$room/report" ;;
+    faulty) "$@" < "$input" 2> "$room/report" ;;
+esac
 number=1
 while refuse "$number" "$@" && [ "$number" -lt 100000 ]; do
     number=$((number + 1))
