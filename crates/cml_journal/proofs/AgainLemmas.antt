@@ -117,7 +117,7 @@ no_number one other = by (number_of (one ++ 32 ∷ other)) refl
         let parts = number_only (one ++ 32 ∷ other) n is in
         absurd (false≢true (sym (number_no_space n (ltb-true n (2 ^ 64) parts.1)) ∙ ap has_space (sym parts.0) ∙ spaced one other))
 
--- a line with a word behind its number has not just these
+-- a line with a word after its number has not just these
 pub not_numbered : (word : List ℕ) (n : ℕ) (rest : List ℕ) → has_space word ≡ false → numbered word (numbered_line word n ++ 32 ∷ rest) ≡ None
 not_numbered word n rest space =
     ap (numbered word) (append_assoc word (32 ∷ decimal n) (32 ∷ rest))
@@ -157,7 +157,7 @@ unfolding line_read
 step_read version read summed stage line told clean step =
     ap (λ t. if t then Err BadBytes else line_step version read summed stage line) clean ∙ step
 
--- the state behind a line
+-- the state after a line
 abbrev pub turned_to : {M : Type 0} → Summed → ℕ → List ℕ → Stage × Option (Entry M) → State × Option (Entry M)
 turned_to summed n line step = (at step.0 (sums_line step.0 summed line) ((n + 1) % 2 ^ 64), step.1)
 
@@ -213,7 +213,7 @@ inside_entry {M} text fits read written Sealed summed position entry has small =
     ap (λ (o : Option (ℕ × List ℕ)). closed_by read (sum_by summed) position o (line_of text entry)) (entry_no_tail text entry)
     ∙ entered_again text fits read written Sealed position entry has small
 
--- no entry, behind which is this stage
+-- no entry, after which is this stage
 abbrev pub silent : {M : Type 0} → Stage → Step M
 silent stage = Ok (stage, None)
 

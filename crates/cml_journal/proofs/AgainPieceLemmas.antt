@@ -42,7 +42,7 @@ short_numbered word n short small =
 pub short_is_short : (n : ℕ) → n ≤ 1000 → n ≤ most
 short_is_short n short = omega (arith, short)
 
--- a sum's word behind a line
+-- a sum's word after a line
 pub tail_clean : (line : List ℕ) (sum : Sum) → IsSum sum → is_dirty line ≡ false → is_dirty (line ++ 32 ∷ sum_word sum) ≡ false
 tail_clean line sum is clean = both_clean line (32 ∷ sum_word sum) clean (printed_clean (sum_word sum) (word_printed sum is))
 
@@ -102,7 +102,7 @@ end_read {M} version read form summed position small =
     (Waiting (Some position) (link_behind form summed), None) (closing_clean form summed position small)
     (closing_short form summed position small) (inside_end read form summed position small)
 
--- a piece behind its header and its position line, and what it leaves
+-- a piece after its header and its position line, and what it leaves
 abbrev pub body : {M : Type 0} → (M → List ℕ) → Form → Summed → ℕ → List (Entry M) → List ℕ
 body text form summed from entries = flat_map (entry_text text) entries
     ++ with_line_end (closing form (sums form summed (flat_map (entry_text text) entries)) (from + length entries))
@@ -187,7 +187,7 @@ body_from_0 {M} version text fits read written form summed before (e ∷ es) may
     (subst (λ (w : List ℕ). Reads version read (Inside 0 form) summed w new nothing_summed (e ∷ es)) grouped
     (body_read version text fits read written form summed 0 (e ∷ es) readable small)))
 
--- what is behind a header
+-- what is after a header
 abbrev pub opened : {M : Type 0} → (M → List ℕ) → Form → Summed → ℕ → List (Entry M) → List ℕ
 opened text form summed from entries =
     text_of (from_lines from) ++ body text form (sums form summed (text_of (from_lines from))) from entries

@@ -119,7 +119,7 @@ sealed_reads {M} version text fits read written before link after from entries k
     (sealed_line version before link after allowed is known))
     (behind_head version text fits read written Sealed summed before from entries may readable small)))
 
--- what a reader has behind sealed pieces
+-- what a reader has after sealed pieces
 pub record SealedReads {M : Type 0} (version : ℕ) (text : M → List ℕ) (read : List ℕ → Option M) (old : Stage) (after : Option Sum)
     (from : ℕ) (pieces : List (List (Entry M))) : Type 0 where
   sum : Sum

@@ -51,7 +51,7 @@ module _ {M : Type 0} (version : ℕ) (meaning : List ℕ → Option M) where
       (append_assoc bytes front rest ∙ ap (λ (b : List ℕ). bytes ++ b) (sym cut)) (second (bytes ++ front) (first bytes so))
 
   -- ---- a line
-  -- what is read behind the bytes so far
+  -- what is read after the bytes so far
   read_on : (bytes taken : List ℕ) (old : Progress M) (next : State) (found : List (Entry M)) (so : IsSoFar version meaning bytes old)
       → reading version meaning old.state taken ≡ Ok (next, found)
       → reading version meaning (waiting_at 0) (bytes ++ taken) ≡ Ok (next, so.entries ++ found)
@@ -238,7 +238,7 @@ module _ {M : Type 0} (version : ℕ) (meaning : List ℕ → Option M) where
   nothing_taken zero = refl
   nothing_taken (suc k) = refl
 
-  -- a check had no memory at an entry, before or behind its checker
+  -- a check had no memory at an entry, before or after its checker
   shows_at_entry : (old new : Progress M) (next : State) (bytes taken rest : List ℕ) (entry : Entry M)
       (so : IsSoFar version meaning bytes old)
       → reading version meaning old.state taken ≡ Ok (next, entry ∷ []) → new.state ≡ next

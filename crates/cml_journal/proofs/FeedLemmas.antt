@@ -89,7 +89,7 @@ reading-held {M} version read state (b ∷ bs) short none =
         ∙ ap (λ t. alone {M = M} (if t then Ok (record state { line = state.line ++ b ∷ bs }) else Err TooLong))
         (sym (false_from_ne_true (nat_le (length state.line + length (b ∷ bs)) most) (λ t. absurd (omega (arith, le, leb-true _ _ t)))))
 
--- what is read at a line's end, and behind it
+-- what is read at a line's end, and after it
 abbrev pub turning : {M : Type 0} → ℕ → (List ℕ → Option M) → List ℕ → Result State What → Read M
 turning version read rest (Ok state) =
     turned version read state >>= λ first. behind (option_to_list first.1) (reading version read first.0 rest)
@@ -164,7 +164,7 @@ too_many state bytes what fails = by (cases_lt most (length state.line + length 
     by (inl more) = (more, same (sym (overfills state bytes more) ∙ fails))
     by (inr le) = absurd (never (sym (fits_line state bytes le) ∙ fails))
 
--- bytes that are too many have a fault behind those that fill the line
+-- bytes that are too many have a fault after those that fill the line
 held_breaks : {M : Type 0} (version : ℕ) (read : List ℕ → Option M) (state : State) (bytes : List ℕ) (what : What)
     → length state.line ≤ most → has_line_end bytes ≡ false → held_all state bytes ≡ Err what
     → (has : HasFault version read state bytes what) × (filled state bytes ≡ has.next)

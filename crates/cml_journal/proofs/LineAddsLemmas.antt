@@ -176,7 +176,7 @@ plain_heads {M} before First told e = let made : Stage × Option (Entry M) = (He
 plain_heads {M} before Unsealed told e = let made : Stage × Option (Entry M) = (Headed before Plain, None) in (tt, ok_is made told e)
 plain_heads {M} before (Behind sum) told e = absurd cc
 
--- the line of a header with such a word behind its version
+-- the line of a header with such a word after its version
 abbrev pub header_with : ℕ → Option (List ℕ) → List ℕ
 header_with version None = numbered_line (codes "journal") version
 header_with version (Some word) = numbered_line (codes "journal") version ++ 32 ∷ word
@@ -274,7 +274,7 @@ pub behind_ok : {M : Type 0} (front : List (Entry M)) (r : Result (State × List
 behind_ok {M} front (Ok z) y e = let made : State × List (Entry M) = (z.0, front ++ z.1) in (z, refl, ok_is made y e)
 behind_ok front (Err what) y e = absurd cc
 
--- the state behind a line
+-- the state after a line
 abbrev pub turned_to : {M : Type 0} → State → Stage × Option (Entry M) → State × Option (Entry M)
 turned_to state step = (
   record {

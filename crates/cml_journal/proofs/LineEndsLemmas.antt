@@ -40,7 +40,7 @@ line_end_parts (b ∷ bs) i h = by (b == 10) refl (first_end bs) refl (sym (posi
           ap (λ t. t || has_line_end (take j bs)) is ∙ parts.1,
         )
 
--- what is left behind all bytes
+-- what is left after all bytes
 pub nothing_left : (bytes : List ℕ) → bytes ++ take (length bytes - length bytes) (drop (length bytes) bytes) ≡ bytes
 nothing_left bytes =
     let none : length bytes - length bytes ≡ 0 = omega arith in

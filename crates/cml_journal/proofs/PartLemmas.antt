@@ -62,7 +62,7 @@ writes_more held between holds text before left line later old mid new first add
   second.3 ∙ ap (and_text second.0) first.3 ∙ and_both first.0 second.0 old,
 )
 
--- what is left is written too, and more behind it
+-- what is left is written too, and more after it
 pub writes_end : (held between holds : Option (List ℕ)) (text left last more : List ℕ) (old new : Option Summed)
     → WritesSummed held between text left old new → Appends between holds last → last ≡ left ++ more
     → Appends held holds (text ++ more)

@@ -1,4 +1,4 @@
--- The position behind what was read of a journal, from its first entry on.
+-- The position after what was read of a journal, from its first entry on.
 use Rattle.std.proofs.Common.{◌≡◌, ◌⊎◌, inl, inr, ℕ, ◌+◌, ◌%◌, ◌^◌, ◌<◌, Bool, true, false, ◌==◌, nat_lt, if◌then◌else◌, List, [], ◌∷◌}
 use Rattle.std.proofs.Common.{◌++◌, length, Option, Some, None, Result, Ok, Err, refl, sym, ap, subst, ◌∙◌, arith, length-append}
 use Rattle.std.specs.Prelude.{codes, ⊤, is_some, is_none}
@@ -25,16 +25,16 @@ place (Waiting before link) = before
 place (Headed before form) = before
 place (Inside position form) = Some position
 
--- so many entries behind a position are few enough to be counted
+-- this many entries after a position are few enough to be counted
 abbrev Counts : ℕ → ℕ → Type 0
 Counts p n = (n ≡ 0) ⊎ (p + n < 2 ^ 64)
 
--- a line leads from a position to the one behind its entry
+-- a line leads from a position to the one after its entry
 abbrev Moves : {M : Type 0} → ℕ → Step M → Type 0
 Moves p (Ok told) = (place told.0 ≡ Some (p + length (option_to_list told.1))) × Counts p (length (option_to_list told.1))
 Moves p (Err what) = ⊤
 
--- the same of what is read behind a state
+-- the same of what is read after a state
 abbrev MovesTo : {M : Type 0} → ℕ → Result (State × Option (Entry M)) What → Type 0
 MovesTo p (Ok told) = (place told.0.stage ≡ Some (p + length (option_to_list told.1))) × Counts p (length (option_to_list told.1))
 MovesTo p (Err what) = ⊤
@@ -237,7 +237,7 @@ module _ {M : Type 0} (version : ℕ) (read : List ℕ → Option M) where
   ends_at (Headed before form) left end is = absurd (none-some end is)
   ends_at (Inside position form) left end is = absurd (none-some end is)
 
-  -- a journal that was read from position 0 on ends behind its last entry
+  -- a journal that was read from position 0 on ends after its last entry
   pub ends_behind_last : (bytes : List ℕ) (state : State) (entries : List (Entry M)) (end : ℕ)
       → reading version read (waiting_at 0) bytes ≡ Ok (state, entries)
       → end_of state ≡ Some end → end ≡ length entries

@@ -24,7 +24,7 @@ pub behind_front : (front rest : List ℕ) → drop (length front) (front ++ res
 behind_front [] rest = refl
 behind_front (b ∷ bs) rest = behind_front bs rest
 
--- the lines before a piece's end are summed behind another text
+-- the lines before a piece's end are summed after another text
 pub piece_behind : {M : Type 0} (version : ℕ) (text : M → List ℕ) (after : Option Sum) (from : ℕ) (entries : List (Entry M))
     (before whole : List ℕ)
     → whole ≡ (before ++ text_of (sealed_head version after from)) ++ entry_lines text entries

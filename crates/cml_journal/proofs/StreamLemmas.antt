@@ -110,7 +110,7 @@ pub record Whole {M : Type 0} (version : ℕ) (text : M → List ℕ) (before : 
 abbrev pub entry_lines : {M : Type 0} → (M → List ℕ) → List (Entry M) → List ℕ
 entry_lines text entries = flat_map (λ entry. with_line_end (line_of text entry)) entries
 
--- the last line of a piece, behind lines that are summed so far
+-- the last line of a piece, after lines that are summed so far
 abbrev pub closing : Form → Summed → ℕ → List ℕ
 closing Plain summed position = numbered_line (codes "end") position
 closing Sealed summed position = sealed_end position (sum_by summed)
@@ -129,7 +129,7 @@ pub sums_none : (form : Form) (summed : Summed) → sums form summed [] ≡ summ
 sums_none Plain summed = refl
 sums_none Sealed summed = nothing_more summed
 
--- the rest of a piece from this position on, and whole pieces behind it
+-- the rest of a piece from this position on, and whole pieces after it
 pub record Rest {M : Type 0} (version : ℕ) (text : M → List ℕ) (form : Form) (summed : Summed) (position : ℕ) (bytes : List ℕ)
     (entries : List (Entry M)) (end : ℕ) : Type 0 where
   pub first : List (Entry M)
@@ -140,7 +140,7 @@ pub record Rest {M : Type 0} (version : ℕ) (text : M → List ℕ) (form : For
   pub given : entries ≡ first ++ others
   pub later : Whole version text (Some (position + length first)) (link_behind form (sums form summed (entry_lines text first))) more others end
 
--- what is behind a header
+-- what is after a header
 pub record Opened {M : Type 0} (version : ℕ) (text : M → List ℕ) (form : Form) (summed : Summed) (before : Option ℕ) (bytes : List ℕ)
     (entries : List (Entry M)) (end : ℕ) : Type 0 where
   pub from : ℕ
@@ -161,7 +161,7 @@ Ready (Headed before form) summed = Unit {0}
 Ready (Inside position form) summed = Unit {0}
 
 -- ---- what a line adds
--- a header, what is behind it, and its first piece
+-- a header, what is after it, and its first piece
 pub regrouped : (header from lines closing more : List ℕ)
     → header ++ (from ++ ((lines ++ closing) ++ more)) ≡ (((header ++ from) ++ lines) ++ closing) ++ more
 regrouped header from lines closing more =
@@ -211,7 +211,7 @@ header_adds {M} version text before link bytes entries end summed allowed b =
       ends = omega (arith, later.ends, later.starts, ap length rest.given, length-append rest.first rest.others);
     }
 
--- a piece's sum, when its lines are summed one behind the other
+-- a piece's sum, when its lines are summed one after the other
 pub piece_summed : {M : Type 0} (version : ℕ) (text : M → List ℕ) (after : Option Sum) (from : ℕ) (entries : List (Entry M))
     → sum_by (and_bytes (and_bytes (and_bytes nothing_summed (with_line_end (sealed_header (version + 2) after)))
     (text_of (from_lines from))) (entry_lines text entries))

@@ -48,7 +48,7 @@ module _ {M : Type 0} (text : M → List ℕ) where
   abbrev pub IsSpent : Progress M → Stop → Type 0
   IsSpent progress told = SaysFrom progress.last progress.halt told
 
--- an entry behind this history halts a check only where it is unlawful, where no more entries can be counted, or for want of
+-- an entry after this history halts a check only where it is unlawful, where no more entries can be counted, or for want of
 -- memory, and then the entry may be checked or not
 abbrev pub MayHaltAt : {M : Type 0} → Found M → Entry M → Progress M → Halt → Type 0
 MayHaltAt checker entry new (halt.Unlawful at) =
@@ -69,7 +69,7 @@ module _ {M : Type 0} (version : ℕ) (meaning : List ℕ → Option M) where
     pub lawful : Lawful (reverse entries)
     pub running : progress.halt ≡ None
 
-  -- the first entry that is unlawful is at this position, and this becomes of its call behind the entries before it. It is the
+  -- the first entry that is unlawful is at this position, and this becomes of its call after the entries before it. It is the
   -- last entry of a front of the bytes, which ends with that entry's line
   pub record IsUnlawfulJournal (bytes : List ℕ) (at : ℕ) (entry : Entry M) (expected : Expected M) : Type 0 where
     pub front : List ℕ
@@ -144,11 +144,11 @@ module _ {M : Type 0} (version : ℕ) (meaning : List ℕ → Option M) where
   StopTells text bytes new (stop.Fault line what) = ShowsFault bytes line what new.state new.checker
   StopTells text bytes new stop.NoMemory = MayTellNone bytes new
 
-  -- these bytes were read behind any others, and all entries in them are lawful there
+  -- these bytes were read after any others, and all entries in them are lawful there
   abbrev pub Goes : Progress M → List ℕ → Progress M → Type 0
   Goes old bytes new = (before : List ℕ) → IsSoFar before old → IsSoFar (before ++ bytes) new
 
-  -- a check halts in these bytes, behind any others
+  -- a check halts in these bytes, after any others
   abbrev pub HaltsIn : Progress M → List ℕ → Progress M → Halt → Type 0
   HaltsIn old bytes new halted = (before : List ℕ) → IsSoFar before old → HaltTells (before ++ bytes) new halted
 
@@ -156,7 +156,7 @@ module _ {M : Type 0} (version : ℕ) (meaning : List ℕ → Option M) where
   abbrev pub StopsIn : (M → List ℕ) → Progress M → List ℕ → Progress M → Stop → Type 0
   StopsIn text old bytes new told = (before : List ℕ) → IsSoFar before old → StopTells text (before ++ bytes) new told
 
-  -- the bytes are a whole journal of so many entries, and all are lawful
+  -- the bytes are a whole journal of this many entries, and all are lawful
   pub record IsLawfulJournal (bytes : List ℕ) (count : ℕ) : Type 0 where
     pub state : State
     pub entries : List (Entry M)

@@ -43,7 +43,7 @@ due_inside form summed position =
 abbrev pub from_due : ℕ → List ℕ
 from_due position = quoted (numbered_line (codes "from") position)
 
--- what a line may be at this stage, behind lines that are summed so far
+-- what a line may be at this stage, after lines that are summed so far
 abbrev pub stage_due : ℕ → Summed → Stage → List ℕ
 stage_due version summed (Waiting before link) = headers_due version link
 stage_due version summed (Headed None form) = codes "`from` and a number, " ++ due_inside form summed 0

@@ -36,7 +36,7 @@ unless_plain b = if is_plain b then None else Some b
 abbrev pub escaped : ℕ → ℕ → Option ℕ
 escaped high low = option_and_then (λ h. option_and_then (λ l. unless_plain (h * 16 + l)) (digit_in low)) (digit_in high)
 
--- the first byte of a text that begins with two hex digits, and what is behind them
+-- the first byte of a text that begins with two hex digits, and what is after them
 abbrev pub escape_at : List ℕ → Option (ℕ × List ℕ)
 escape_at [] = None
 escape_at (high ∷ []) = None

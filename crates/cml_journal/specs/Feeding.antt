@@ -42,7 +42,7 @@ link_at position = if position == 0 then First else Any
 abbrev pub waiting_at : ℕ → State
 waiting_at position = record { stage = Waiting (Some position) (link_at position); lines = 0; line = []; summed = nothing_summed }
 
--- the position behind the last piece, where nothing is behind that
+-- the position after the last piece, where nothing is after that
 abbrev pub end_by : Stage → ℕ → Option ℕ
 end_by (Waiting end link) left = if left == 0 then end else None
 end_by (Headed before form) left = None
@@ -51,7 +51,7 @@ end_by (Inside position form) left = None
 abbrev pub end_of : State → Option ℕ
 end_of state = end_by state.stage (length state.line)
 
--- the sum of the last piece, where that is sealed and nothing is behind it
+-- the sum of the last piece, where that is sealed and nothing is after it
 abbrev pub sum_behind : Stage → ℕ → Option Sum
 sum_behind (Waiting end (Behind sum)) left = if left == 0 then Some sum else None
 sum_behind (Waiting end Any) left = None
@@ -76,20 +76,20 @@ kept_by (Inside position form) summed = sum_within form summed
 abbrev pub kept_sum : State → Option Sum
 kept_sum state = kept_by state.stage state.summed
 
--- the number behind this word, if the line has just these
+-- the number after this word, if the line has just these
 abbrev pub numbered : List ℕ → List ℕ → Option ℕ
 numbered word line = option_and_then (λ (parts : List ℕ × List ℕ). if bytes_eq parts.0 word then number_of parts.1 else None) (cut line)
 
--- a number, and what is behind it and a space
+-- a number, and what is after it and a space
 abbrev pub number_before : List ℕ → Option (ℕ × List ℕ)
 number_before text =
     option_and_then (λ (parts : List ℕ × List ℕ). option_map (λ (n : ℕ). (n, parts.1)) (number_of parts.0)) (cut text)
 
--- the number behind this word, and what is behind that
+-- the number after this word, and what is after that
 abbrev pub tailed : List ℕ → List ℕ → Option (ℕ × List ℕ)
 tailed word line = option_and_then (λ (parts : List ℕ × List ℕ). if bytes_eq parts.0 word then number_before parts.1 else None) (cut line)
 
--- an entry that a line gave, and the stage behind it
+-- an entry that a line gave, and the stage after it
 abbrev pub Step : Type 0 → Type 0
 Step M = Result (Stage × Option (Entry M)) What
 
@@ -120,7 +120,7 @@ header_fault version found =
     if found == version || found == version + 2 then NoHeader
     else if nat_le 1 found && nat_le found 4 then OtherType else OtherVersion
 
--- a header without a word behind its version, or with one
+-- a header without a word after its version, or with one
 abbrev pub headed_by : {M : Type 0} → ℕ → Option ℕ → Link → Option ℕ → Option (ℕ × List ℕ) → Step M
 headed_by version before link (Some found) tail =
     if found == version then plain_headed before link
@@ -175,7 +175,7 @@ from_by read form summed before (Some from) line =
 unfoldable pub behind_header : {M : Type 0} → (List ℕ → Option M) → Form → Summed → Option ℕ → List ℕ → Step M
 behind_header read form summed before line = from_by read form summed before (numbered (codes "from") line) line
 
--- what a line of printed bytes is at a stage, behind lines that are summed so far
+-- what a line of printed bytes is at a stage, after lines that are summed so far
 abbrev pub line_step : {M : Type 0} → ℕ → (List ℕ → Option M) → Summed → Stage → List ℕ → Step M
 line_step version read summed (Waiting before link) line = headed version before link line
 line_step version read summed (Headed before form) line = behind_header read form summed before line
@@ -189,7 +189,7 @@ abbrev pub sums : Form → Summed → List ℕ → Summed
 sums Plain summed text = summed
 sums Sealed summed text = and_bytes summed text
 
--- a line more is summed, if this stage behind it is within its piece
+-- a line more is summed, if this stage after it is within its piece
 abbrev pub sums_line : Stage → Summed → List ℕ → Summed
 sums_line (Waiting before link) summed line = nothing_summed
 sums_line (Headed before form) summed line = sums form summed (with_line_end line)
@@ -237,11 +237,11 @@ no_entry (Err what) = Err what
 abbrev pub byte_read : {M : Type 0} → ℕ → (List ℕ → Option M) → State → ℕ → Result (State × Option (Entry M)) What
 byte_read version read state b = if b == 10 then turned version read state else no_entry (held state b)
 
--- entries, and the state behind them
+-- entries, and the state after them
 abbrev pub Read : Type 0 → Type 0
 Read M = Result (State × List (Entry M)) What
 
--- what is read later, behind these entries
+-- what is read later, after these entries
 abbrev pub behind : {M : Type 0} → List (Entry M) → Read M → Read M
 behind front (Ok later) = Ok (later.0, front ++ later.1)
 behind front (Err what) = Err what

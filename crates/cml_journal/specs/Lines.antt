@@ -19,7 +19,7 @@ who_number (Feed number) = number
 abbrev pub who_text : Who → List ℕ
 who_text who = who_word who ++ 32 ∷ decimal (who_number who)
 
--- what is there, behind a space
+-- what is there, after a space
 abbrev pub field : {X : Type 0} → (X → List ℕ) → Option X → List ℕ
 field text None = []
 field text (Some x) = 32 ∷ text x

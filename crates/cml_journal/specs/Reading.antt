@@ -32,7 +32,7 @@ abbrev pub ok_or : {X : Type 0} → What → Option X → Result X What
 ok_or what None = Err what
 ok_or what (Some x) = Ok x
 
--- the bytes before the first space, and those behind it
+-- the bytes before the first space, and those after it
 abbrev pub cut : List ℕ → Option (List ℕ × List ℕ)
 cut [] = None
 cut (b ∷ bs) = if b == 32 then Some ([], bs) else option_map (λ (parts : List ℕ × List ℕ). (b ∷ parts.0, parts.1)) (cut bs)
@@ -43,7 +43,7 @@ without_colon [] = None
 without_colon (b ∷ []) = if b == 58 then Some [] else None
 without_colon (b ∷ c ∷ bs) = option_map (λ word. b ∷ word) (without_colon (c ∷ bs))
 
--- the next word, and what is behind the space at its end
+-- the next word, and what is after the space at its end
 unfoldable pub word_at : List ℕ → Result (List ℕ × List ℕ) What
 word_at line = ok_or Short (cut line)
 
@@ -102,7 +102,7 @@ filled_at read line = do
   message ← ok_or BadMessage (read last.0)
   Ok (MVarInit message, last.1)
 
--- a call behind its word
+-- a call after its word
 abbrev pub called_by : {M : Type 0} → (List ℕ → Option M) → Option Give → Option Ask → Bool → List ℕ → Result (Call M × List ℕ) What
 called_by read (Some give) ask fills line = given_at read give line
 called_by read None (Some ask) fills line = asked_at ask line

@@ -1,4 +1,4 @@
--- The text of a journal: pieces one behind the other.
+-- The text of a journal: pieces one after the other.
 use Rattle.std.specs.Prelude.{◌≡◌, ◌⊎◌, ℕ, ◌+◌, ◌==◌, if◌then◌else◌, List, [], ◌∷◌, ◌++◌, length, map, Option, Some, None, codes}
 use Rattle.std.specs.Fmt.{decimal}
 use Rattle.std.specs.List.{flat_map}
@@ -18,7 +18,7 @@ with_line_end line = line ++ 10 ∷ []
 abbrev pub text_of : List (List ℕ) → List ℕ
 text_of lines = flat_map with_line_end lines
 
--- a piece behind a cut says which position is its first
+-- a piece after a cut says which position is its first
 abbrev pub from_lines : ℕ → List (List ℕ)
 from_lines from = if from == 0 then [] else numbered_line (codes "from") from ∷ []
 
@@ -76,7 +76,7 @@ stream_sum version text after from [] = after
 stream_sum version text after from (entries ∷ later) =
     stream_sum version text (Some (piece_sum version text after from entries)) (from + length entries) later
 
--- the text of plain pieces, or of sealed ones behind any piece
+-- the text of plain pieces, or of sealed ones after any piece
 abbrev pub IsTextOf : {M : Type 0} → ℕ → (M → List ℕ) → ℕ → List (List (Entry M)) → List ℕ → Type 0
 IsTextOf version text from pieces bytes = (bytes ≡ text_of (stream_lines version text from pieces))
     ⊎ ((after : Option Sum) × (bytes ≡ text_of (sealed_stream_lines version text after from pieces)))

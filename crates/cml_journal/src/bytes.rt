@@ -129,7 +129,7 @@ fn message_in(alloc: Global, text: &[u8]) -> Result<Option<Bytes>, AllocError>
     }
 }
 
-/// The byte that a text's first two hex digits mean, and the bytes behind them.
+/// The byte that a text's first two hex digits mean, and the bytes after them.
 fn escape_at(text: &[u8]) -> Option<(u8, &[u8])>
     ensures { option_map (λ next. (next.0, next.1.now)) result ≡ escape_at text.now }
 {
@@ -139,7 +139,7 @@ fn escape_at(text: &[u8]) -> Option<(u8, &[u8])>
     Some((byte, rest))
 }
 
-/// The next byte of a text, and the bytes behind it.
+/// The next byte of a text, and the bytes after it.
 fn byte_at(text: &[u8]) -> Option<(u8, &[u8])>
     ensures { option_map (λ next. (next.0, next.1.now)) result ≡ byte_at text.now }
 {

@@ -98,7 +98,7 @@ impl<M: Message + Written> Check<M> {
         Ok(())
     }
 
-    /// Reads up to a line end, and gives the bytes behind it.
+    /// Reads up to a line end, and gives the bytes after it.
     fn take_line<'a>(&mut self, bytes: &'a [u8]) -> Result<&'a [u8], Halt>
         ensures taken { IfOk result (λ rest. (taken : List ℕ) × (bytes.now ≡ taken ++ rest.now)
             × Goes M.VERSION M.meaning self.old taken self.new) }

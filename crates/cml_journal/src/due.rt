@@ -37,7 +37,7 @@ fn write_first<M: Written>(text: &mut String) -> Result<(), AllocError>
     write_quoted(text, "journal", M::VERSION + 2, None)
 }
 
-/// Adds the header behind a piece with this sum.
+/// Adds the header after a piece with this sum.
 fn write_next<M: Written>(text: &mut String, sum: Sum) -> Result<(), AllocError>
     ensures { OnOk result (string_bytes text.new ≡ string_bytes text.old ++ quoted (sealed_header (M.VERSION + 2) (Some sum))) }
 {
@@ -89,7 +89,7 @@ fn write_inside(
     write_end(text, form, summing, position)
 }
 
-/// Adds what a line behind a header may be, if the piece has to begin at this position.
+/// Adds what a line after a header may be, if the piece has to begin at this position.
 fn write_behind_header(
     text: &mut String,
     form: Form,

@@ -16,7 +16,7 @@ pub enum What {
     /// A word is not allowed in its place.
     #[error("unknown word")]
     UnknownWord,
-    /// No colon is behind the call.
+    /// No colon is after the call.
     #[error("no colon")]
     NoColon,
     /// A word is not a number below 2^64, or has zeros in front.
@@ -43,7 +43,7 @@ pub enum What {
     /// A piece does not begin where the one before ended.
     #[error("gap")]
     Gap,
-    /// The position in a piece's last line is not the one behind its last entry.
+    /// The position in a piece's last line is not the one after its last entry.
     #[error("wrong end")]
     WrongEnd,
     /// The sum in a sealed piece's last line is not that of its lines, or its header does not name the sum of the piece before.

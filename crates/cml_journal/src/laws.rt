@@ -60,7 +60,7 @@ pub fn pieces_are_read<M: Written>()
         × (end_of state ≡ Some (from + length (flat_map (λ piece. piece) (piece ∷ pieces)))) }
 {}
 
-/// Shows the same of sealed pieces, behind any piece or as a chain that begins, and that a reader then has the sum of the last.
+/// Shows the same of sealed pieces, after any piece or as a chain that begins, and that a reader then has the sum of the last.
 pub fn sealed_pieces_are_read<M: Written>()
     ensures behind { (after : Option Sum) (from : ℕ) (piece : List (Entry M)) (pieces : List (List (Entry M)))
         → M.VERSION + 2 < 2 ^ 64 → MaybeSum after

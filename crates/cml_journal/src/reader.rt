@@ -46,15 +46,15 @@ pub(crate) enum Link {
 /// Where in a stream of pieces a line is.
 #[derive(Clone, Copy, Debug, PartialEq, Eq)]
 pub(crate) enum Stage {
-    /// Before a piece, and behind one that ended at this position, if there was one before.
+    /// Before a piece, and after one that ended at this position, if there was one before.
     Waiting(Option<u64>, Link),
-    /// Behind a header.
+    /// After a header.
     Headed(Option<u64>, Form),
     /// Before a piece's entry at this position, or its end.
     Inside(u64, Form),
 }
 
-/// The stage behind a line, and the entry that the line was, if it was one.
+/// The stage after a line, and the entry that the line was, if it was one.
 type Told<M> = (Stage, Option<Entry<M>>);
 
 /// Whether this is the version of sealed pieces.
@@ -83,7 +83,7 @@ fn sealed_where<M: Written>(before: Option<u64>, right: bool) -> Result<Told<M>,
     }
 }
 
-/// The header of a sealed piece, with the word behind its version if there is one.
+/// The header of a sealed piece, with the word after its version if there is one.
 fn sealed_headed<M: Written>(
     before: Option<u64>,
     link: Link,
@@ -280,7 +280,7 @@ fn sum_line(summing: &mut Summing, form: Form, line: &[u8])
     }
 }
 
-/// Sums a line that was read, if the stage behind it is within its piece.
+/// Sums a line that was read, if the stage after it is within its piece.
 fn sum_read(summing: &mut Summing, stage: Stage, line: &[u8])
     ensures { summing.new ≡ sums_line stage summing.old line.now }
 {
@@ -314,7 +314,7 @@ impl Model for Reader {
     ghost invariant = { λ reader. length reader.line.items ≤ most };
 }
 
-/// The bytes before the first line end, and those behind it.
+/// The bytes before the first line end, and those after it.
 fn cut_line(bytes: &[u8]) -> Option<(&[u8], &[u8])>
     ensures { MatchOption result
         (has_line_end bytes.now ≡ false)
@@ -424,7 +424,7 @@ impl Reader {
         self.lines
     }
 
-    /// Returns the position behind the last piece, if the stream so far ends with a whole piece.
+    /// Returns the position after the last piece, if the stream so far ends with a whole piece.
     pub fn end(&self) -> Option<u64>
         ensures { result ≡ end_of self.now }
     {

@@ -84,7 +84,7 @@ fn filled_at<M: Written>(alloc: Global, line: &str) -> Result<(Call<M>, &str), U
     Ok((Call::MVarInit(message), rest))
 }
 
-/// A call behind its word.
+/// A call after its word.
 #[tactic(auto, unfolding(crate::specs::Reading::called_at))]
 fn called_at<'a, M: Written>(
     alloc: Global,

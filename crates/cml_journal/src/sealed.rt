@@ -15,7 +15,7 @@ use cml_sums::{Sum, Summing};
 use std::alloc::{AllocError, Global};
 use std::io::{self, Write};
 
-/// Adds a sealed piece, behind one with the sum `after` if there is one: a piece as [`add_piece`](crate::add_piece) adds it, with
+/// Adds a sealed piece, after one with the sum `after` if there is one: a piece as [`add_piece`](crate::add_piece) adds it, with
 /// that sum in its header, and its own in its last line. It returns its sum.
 ///
 /// Errors: as `add_piece`.
@@ -51,7 +51,7 @@ fn sum_from(bytes: &[u8], start: usize) -> Result<Sum, AllocError>
     summing.sum()
 }
 
-/// Writes a sealed piece, behind one with the sum `after` if there is one, as [`write_piece`](crate::write_piece) writes a piece.
+/// Writes a sealed piece, after one with the sum `after` if there is one, as [`write_piece`](crate::write_piece) writes a piece.
 /// It returns its sum.
 ///
 /// Errors: as `write_piece`.
@@ -101,7 +101,7 @@ fn write_short<M: Written, W: Write>(
     Ok(sum)
 }
 
-/// The sum of a text behind what was summed before.
+/// The sum of a text after what was summed before.
 fn last_sum(summing: Option<Summing>, text: &str) -> Result<Sum, AllocError>
     ensures { IfOk result (λ sum. IfSome summing (λ before. sum ≡ sum_by (and_bytes before text.now))) }
 {

@@ -10,7 +10,7 @@ use thiserror::Error;
 /// Why a check stops.
 #[derive(Debug, Drop, Error)]
 pub enum Stop {
-    /// The entry at this position is the first that isn't lawful. Its line is behind, without a line end.
+    /// The entry at this position is the first that isn't lawful. Its line follows, without a line end.
     #[error("unlawful at {0}: {1}")]
     Unlawful(u64, String),
     /// This line has a fault.

@@ -7,7 +7,7 @@ use crate::fault::{Unread, What};
 use cml_board::Name;
 use cml_grammar::number_of;
 
-/// The bytes before the first space, and those behind it.
+/// The bytes before the first space, and those after it.
 pub(crate) fn cut(line: &str) -> Option<(&str, &str)>
     ensures { option_map (λ parts. (parts.0.now, parts.1.now)) result ≡ cut line.now }
 {
@@ -20,7 +20,7 @@ pub(crate) fn without_colon(word: &str) -> Option<&str>
     word.strip_suffix(':')
 }
 
-/// The next word, and the bytes behind its space.
+/// The next word, and the bytes after its space.
 #[tactic(auto, unfolding(crate::specs::Reading::word_at))]
 pub(crate) fn word_at(line: &str) -> Result<(&str, &str), Unread>
     ensures { Gives (λ parts. (parts.0.now, parts.1.now)) result (word_at line.now) }
@@ -61,7 +61,7 @@ pub(crate) fn name_in(word: &str) -> Result<Name, Unread>
     Ok(Name(number))
 }
 
-/// The number behind this word, if the line has just these.
+/// The number after this word, if the line has just these.
 pub(crate) fn numbered(word: &str, line: &str) -> Option<u64>
     ensures { result ≡ numbered word.now line.now }
 {
@@ -71,7 +71,7 @@ pub(crate) fn numbered(word: &str, line: &str) -> Option<u64>
     }
 }
 
-/// The number behind this word, and what is behind that.
+/// The number after this word, and what is after that.
 pub(crate) fn tailed<'a>(word: &str, line: &'a str) -> Option<(u64, &'a str)>
     ensures { option_map (λ found. (found.0, found.1.now)) result ≡ tailed word.now line.now }
 {
