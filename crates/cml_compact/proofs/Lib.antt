@@ -7,4 +7,3 @@ pub mod PassingLemmas
 pub mod FillingLemmas
 pub mod StagesLemmas
 pub mod MeasuringLemmas
-pub mod ShorteningLemmas
