@@ -50,9 +50,12 @@ fn compare<M: Message, L: MessageLog<M>>(board: &Board<M, L>, found: &mut Vec<Na
     }
 }
 
-/// How many messages an object is owed.
+/// How many messages an object is owed. If it was never sent one, it is owed none, and there is no need to look at its cursor.
 pub fn owed<M: Message, L: MessageLog<M>>(board: &Board<M, L>, name: Name) -> u64
     ensures { result ≡ length (owed_to board.now.history name.0) }
 {
+    if board.sent_count(name) == Some(0) {
+        return 0;
+    }
     board.owed_count(name).unwrap_or(0)
 }
