@@ -19,7 +19,7 @@ mkdir "$folder"
 started=
 trap '[ -z "$started" ] || kill -9 "$started"; exit 1' HUP INT TERM
 
-# A run would end behind so many messages of each thread, if it were not killed.
+# A run would end after so many messages of each thread, if it were not killed.
 most=2000000
 
 # build: the program, from a copy, so that nothing is left beside its sources.
@@ -55,7 +55,7 @@ await() {
 goes_on() { [ -s "$work/said" ]; }
 has_more() { [ "$(acknowledged entries)" -gt "$before" ]; }
 
-# killed WHEN: one run, which is killed some time after this holds. It goes on behind all that was acknowledged before.
+# killed WHEN: one run, which is killed some time after this holds. It goes on after all that was acknowledged before.
 killed() {
     before=$(acknowledged entries)
     : > "$work/said"
@@ -69,11 +69,11 @@ killed() {
     started=
     front >> "$work/fronts"
     [ "$(wc -c < "$journal")" -eq "$(acknowledged bytes)" ] || torn=$((torn + 1))
-    behind=$(sed -n 's/^goes on behind \([0-9]*\) entries$/\1/p' "$work/said")
+    behind=$(sed -n 's/^goes on after \([0-9]*\) entries$/\1/p' "$work/said")
     if [ $status -eq 137 ] && [ ! -s "$work/errors" ] && [ "${behind:-0}" -ge "$before" ]; then
         pass
     else
-        fail "a run behind $before: status $status, $(cat "$work/said" "$work/errors")"
+        fail "a run after $before: status $status, $(cat "$work/said" "$work/errors")"
     fi
 }
 
@@ -90,7 +90,7 @@ ends() {
     if [ $status -eq 0 ] && [ ! -s "$work/err" ]; then pass; else fail "a run of $1 messages: status $status, $(cat "$work/err")"; fi
 }
 
-# What was acknowledged behind each run is still there.
+# What was acknowledged after each run is still there.
 fronts_are_there() {
     while read -r bytes sum; do
         if [ "$(head -c "$bytes" "$journal" | cksum)" = "$sum" ]; then pass; else fail "the first $bytes bytes are others"; fi

@@ -283,7 +283,7 @@ static void try_the_journal(uint64_t seat)
     IS(100, count);
 }
 
-/* A lane goes on behind two cuts, and its close counts what was cut away. */
+/* A lane goes on after two cuts, and its close counts what was cut away. */
 static void try_open_cuts(void)
 {
     struct seryugo_entry entry;

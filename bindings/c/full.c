@@ -11,7 +11,7 @@ static bool has_room, has_lane, has_reading, has_text, has_short;
 
 /* What a sink has. */
 static struct sink {
-    /* The pieces one behind the other. */
+    /* The pieces one after the other. */
     char file[64 * 1024];
     size_t length;
     uint64_t next;

@@ -10,7 +10,7 @@ static struct seryugo room, lane, feed, journal, reading;
 static struct seryugo_bytes text, message;
 static bool has_room, has_lane, has_feed, has_journal, has_reading, has_text, has_message;
 
-/* In place of a file: the pieces one behind the other. */
+/* In place of a file: the pieces one after the other. */
 static char file[2 * 1024 * 1024];
 static size_t kept;
 
@@ -181,7 +181,7 @@ static void try_parts(void)
     }
 }
 
-/* A text that ends too early is torn, unless it ends behind a piece. */
+/* A text that ends too early is torn, unless it ends after a piece. */
 static void try_torn_texts(void)
 {
     for (size_t end = 0; end < kept; end += 13) {
@@ -197,7 +197,7 @@ static void try_torn_texts(void)
     close_one(&has_reading, reading);
 }
 
-/* A reading of this text stops so, behind so many entries and lines. It stays so, and no room and no journal is made of it. */
+/* A reading of this text stops so, after so many entries and lines. It stays so, and no room and no journal is made of it. */
 static void stops(const char *given, uint32_t code, uint64_t entries, uint64_t lines, int line)
 {
     uint64_t count = 77;
@@ -326,7 +326,7 @@ static void try_what_waited(void)
     IS(5, found);
 }
 
-/* New lanes and feeds have numbers behind those of the journal, and the next piece is behind the others. */
+/* New lanes and feeds have numbers after those of the journal, and the next piece is after the others. */
 static void try_to_go_on(void)
 {
     uint64_t found = 77;

@@ -10,7 +10,7 @@ static struct seryugo room, journal, reading;
 static struct seryugo_bytes text;
 static bool has_room, has_journal, has_reading, has_text;
 
-/* In place of a file: the pieces one behind the other. */
+/* In place of a file: the pieces one after the other. */
 static char file[4096];
 static size_t kept;
 static struct seryugo_sum sum;

@@ -241,7 +241,7 @@ class ServerCases(Cases):
         start = time.monotonic()
         self.begin()
         took = time.monotonic() - start
-        read = int(re.search(r" behind (\d+) entries ", self.server.said())[1])
+        read = int(re.search(r" after (\d+) entries ", self.server.said())[1])
         print(f"{name}: a start reads {read} entries in {size} bytes, in {took:.2f} s")
         with self.case(f"{name}: the file is short"):
             self.assertLess(size, length)

@@ -106,7 +106,7 @@ class ChatServer(ServerCases):
         self.no_journal("a journal of a later version", "journal 9\nend 0\n", later)
         self.no_journal("a journal of another program", sealed("seat 0 mailbox: made 0"))
         chat = "seat 0 mvar =chat%202: made 0"
-        unlawful = "line 3 has `seat 0 recv 0: =a`, which no switchboard answers behind the 1 entries"
+        unlawful = "line 3 has `seat 0 recv 0: =a`, which no switchboard answers after the 1 entries"
         self.no_journal("an unlawful journal", sealed(chat, "seat 0 recv 0: =a"), unlawful)
         damaged = "line 3 has `seat O put 0 =a: done`, and an entry, as"
         self.no_journal("a damaged journal", sealed(chat, "seat O put 0 =a: done"), damaged)

@@ -97,7 +97,7 @@ static void ask(struct session *session, const struct text *request, struct text
     }
 }
 
-/* What is behind a prefix of an answer, or all of an answer that has another. */
+/* What is after a prefix of an answer, or all of an answer that has another. */
 static struct span behind(const struct text *answer, const struct text *prefix)
 {
     struct span all = { answer->at, answer->length };

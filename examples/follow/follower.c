@@ -27,14 +27,14 @@ static _Noreturn void refuse(struct follower *follower, struct id id, uint32_t c
     require_done(seryugo_reading_lines(&follower->reading, &lines), "a count");
     require_done(seryugo_reading_entries(&follower->reading, &entries), "a count");
     if (code == SERYUGO_FAULT) {
-        fail(STATUS_FAULT, "stream %s: piece %s has a fault: line %" PRIu64 " of the journal, behind %" PRIu64 " entries",
+        fail(STATUS_FAULT, "stream %s: piece %s has a fault: line %" PRIu64 " of the journal, after %" PRIu64 " entries",
              follower->redis->key, id_text(id).at, lines + 1, entries);
     }
     if (code == SERYUGO_UNLAWFUL) {
         fail(STATUS_FAULT, "stream %s: piece %s is unlawful at entry %" PRIu64, follower->redis->key, id_text(id).at, entries);
     }
     if (code == SERYUGO_TORN) {
-        fail(STATUS_FAULT, "stream %s: piece %s is torn behind line %" PRIu64 " of the journal", follower->redis->key,
+        fail(STATUS_FAULT, "stream %s: piece %s is torn after line %" PRIu64 " of the journal", follower->redis->key,
              id_text(id).at, lines);
     }
     require_done(code, "a piece that is read");
@@ -109,7 +109,7 @@ static void take_short(struct follower *follower, const struct entry *entry)
     follower->epoch = entry->id.epoch;
     read_text(follower, entry);
     if (!is_next && follower->tells_leaders) {
-        printf("begins anew with short piece %s behind %" PRIu64 " entries\n", id_text(entry->id).at, entries_of(follower));
+        printf("begins anew with short piece %s after %" PRIu64 " entries\n", id_text(entry->id).at, entries_of(follower));
     }
 }
 
@@ -138,7 +138,7 @@ static void catch_up(struct follower *follower)
     }
 }
 
-/* Adds a leader's first entry behind what was read. Redis refuses it if another leader was faster. */
+/* Adds a leader's first entry after what was read. Redis refuses it if another leader was faster. */
 static bool begin_epoch(struct follower *follower, const struct lease *lease, uint64_t epoch)
 {
     struct id read = follower->redis->seen;
@@ -162,7 +162,7 @@ bool follower_wait(struct follower *follower, const struct lease *lease, uint64_
 
     catch_up(follower);
     follower->tells_leaders = true;
-    printf("follows behind %" PRIu64 " entries\n", entries_of(follower));
+    printf("follows after %" PRIu64 " entries\n", entries_of(follower));
     while (!is_stopping) {
         if (stream_read(follower->redis, wait, take, follower) != 0 || !may_lead(follower, lease)) {
             continue;

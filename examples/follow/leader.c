@@ -101,7 +101,7 @@ void lead(const struct lease *lease, uint64_t epoch, struct service *service, in
     };
 
     connections_open(&leader.connections, listener, address);
-    printf("leads by epoch %" PRIu64 " behind %" PRIu64 " entries\n", epoch, service_entries(service));
+    printf("leads by epoch %" PRIu64 " after %" PRIu64 " entries\n", epoch, service_entries(service));
     while (!is_stopping) {
         uint64_t before = service_entries(leader.service);
         bool kept = false;

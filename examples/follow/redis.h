@@ -51,7 +51,7 @@ struct id_text {
 
 struct id_text id_text(struct id id);
 
-/* Whether an ID is behind another. */
+/* Whether an ID is after another. */
 bool id_is_behind(struct id id, struct id other);
 
 #endif

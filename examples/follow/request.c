@@ -27,7 +27,7 @@ static bool read_verb(struct span word, enum verb *verb)
     return known;
 }
 
-/* Reads what is behind the client's number. */
+/* Reads what is after the client's number. */
 static const char *read_numbered(struct span word, struct span rest, struct request *request)
 {
     bool has_text;

@@ -23,7 +23,7 @@ struct request {
     enum verb verb;
     /* The client numbers its requests from 1. 0 of VERB_LAST. */
     uint64_t number;
-    /* The queue's name, and what is put: all behind the space. */
+    /* The queue's name, and what is put: all after the space. */
     struct span queue;
     struct span text;
 };

@@ -223,7 +223,7 @@ class Service(Cases):
         self.serve(follower)
         self.wait_for(
             "a new follower has read the stream",
-            lambda: self.says(follower, "follows behind [1-9]"),
+            lambda: self.says(follower, "follows after [1-9]"),
         )
         self.clients_go_on("after a kill of a follower")
 

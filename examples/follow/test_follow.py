@@ -75,10 +75,10 @@ class Follow(Service):
         self.start_redis()
         self.serve(1, "window", 40000)
         self.wait_for(
-            "a leader of its own stream", lambda: self.says(1, "leads by epoch 1 behind 0 entries")
+            "a leader of its own stream", lambda: self.says(1, "leads by epoch 1 after 0 entries")
         )
         self.serve(2, "window", 40000)
-        self.wait_for("a follower of it", lambda: self.says(2, "follows behind 0 entries"))
+        self.wait_for("a follower of it", lambda: self.says(2, "follows after 0 entries"))
         early = self.run_program(self.program, "ask", self.port + 1, "9 1 put late a")
         self.ask_redis(stdin="MULTI\nDEL window:lease\nCLIENT PAUSE 60000 WRITE\nEXEC\n")
         late = self.start(self.program, "ask", self.port + 1, "9 2 put late b")
@@ -86,7 +86,7 @@ class Follow(Service):
         self.wait_for("the asking for the lease is held back", lambda: self.is_held("set"))
         self.ask_redis("CLIENT", "UNPAUSE")
         late.ends()
-        self.wait_for("the follower leads", lambda: self.says(2, "leads by epoch 2 behind [1-9]"))
+        self.wait_for("the follower leads", lambda: self.says(2, "leads by epoch 2 after [1-9]"))
         pieces = re.findall(r"^\d+-\d+$", self.ask_redis("XRANGE", "window", "-", "+"), re.M)
         requests = ["9 last", "9 2 put late b", "9 3 get late", "9 4 get late", "9 5 get late"]
         asked = self.run_program(self.program, "ask", self.port + 2, *requests)
@@ -285,31 +285,31 @@ class Follow(Service):
                 "a torn line",
                 "torn",
                 [f"journal 4/{made}seat 0 send 0 =a: d"],
-                "piece 1-2 is torn behind line 2",
+                "piece 1-2 is torn after line 2",
             ),
             (
                 "a piece without its end",
                 "endless",
                 [f"journal 4/{made}"],
-                "piece 1-2 is torn behind line 2",
+                "piece 1-2 is torn after line 2",
             ),
             (
                 "a piece that is doubled",
                 "doubled",
                 sealed(made) * 2,
-                "piece 1-3 has a fault: line 4 .*behind 1 entries",
+                "piece 1-3 has a fault: line 4 .*after 1 entries",
             ),
             (
                 "a piece that is missing",
                 "missing",
                 [first, None, third],
-                "piece 1-4 has a fault: line 5 .*behind 2 entries",
+                "piece 1-4 has a fault: line 5 .*after 2 entries",
             ),
             (
                 "a letter that was changed",
                 "changed",
                 [changed],
-                "piece 1-2 has a fault: line 5 .*behind 3 entries",
+                "piece 1-2 has a fault: line 5 .*after 3 entries",
             ),
             (
                 "an entry that is unlawful",
@@ -414,7 +414,7 @@ class Follow(Service):
         for place in PLACES:
             self.wait_for(
                 f"server {place} has read the stream",
-                lambda place=place: self.says(place, "follows behind"),
+                lambda place=place: self.says(place, "follows after"),
             )
         self.kill_redis()
         shutil.rmtree(self.work / "redis")

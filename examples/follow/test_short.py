@@ -23,9 +23,9 @@ class Short(Service):
     def begin(self, lease=1500):
         """Two servers: the first one leads."""
         self.serve(1, self.stream, lease, OPTIONS)
-        self.wait_for("a leader", lambda: self.says(1, "leads by epoch 1 behind 0 entries"))
+        self.wait_for("a leader", lambda: self.says(1, "leads by epoch 1 after 0 entries"))
         self.serve(2, self.stream, lease, OPTIONS)
-        self.wait_for("a follower", lambda: self.says(2, "follows behind 0 entries"))
+        self.wait_for("a follower", lambda: self.says(2, "follows after 0 entries"))
 
     def requests(self, count):
         """The next requests: they put numbers and get them again, so that the last ten wait."""
@@ -89,9 +89,9 @@ class Short(Service):
             self.assertEqual(checked.stdout.decode(), f"lawful {entries}\nsum {last_sum}\n")
             self.assertLess(entries, 2 * FROM + 80)
         self.serve(3, self.stream, options=OPTIONS)
-        self.wait_for("a new follower", lambda: self.says(3, r"follows behind \d+ entries"))
+        self.wait_for("a new follower", lambda: self.says(3, r"follows after \d+ entries"))
         with self.case("a new follower reads few entries"):
-            self.assertEqual(self.says(3, r"follows behind (\d+) ")[1], str(entries))
+            self.assertEqual(self.says(3, r"follows after (\d+) ")[1], str(entries))
         # The follower that read all pieces has checked each short one.
         self.holds("the follower goes on", self.servers[2].runs(), self.servers[2].errors())
         self.servers[2].kill()
@@ -122,7 +122,7 @@ class Short(Service):
                 self.ask_redis("CLIENT", "KILL", "TYPE", "normal", "SKIPME", "yes")
             self.servers[2].signal(signal.SIGCONT)
             count = 2 if is_broken else 1
-            anew = r"^begins anew with short piece 1-\d+ behind \d+ entries$"
+            anew = r"^begins anew with short piece 1-\d+ after \d+ entries$"
             self.wait_for(
                 "a follower that was away begins anew",
                 lambda count=count: len(re.findall(anew, self.servers[2].said(), re.M)) >= count
@@ -193,7 +193,7 @@ class Short(Service):
             self.run_program(self.program, "ask", self.port + 1, word)
         for place in 2, 3:
             self.serve(place, self.stream, 1500, OPTIONS)
-            self.wait_for("a follower", lambda place=place: self.says(place, "follows behind "))
+            self.wait_for("a follower", lambda place=place: self.says(place, "follows after "))
         self.servers[3].signal(signal.SIGSTOP)
         self.servers[1].kill()
         self.wait_for("a new leader", lambda: self.says(2, r"leads by epoch \d+ "))

@@ -1,7 +1,7 @@
 # A round of tools/speed.sh. Each program is run once, and its lines are added to `figures`: the setting, the build, the workload,
 # the way and nanoseconds, with tabs between.
 
-# What does the work in a setting runs behind these words.
+# What does the work in a setting runs after these words.
 with=
 
 # note BUILD FACTOR: adds lines that have a workload, a way and a number, two spaces apart at least.

@@ -1,4 +1,4 @@
-"""Reads the text of a journal, and opens a room behind its last entry, or makes a short one."""
+"""Reads the text of a journal, and opens a room after its last entry, or makes a short one."""
 
 from __future__ import annotations
 
@@ -46,7 +46,7 @@ def compacted(parts: Iterable[bytes], is_torn_fine: bool = False) -> Journal:
 def _read_from(
     parts: Iterable[bytes], is_torn_fine: bool, lines: Lines
 ) -> Iterator[library.Handle]:
-    """Read these parts to their end, and close the reading behind the block."""
+    """Read these parts to their end, and close the reading after the block."""
     reading = library.Handle()
     code = library.reading_open(byref(reading))
     if code != DONE:

@@ -14,7 +14,7 @@ class Texts(unittest.TestCase):
         self.addCleanup(self.seat.leave)
 
     def history(self):
-        """Two pieces, behind which a message waits in mailbox 0 and variable 1 holds 5."""
+        """Two pieces, after which a message waits in mailbox 0 and variable 1 holds 5."""
         mailbox = self.seat.mailbox(str)
         self.seat.send(mailbox, "hello")
         self.seat.send(mailbox, "a b")
@@ -55,7 +55,7 @@ class Texts(unittest.TestCase):
                 self.assertEqual(seat.swap(variable, 6), 5)
             third = board.take_journal()
             self.assertEqual([entry.reply.message for entry in third], ["a b", 5])
-            # The history goes on behind what was read.
+            # The history goes on after what was read.
             again = Switchboard.restore([text, third.text()])
             self.assertEqual(again.held(again.mvar(1, int)), 6)
 

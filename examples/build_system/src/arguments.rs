@@ -55,7 +55,7 @@ impl fmt::Display for ArgumentError {
 }
 
 impl Arguments {
-    /// Reads the words behind the program's name.
+    /// Reads the words after the program's name.
     pub fn read(words: impl IntoIterator<Item = OsString>) -> Result<Arguments, ArgumentError> {
         let words: Vec<_> =
             words.into_iter().map(|word| word.into_string().map_err(ArgumentError::NotUtf8)).collect::<Result<_, _>>()?;

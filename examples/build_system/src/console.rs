@@ -23,7 +23,7 @@ impl Console {
         self.line(text.trim_end());
     }
 
-    /// Prints a line on standard error, behind the program's name.
+    /// Prints a line on standard error, after the program's name.
     pub fn error(&self, text: impl Display) {
         self.write(|| writeln!(io::stderr().lock(), "cml_make: {text}"));
     }

@@ -94,7 +94,7 @@ impl fmt::Display for Problem {
             }
             Problem::VariableName(name) => write!(f, "'{name}' is no name of a variable"),
             Problem::CommandOnRuleLine => {
-                f.write_str("a command in a rule's own line isn't in the subset: write it in a line behind a tab")
+                f.write_str("a command in a rule's own line isn't in the subset: write it in a line after a tab")
             }
             Problem::Name { name, why } => write!(f, "'{name}': {why} in the subset"),
             Problem::Reference(text) => {

@@ -10,7 +10,7 @@ use std::fmt;
 /// The goals and all that they need, each once.
 #[derive(Debug)]
 pub struct Graph {
-    /// Each object is behind its prerequisites.
+    /// Each object is after its prerequisites.
     pub objects: Vec<Object>,
     /// The places of the goals, in the order of the command line.
     pub goals: Vec<usize>,
@@ -104,7 +104,7 @@ struct Walk<'a> {
 }
 
 impl Walk<'_> {
-    /// Places an object behind all that it needs.
+    /// Places an object after all that it needs.
     fn visit(&mut self, goal: &str) -> Result<(), GraphError> {
         self.go_to(goal)?;
         while let Some(step) = self.path.last_mut() {

@@ -81,7 +81,7 @@ fn piece_of(text: &str) -> Option<Piece> {
     (!text.is_empty()).then(|| Piece::Text(text.to_string()))
 }
 
-/// What a dollar sign begins, and the text behind that.
+/// What a dollar sign begins, and the text after that.
 fn reference(after: &str) -> Result<(Piece, &str), Problem> {
     let letter = after.chars().next().ok_or(Problem::LoneDollar)?;
     let behind = &after[letter.len_utf8()..];
@@ -96,7 +96,7 @@ fn reference(after: &str) -> Result<(Piece, &str), Problem> {
     }
 }
 
-/// A reference in parentheses, behind the opening one.
+/// A reference in parentheses, after the opening one.
 fn named(text: &str, close: char) -> Result<(Piece, &str), Problem> {
     let (name, behind) = text.split_once(close).ok_or(Problem::OpenReference)?;
     if is_variable_name(name) {

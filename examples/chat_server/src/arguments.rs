@@ -90,7 +90,7 @@ impl fmt::Display for BadArguments {
     }
 }
 
-/// Reads the words behind the program's name.
+/// Reads the words after the program's name.
 pub fn parse(words: impl IntoIterator<Item = String>) -> Result<Asked, BadArguments> {
     let mut words = words.into_iter();
     let (mut listen, mut journal) = (None, None);

@@ -14,7 +14,7 @@ const LOOK: Duration = Duration::from_millis(250);
 /// How long a name's earlier connection may take to end: longer than its last lines may.
 const PATIENCE: Duration = Duration::from_secs(15);
 
-/// How long the server reads on behind the end of a connection.
+/// How long the server reads on after the end of a connection.
 const LINGER: Duration = Duration::from_secs(2);
 
 /// One client's connection.

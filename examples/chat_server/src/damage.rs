@@ -64,7 +64,7 @@ fn unlawful(text: &mut impl BufRead, position: u64) -> io::Result<String> {
     }
     let (number, there) = (lines.line, shown(&line));
     Ok(format!(
-        "line {number} has {there}, which no switchboard answers behind the {position} entries before it; \
+        "line {number} has {there}, which no switchboard answers after the {position} entries before it; \
          `cml check` says what it would answer"
     ))
 }
@@ -80,7 +80,7 @@ impl Lines {
         }
     }
 
-    /// Goes on behind a line that has no fault.
+    /// Goes on after a line that has no fault.
     fn pass(&mut self, line: &[u8]) {
         if self.is_entry(line) {
             self.entries += 1;
@@ -116,7 +116,7 @@ impl Lines {
             (Place::Piece, Some(version), _) if number == 1 => return foreign(version),
             (Place::Headed, _, Some(from)) if number == 2 => {
                 return format!(
-                    "line 2 is `from {from}`: it begins behind a cut, and the {from} entries before it are missing"
+                    "line 2 is `from {from}`: it begins after a cut, and the {from} entries before it are missing"
                 )
             }
             (Place::Piece, ..) => format!("`journal 4{}`", self.sum),
@@ -143,7 +143,7 @@ fn foreign(version: u64) -> String {
     format!("line 1 is `journal {version}`: {why}")
 }
 
-/// The number behind this word, if the line has just these.
+/// The number after this word, if the line has just these.
 fn number_behind(word: &[u8], line: &[u8]) -> Option<u64> {
     str::from_utf8(line.strip_prefix(word)?).ok()?.parse().ok()
 }
@@ -198,7 +198,7 @@ mod tests {
             ),
             (
                 "journal 4\nfrom 4\nend 4\n",
-                "line 2 is `from 4`: it begins behind a cut, and the 4 entries before it are missing",
+                "line 2 is `from 4`: it begins after a cut, and the 4 entries before it are missing",
             ),
             (
                 &format!("{begun}seat 0 send 0 hello: done\n"),
@@ -231,7 +231,7 @@ mod tests {
             ),
             (
                 &format!("{next}from 1\nseat 0 recv 0: =a\n"),
-                "line 6 has `seat 0 recv 0: =a`, which no switchboard answers behind the 1 entries before it; \
+                "line 6 has `seat 0 recv 0: =a`, which no switchboard answers after the 1 entries before it; \
                  `cml check` says what it would answer",
             ),
             (

@@ -10,7 +10,7 @@ pub const LONGEST: usize = 4_096;
 pub enum Line<'a> {
     /// A line without its line feed. The last one may have none.
     Whole(&'a [u8]),
-    /// A line has more than [`LONGEST`] bytes. The next one is the line behind it.
+    /// A line has more than [`LONGEST`] bytes. The next one is the line after it.
     TooLong,
     /// The client sends no more.
     End,
@@ -67,7 +67,7 @@ impl<R: Read> Lines<R> {
         }
     }
 
-    /// What is left behind the last line feed.
+    /// What is left after the last line feed.
     fn last(&mut self) -> Line<'_> {
         let start = self.start;
         self.start = self.end;
@@ -81,7 +81,7 @@ impl<R: Read> Lines<R> {
         &self.buffer[self.start..self.end]
     }
 
-    /// Reads some bytes behind those that are held: how many.
+    /// Reads some bytes after those that are held: how many.
     fn fill(&mut self) -> io::Result<usize> {
         self.buffer.copy_within(self.start..self.end, 0);
         self.end -= self.start;

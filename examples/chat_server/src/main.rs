@@ -66,7 +66,7 @@ fn run() -> Result<(), Failure> {
     }
 }
 
-/// The words behind the program's name, each of which has to be Unicode.
+/// The words after the program's name, each of which has to be Unicode.
 fn words() -> Result<Vec<String>, BadArguments> {
     let word =
         |word: OsString| word.into_string().map_err(|word| BadArguments::Unknown(word.to_string_lossy().into_owned()));
@@ -125,7 +125,7 @@ fn run_threads(
         scope.spawn(|| thread::scope(|clients| server.accept(listener, clients)));
         let address = listener.local_addr().map_err(Failure::Listen)?;
         let rooms = server.directory.rooms();
-        print(&format!("listening on {address} behind {} entries with {rooms} rooms\n", server.board.entries()));
+        print(&format!("listening on {address} after {} entries with {rooms} rooms\n", server.board.entries()));
         wait_for_shutdown();
         server.is_ending.store(true, Ordering::Release);
         server.connections.end_all("bye the server ends");

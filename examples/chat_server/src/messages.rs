@@ -57,7 +57,7 @@ pub enum Record {
     },
     /// What the member hasn't received is owed to the port.
     Member { name: Name, room: Name, port: u64 },
-    /// The member lost its place behind the message of this number, and doesn't know yet.
+    /// The member lost its place after the message of this number, and doesn't know yet.
     Behind { name: Name, room: Name, last: u64 },
 }
 

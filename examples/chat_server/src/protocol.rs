@@ -129,7 +129,7 @@ impl fmt::Display for Refusal {
             Refusal::FellBehind { room, last } => {
                 write!(
                     f,
-                    "you were too far behind, and lost your place in {room} behind message {last}; /join {room} again"
+                    "you were too far behind, and lost your place in {room} after message {last}; /join {room} again"
                 )
             }
         }

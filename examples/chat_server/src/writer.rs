@@ -120,7 +120,7 @@ impl Writer<'_, '_> {
         Ok(())
     }
 
-    /// Writes all of a text. The socket has a time limit, behind which the writer looks whether the connection has ended.
+    /// Writes all of a text. The socket has a time limit, after which the writer looks whether the connection has ended.
     fn write(&self, mut text: &[u8]) -> Result<(), Trouble> {
         let mut socket: &TcpStream = &self.connection.socket;
         while !text.is_empty() {

@@ -5,7 +5,7 @@
 //!
 //! Thread k sends to mailbox k + 1 and receives from mailbox k. Its n-th message is n. FOLDER/journal has the journal, in pieces of
 //! 10,000 entries, each with a sum. Once a piece is on the disk, a line of FOLDER/kept says so: `kept 20000 entries 538897 bytes`. With MESSAGES
-//! each thread ends behind so many messages. `tests/keep_journal.sh` kills it ten times.
+//! each thread ends after so many messages. `tests/keep_journal.sh` kills it ten times.
 
 mod file;
 
@@ -33,7 +33,7 @@ fn main() -> Result<(), Box<dyn AnyError>> {
     let messages = words.next().map_or(Ok(u64::MAX), |word| word.parse())?;
 
     let (mut file, board) = File::open(&folder, PIECE)?;
-    println!("goes on behind {} entries", board.entries());
+    println!("goes on after {} entries", board.entries());
     let (pieces, taken) = sync_channel(WAITING);
     let writer = thread::spawn(move || taken.iter().try_for_each(|journal| file.keep(&journal)));
     // A call that finds the journal full hands it to the writer.

@@ -12,12 +12,12 @@ pub const CASES: &[Case] = &[
     ("a last line may lack its line feed", no_line_feed),
     ("a client that shut its sending side still gets what is said", half_closed),
     ("a client that closed the connection misses nothing", closed),
-    ("a client comes back behind what it has seen", comes_back),
+    ("a client comes back after what it has seen", comes_back),
     ("a later connection replaces the earlier one", replaced),
     ("a place ends by /leave", left),
     ("/who returns the members", who),
     ("/history returns messages by their numbers", history),
-    ("/quit comes behind all that was said", quit),
+    ("/quit comes after all that was said", quit),
 ];
 
 fn said(address: SocketAddr) -> Result<(), Wrong> {
@@ -191,7 +191,7 @@ fn comes_back(address: SocketAddr) -> Result<(), Wrong> {
     ann.quit()?;
     let mut ben = Client::joined(address, "back-ben", "back")?;
     ben.ask("6", "6 back-ben: 6")?;
-    // Without a number the last message that was sent is sent again; with one, what is behind it.
+    // Without a number the last message that was sent is sent again; with one, what is after it.
     let backs = [("", 5, 6), (" 6", 7, 6), (" 2", 3, 6), (" 0", 1, 6), (" 5", 6, 6)];
     for (seen, next, last) in backs {
         let mut ann = Client::connect(address)?;

@@ -85,7 +85,7 @@ impl Client {
         }
     }
 
-    /// The next line begins so: what is behind.
+    /// The next line begins so: what follows that.
     pub fn expect_start(&mut self, wanted: &str) -> Result<String, Wrong> {
         match self.line()? {
             Some(line) if line.starts_with(wanted) => Ok(line[wanted.len()..].to_owned()),

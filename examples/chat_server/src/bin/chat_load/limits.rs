@@ -1,5 +1,5 @@
 //! What the server bounds: tried on a server with `--client-limit 20 --room-limit 20 --member-limit 40 --owed-limit 300`. These
-//! cases come behind the others, which have made some rooms and members.
+//! cases come after the others, which have made some rooms and members.
 
 use crate::client::Client;
 use crate::{Case, Wrong};
@@ -44,7 +44,7 @@ fn away(address: SocketAddr) -> Result<(), Wrong> {
     ben.ask("/who", "member away-ben here unread 0")?;
     ben.expect("end of members of away")?;
     let mut ann = Client::named(address, "away-ann")?;
-    let lost = "error fell-behind: you were too far behind, and lost your place in away behind message 1; /join away again";
+    let lost = "error fell-behind: you were too far behind, and lost your place in away after message 1; /join away again";
     ann.expect(lost)?;
     ann.expect_quiet()?;
     ann.quit()?;
@@ -82,9 +82,9 @@ fn slow(address: SocketAddr) -> Result<(), Wrong> {
         }
     }
     if !last.starts_with(&format!(
-        "error fell-behind: you were too far behind, and lost your place in slow behind message {got};"
+        "error fell-behind: you were too far behind, and lost your place in slow after message {got};"
     )) {
-        return Err(format!("{last:.100} behind message {got}"));
+        return Err(format!("{last:.100} after message {got}"));
     }
     quick.quit()
 }
@@ -117,7 +117,7 @@ fn clients(address: SocketAddr) -> Result<(), Wrong> {
         return Err(format!("{} clients are connected", all.len()));
     }
     all.into_iter().try_for_each(Client::quit)?;
-    // The server reads on for a while behind the end of a connection.
+    // The server reads on for a while after the end of a connection.
     while let Err(wrong) = Client::named(address, "clients-more").and_then(Client::quit) {
         if !wrong.contains(&full) {
             return Err(wrong);

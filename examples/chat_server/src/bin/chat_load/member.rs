@@ -125,7 +125,7 @@ impl Member {
         self.number.is_multiple_of(2)
     }
 
-    /// Says its name. The first time it joins; later it goes on behind the last message that it got.
+    /// Says its name. The first time it joins; later it goes on after the last message that it got.
     fn come_in(&mut self, client: &mut Client) -> Result<(), Trouble> {
         let name = format!("c{}", self.number);
         match self.says_what_it_saw() && self.first.is_some() {
@@ -163,7 +163,7 @@ impl Member {
     /// lost with the server: it says that again.
     fn catch_up(&mut self, client: &mut Client, next_number: u64, last: u64) -> Result<(), Trouble> {
         if self.says_what_it_saw() && next_number != self.last() + 1 {
-            return Err(format!("the server goes on at {next_number} behind {}", self.last()).into());
+            return Err(format!("the server goes on at {next_number} after {}", self.last()).into());
         }
         if next_number > self.last() + 1 {
             self.fill(client, next_number - 1)?;
@@ -176,7 +176,7 @@ impl Member {
         Ok(())
     }
 
-    /// Reads from the history what it didn't get. Messages that come meanwhile are behind that.
+    /// Reads from the history what it didn't get. Messages that come meanwhile are after that.
     fn fill(&mut self, client: &mut Client, to: u64) -> Result<(), Trouble> {
         send(client, &format!("/history {} {to}\n", self.last() + 1))?;
         let mut later = Vec::new();
@@ -216,7 +216,7 @@ impl Member {
         self.take(&line)
     }
 
-    /// Takes a message. It has the number behind the last one, or is one that the client got before.
+    /// Takes a message. It has the number after the last one, or is one that the client got before.
     fn take(&mut self, line: &str) -> Result<(), Trouble> {
         let (number, said, text_of) = parse(line).ok_or(format!("{line:?} is no message"))?;
         if number <= self.last() && !self.says_what_it_saw() {
@@ -224,7 +224,7 @@ impl Member {
             return Ok(());
         }
         if number != self.last() + 1 {
-            return Err(format!("message {number} comes behind {}", self.last()).into());
+            return Err(format!("message {number} comes after {}", self.last()).into());
         }
         if text_of != text(said.0, said.1) {
             return Err(format!("message {number} is another one: {line}").into());

@@ -1,4 +1,4 @@
-//! What a later server finds: what is said and left before the server is killed, and what is found behind that.
+//! What a later server finds: what is said and left before the server is killed, and what is found after that.
 
 use crate::client::Client;
 use crate::{Case, Wrong};
@@ -92,7 +92,7 @@ fn find_mended(address: SocketAddr) -> Result<(), Wrong> {
     ann.quit()?;
     let mut ben = Client::named(address, "ben")?;
     ben.expect(
-        "error fell-behind: you were too far behind, and lost your place in kitchen behind message 0; /join kitchen again",
+        "error fell-behind: you were too far behind, and lost your place in kitchen after message 0; /join kitchen again",
     )?;
     ben.quit()
 }
