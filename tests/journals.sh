@@ -1,7 +1,7 @@
 #!/bin/sh
 # `cml check` from outside: `sh tests/journals.sh CML`, or `sh tests/journals.sh CML few`, which leaves out the long journal and most
 # changed ones. Lawful journals of all calls, in both versions and in several pieces; unlawful ones; the lines of the objects; each
-# fault of the format; a journal of many entries in little memory; other words, and streams that are cut anywhere or fail.
+# fault of the format; a journal of many entries in little memory; other words, a terminal, and streams that are cut anywhere or fail.
 # Then what is nearly a journal: each byte made others, each prefix, and each line and each piece left out, doubled or exchanged with
 # the next. Of these the program has to say just what the plain program journal_judge.awk says. The last line is `N passed, M failed`.
 LC_ALL=C
@@ -327,6 +327,26 @@ streams() {
     expect 'a line in two parts' 0 'lawful 1' none
 }
 
+# at_terminal CASE STATUS OUT COMMAND ERR: what the program says of a journal that comes slowly. Standard error is a terminal, and
+# has a line each second before ERR.
+at_terminal() {
+    timeout 60 python3 tests/lib/terminal.py "$work/err" "$program" "$4" < "$work/in" > "$work/out"
+    status=$?
+    grep -v '^cml: [0-9][0-9]* MB read$' "$work/err" > "$work/others"
+    grep -q '^cml: 0 MB read$' "$work/err" || fail "$1: no line says how much is read"
+    mv "$work/others" "$work/err"
+    expect "$1" "$2" "$3" "$5"
+}
+
+terminals() {
+    has python3 'what a person at a terminal sees' || return
+    script "$letters" > "$work/in"
+    at_terminal 'a terminal' 0 'lawful 3' check none
+    at_terminal 'a terminal, and a short journal' 0 "$(script 'journal 1 / seat 1 mailbox: made 0 / end 1')" compact none
+    script "$(echo "$letters" | sed 's/end 3/end 4/')" > "$work/in"
+    at_terminal 'a terminal, and a fault' 2 none check "$(fault_lines 'wrong end' 5 'an entry, or `end 3`' 'end 4')"
+}
+
 # Short reads change nothing. A read that fails ends the check, and one that is interrupted is made again.
 reads() {
     make_streams || return
@@ -415,6 +435,7 @@ faults
 long_lines
 [ -n "$few" ] || many
 streams
+terminals
 reads
 changed
 judged

@@ -9,6 +9,7 @@ mod asked;
 mod check;
 mod command_line;
 mod ending;
+mod progress;
 
 use asked::Order;
 use check::Wanted;
@@ -16,6 +17,7 @@ use cml_script::{Form, OpenGate, replay, replay_journal, run, run_journal};
 use cml_shell::{NoOrder, end, words};
 use command_line::order;
 use ending::Ending;
+use progress::{Heard, Person};
 use std::process::ExitCode;
 use std::sync::Wait;
 use std::thread::Threads;
@@ -43,21 +45,16 @@ fn obey<R: Threads + Wait + Sync>(rt: &HostRuntime, system: &R) -> Result<Ending
         Order::Run(limit, Form::Journal) => {
             Ending::Performed(run_journal(system, alloc, input, output, limit, &OpenGate))
         }
-        Order::Check(state) => Ending::Checked(check::check(
-            system,
-            alloc,
-            input,
-            output,
-            wanted(state),
-        )),
-        Order::Compact => Ending::Checked(check::check(
-            system,
-            alloc,
-            input,
-            output,
-            Wanted::Compacted,
-        )),
+        Order::Check(state) => check_input(rt, system, wanted(state)),
+        Order::Compact => check_input(rt, system, Wanted::Compacted),
     })
+}
+
+/// Checks the journal on standard input. A person at a terminal sees how much is read.
+fn check_input<S: Wait>(rt: &HostRuntime, system: &S, wanted: Wanted) -> Ending {
+    let mut journal = Heard::new(rt.stdin(), Person::new(rt));
+    let output = &mut rt.stdout();
+    Ending::Checked(check::check(system, rt.alloc(), &mut journal, output, wanted))
 }
 
 /// What is wanted of a journal that is checked.
