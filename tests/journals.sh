@@ -114,7 +114,7 @@ unlawful() {
         'journal 1 / seat 0 channel: made 0 / seat 0 port 0: made 1 / seat 0 close 1: done / seat 0 poll 1: none / end 4'
     unlike 'bytes out of order' 'unlawful at 3: seat 1 recv 0: =b' =a%20 \
         'journal 2 / seat 0 mailbox: made 0 / seat 1 send 0 =a%20: done / seat 1 send 0 =b: done / seat 1 recv 0: =b / end 4'
-    unlike 'what is behind is not read' 'unlawful at 0: seat 0 mailbox: made 7' 'made 0' 'journal 1 / seat 0 mailbox: made 7 / what / end 9'
+    unlike 'what is after is not read' 'unlawful at 0: seat 0 mailbox: made 7' 'made 0' 'journal 1 / seat 0 mailbox: made 7 / what / end 9'
 }
 
 # The lines of the objects, as a report has them.
@@ -125,7 +125,7 @@ states() {
     left 'bytes' 'lawful 3 / mailbox 0: sent 1 got 0 waits 1 / mvar 1: full =%20' \
         'journal 2 / seat 0 mailbox: made 0 / seat 0 mvar =%20: made 1 / seat 0 send 0 =x: done / end 3'
     run check --state < /dev/null
-    expect 'the state of nothing' 2 none 'journal: torn behind line 0'
+    expect 'the state of nothing' 2 none 'journal: torn after line 0'
     for journal in examples/*.journal; do
         report=${journal%.journal}.report
         [ -f "$report" ] || continue
@@ -185,8 +185,8 @@ sum SUM"
         rest=${fault#*|}
         faulty_sealed "${place#* }" "${place%% *}" "${rest%%|*}" "${rest#*|}"
     done
-    told_sealed 'sealed behind a cut' 2 none 'journal: begins behind a cut' 'journal 3 / from 1 / end 1 SUM'
-    told_sealed 'a sealed line that is torn' 2 none 'journal: torn behind line 1' 'journal 3'
+    told_sealed 'sealed after a cut' 2 none 'journal: begins after a cut' 'journal 3 / from 1 / end 1 SUM'
+    told_sealed 'a sealed line that is torn' 2 none 'journal: torn after line 1' 'journal 3'
     seal "$chain" > "$work/in"
     run check --state < "$work/in"
     expect 'the state of sealed pieces' 0 "$(verdict 3 | sed "s/SUM/$(sed -n '$s/.* //p' "$work/in")/"; printf '\nmailbox 0: sent 1 got 1 waits 0')" none
@@ -246,7 +246,7 @@ faults() {
     faulty 'gap' 4 "$entry_or_end" 'journal 1 / end 0 / journal 1 / from 1 / end 1'
     told 'bad bytes' 2 none "$(printf 'journal: line 2: bad bytes\nexpected: %s\nfound: `seat 0?mailbox: made 0`' "$entry_or_end")" \
         "journal 1 / seat 0$(printf '\t')mailbox: made 0 / end 1"
-    told 'behind a cut' 2 none 'journal: begins behind a cut' 'journal 1 / from 1 / end 1'
+    told 'after a cut' 2 none 'journal: begins after a cut' 'journal 1 / from 1 / end 1'
     told 'bytes of a letter' 2 none "$(printf 'journal: line 2: bad bytes\nexpected: %s\nfound: `seat x mailbox: made ??`' "$entry_or_end")" \
         'journal 1 / seat x mailbox: made é / end 1'
     faulty 'bad number' 2 "$entry_or_end" 'journal 1 / thread 00 mailbox: made 0 / end 1'
@@ -260,12 +260,12 @@ faults() {
     wide=$(head -c 80 /dev/zero | tr '\0' w)
     faulty 'too few words' 2 "$entry_or_end" "journal 1 / $wide"
     faulty 'too few words' 2 "$entry_or_end" "journal 1 / ${wide}w"
-    told 'a cut line that is torn' 2 none 'journal: torn behind line 1' 'journal 1'
+    told 'a cut line that is torn' 2 none 'journal: torn after line 1' 'journal 1'
     printf 'journal 1\nseat 0 mail\000box: made 0\nend 1\n' > "$work/in"
     run check < "$work/in"
     expect 'a byte 0' 2 none "$(printf 'journal: line 2: bad bytes\nexpected: %s\nfound: `seat 0 mail?box: made 0`' "$entry_or_end")"
     run check < /dev/null
-    expect 'no input' 2 none 'journal: torn behind line 0'
+    expect 'no input' 2 none 'journal: torn after line 0'
     { printf 'journal 2\nseat 0 mvar ='; head -c 1000000 /dev/zero | tr '\0' a; printf ': made 0\nend 1\n'; } > "$work/in"
     run check < "$work/in"
     expect 'a message of a million bytes' 0 'lawful 1' none

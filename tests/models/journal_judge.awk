@@ -34,16 +34,16 @@ function judge(text,    line, count, k, fault, unended) {
     count = split(text, line, "\n")
     unended = count ? line[count] : ""
     for (k = 1; k < count; k++) {
-        if (k == 2 && line[2] ~ /^from /) return no_journal("journal: begins behind a cut")
+        if (k == 2 && line[2] ~ /^from /) return no_journal("journal: begins after a cut")
         remember()
         fault = fault_of(line[k])
         if (fault != "") return faulty(k, fault, line[k])
         if (!is_lawful) return unlike(line[k])
     }
-    if (count == 2 && unended ~ /^from /) return no_journal("journal: begins behind a cut")
+    if (count == 2 && unended ~ /^from /) return no_journal("journal: begins after a cut")
     remember()
     if (length(unended) > longest) return faulty(count, "line too long", unended)
-    if (stage != "ended" || unended != "") return no_journal("journal: torn behind line " (count ? count - 1 : 0))
+    if (stage != "ended" || unended != "") return no_journal("journal: torn after line " (count ? count - 1 : 0))
     print "lawful " entries
     if (sealed) print "sum " sum
     for (k = 0; state && k < objects; k++) print kind[k] " " k ": " state_of(k)
@@ -193,10 +193,10 @@ function entry(line,    fault, who, number, call) {
     return ""
 }
 
-# What the words behind the call's own are: `#` is an object's number, and `=` a message. The call `mvar` is one with a message here.
+# What the words after the call's own are: `#` is an object's number, and `=` a message. The call `mvar` is one with a message here.
 function operands_of(call) { return call == "mvar" ? "=" : gives[call] ? "# =" : "#" }
 
-# The words behind the call's own. The last has a colon.
+# The words after the call's own. The last has a colon.
 function operands(form) {
     if (form == "# =") {
         if (!next_word()) return "too few words"
@@ -250,7 +250,7 @@ function is_message(text) {
 
 function same(one, other) { return one "x" == other "x" }
 
-# The calls: the reply that a call has behind the entries before it.
+# The calls: the reply that a call has after the entries before it.
 
 function answer_of(call,    reply_here) {
     if (call == "mvar with a message") return made("mvar", given)
@@ -274,7 +274,7 @@ function named(sort) {
     return "made " objects++
 }
 
-# The objects, behind the last entry.
+# The objects, after the last entry.
 
 function state_of(which,    first) {
     if (kind[which] == "mailbox") return "sent " sent[which] " got " got[which] " waits " sent[which] - got[which]

@@ -332,7 +332,7 @@ silent_in_front old new (Torn line) silent read = absurd silent
 silent_in_front old new (Compacted written) silent read = absurd silent
 silent_in_front old new (TooLong place) silent read = absurd silent
 
--- the front is behind a cut
+-- the front is after a cut
 pub cut_in_front : (old new : Option (List ℕ)) (front : List ℕ) (ending : Ending) → Consumes old new front → length front ≤ 15
     → (ending ≡ BehindCut) × (is_behind_cut front ≡ true)
     → EndsInFront old new ending

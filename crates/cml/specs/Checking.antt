@@ -56,7 +56,7 @@ IsEarly ending = ⊤
 abbrev pub is_of_bytes : List ℕ → Bool
 is_of_bytes front = starts_with nat_eq front (codes "journal 2") || starts_with nat_eq front (codes "journal 4")
 
--- the front of a plain journal that begins behind a cut
+-- the front of a plain journal that begins after a cut
 abbrev pub is_plain_cut : List ℕ → Bool
 is_plain_cut front = starts_with nat_eq front (codes "journal 1\nfrom ") || starts_with nat_eq front (codes "journal 2\nfrom ")
 
@@ -64,7 +64,7 @@ is_plain_cut front = starts_with nat_eq front (codes "journal 1\nfrom ") || star
 abbrev pub is_sealed_cut : List ℕ → Bool
 is_sealed_cut front = starts_with nat_eq front (codes "journal 3\nfrom ") || starts_with nat_eq front (codes "journal 4\nfrom ")
 
--- the front of a journal that begins behind a cut
+-- the front of a journal that begins after a cut
 abbrev pub is_behind_cut : List ℕ → Bool
 is_behind_cut front = is_plain_cut front || is_sealed_cut front
 
@@ -79,7 +79,7 @@ pub record IsFront (front : List ℕ) (left : Option (List ℕ)) : Type 0 where
   pub ended : length front < 15 → IsAtEnd left
 
 module _ {M : Type 0} (version : ℕ) (meaning : List ℕ → Option M) (text : M → List ℕ) where
-  -- the bytes are read without a fault, and so many lines end, modulo 2^64. All entries in them are lawful, and there is no line
+  -- the bytes are read without a fault, and this many lines end, modulo 2^64. All entries in them are lawful, and there is no line
   -- or the last piece has no end
   pub record IsTornJournal (bytes : List ℕ) (lines : ℕ) : Type 0 where
     pub state : State
@@ -89,7 +89,7 @@ module _ {M : Type 0} (version : ℕ) (meaning : List ℕ → Option M) (text : 
     pub torn : (end_of state ≡ None) ⊎ (state.lines ≡ 0)
     pub lawful : Lawful (reverse entries)
 
-  -- the bytes are a whole journal of so many lawful entries. These are the line of its last sum, if it is sealed, and the lines of
+  -- the bytes are a whole journal of this many lawful entries. These are the line of its last sum, if it is sealed, and the lines of
   -- its objects, if they are asked for
   pub record IsToldLawful (asked : Wanted) (bytes : List ℕ) (count : ℕ) (state : List ℕ) : Type 0 where
     pub verdict : asked ≢ wanted.Compacted
@@ -135,12 +135,12 @@ module _ {M : Type 0} (version : ℕ) (meaning : List ℕ → Option M) (text : 
   abbrev pub IsStateOf : Wanted → List ℕ → Progress M → List ℕ → Type 0
   IsStateOf asked bytes progress state = (so : IsSoFar version meaning bytes progress) → state ≡ told_state text asked (reverse so.entries)
 
-  -- a check ends in these bytes, behind any others
+  -- a check ends in these bytes, after any others
   abbrev pub EndsIn : Progress M → List ℕ → Ending → Type 0
   EndsIn old bytes ending =
       IsEarly ending × ((asked : Wanted) (before : List ℕ) → IsSoFar version meaning before old → Tells asked (before ++ bytes) ending)
 
-  -- a reader gave some bytes, and this is how the check of them ends behind the first 15 bytes, or behind all if they are fewer
+  -- a reader gave some bytes, and this is how the check of them ends after the first 15 bytes, or after all if they are fewer
   pub record Concludes (asked : Wanted) (front : List ℕ) (old new : Option (List ℕ)) (ending : Ending) : Type 0 where
     pub bytes : List ℕ
     pub long : front ≡ take 15 (front ++ bytes)
@@ -148,7 +148,7 @@ module _ {M : Type 0} (version : ℕ) (meaning : List ℕ → Option M) (text : 
     pub heard : IsHeardOut ending new
     pub told : Tells asked (front ++ bytes) ending
 
--- the check behind a front, whose messages are bytes or numbers
+-- the check after a front, whose messages are bytes or numbers
 abbrev pub ConcludesAs : Bool → Wanted → List ℕ → Option (List ℕ) → Option (List ℕ) → Ending → Type 0
 ConcludesAs true asked front old new ending = Concludes 2 message_of_word bytes_text asked front old new ending
 ConcludesAs false asked front old new ending = Concludes 1 number_of decimal asked front old new ending
@@ -172,7 +172,7 @@ abbrev pub TellsAs : Bool → Wanted → List ℕ → Ending → Type 0
 TellsAs true asked bytes ending = Tells 2 message_of_word bytes_text asked bytes ending
 TellsAs false asked bytes ending = Tells 1 number_of decimal asked bytes ending
 
--- a reader gave a front that is behind a cut, and no more was asked for
+-- a reader gave a front that is after a cut, and no more was asked for
 pub record GivesCut (old new : Option (List ℕ)) : Type 0 where
   pub front : List ℕ
   pub given : Consumes old new front
@@ -185,7 +185,7 @@ EndsInFront old new BehindCut = GivesCut old new
 EndsInFront old new ending = IsSilent ending × IsRead old new
 
 -- a reader gave the first 15 bytes, or all if they are fewer, and the rest, and this is how their check ends. By these first bytes
--- the messages are numbers or bytes, and the journal begins behind a cut or doesn't. This was asked for
+-- the messages are numbers or bytes, and the journal begins after a cut or doesn't. This was asked for
 pub record IsVerdict (asked : Wanted) (old new : Option (List ℕ)) (ending : Ending) : Type 0 where
   pub front : List ℕ
   pub rest : List ℕ

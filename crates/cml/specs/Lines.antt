@@ -107,7 +107,7 @@ lines_for (Unlawful at entry answer) =
 lines_for (Compacted written) = string_bytes written
 lines_for ending = []
 
--- what the writer has behind an ending: its lines; unknown if it failed
+-- what the writer has after an ending: its lines; unknown if it failed
 abbrev pub Writes : Ending → Option (List ℕ) → Option (List ℕ) → Type 0
 Writes WriteFault old new = ⊤
 Writes ending old new = Appends old new (lines_for ending)

@@ -128,7 +128,7 @@ By cml check < letters.journal:
 
 Exit status:
   0  the journal is lawful (also for help)
-  2  the input is no journal, or it begins behind a cut: standard error names the line
+  2  the input is no journal, or it begins after a cut: standard error names the line
   3  the words of the command line are not understood
   4  standard input can't be read, or standard output can't be written
   5  no memory
@@ -150,7 +150,7 @@ By cml compact < letters.journal:
 
 Exit status:
   0  the short journal was written (also for help)
-  2  the input is no journal, or it begins behind a cut: standard error names the line. Or a line
+  2  the input is no journal, or it begins after a cut: standard error names the line. Or a line
      of the short journal would be too long
   3  the words of the command line are not understood
   4  standard input can't be read, or standard output can't be written

@@ -29,7 +29,7 @@ const BYTES: &[u8] = b"journal 2";
 
 const SEALED_BYTES: &[u8] = b"journal 4";
 
-/// How a journal behind a cut begins.
+/// How a journal after a cut begins.
 const CUT_NUMBERS: &[u8] = b"journal 1\nfrom ";
 
 const CUT_BYTES: &[u8] = b"journal 2\nfrom ";
@@ -38,7 +38,7 @@ const SEALED_CUT_NUMBERS: &[u8] = b"journal 3\nfrom ";
 
 const SEALED_CUT_BYTES: &[u8] = b"journal 4\nfrom ";
 
-/// How many bytes tell the type of messages, and whether the journal begins behind a cut.
+/// How many bytes tell the type of messages, and whether the journal begins after a cut.
 const FRONT: usize = 15;
 
 /// Checks the journal that the reader gives, up to its end or to what is wrong with it. It waits for the reader.
@@ -102,7 +102,7 @@ fn read_front<S: Wait, R: Read>(system: &S, alloc: Global, input: &mut R) -> Res
     unreachable!()
 }
 
-/// A front, unless it is that of a piece behind a cut.
+/// A front, unless it is that of a piece after a cut.
 fn uncut(front: Vec<u8>) -> Result<Vec<u8>, Ending>
     ensures same { IfOk result (λ same. same.items ≡ front.items) }
     ensures uncut { OnOk result (is_behind_cut front.items ≡ false) }
@@ -114,7 +114,7 @@ fn uncut(front: Vec<u8>) -> Result<Vec<u8>, Ending>
     Ok(front)
 }
 
-/// Whether a front is that of a journal that begins behind a cut.
+/// Whether a front is that of a journal that begins after a cut.
 fn is_behind_cut(front: &[u8]) -> bool
     ensures { result ≡ is_behind_cut front.now }
 {

@@ -12,24 +12,24 @@ use thiserror::Error;
 /// says that, or has the short journal.
 #[derive(Debug, Drop, Error)]
 pub enum Ending {
-    /// All entries are lawful. The number says how many they are. Behind it are the line of the last sum, if the journal is sealed,
+    /// All entries are lawful. The number says how many they are. After it are the line of the last sum, if the journal is sealed,
     /// and the lines of the objects, if they are asked for.
     #[error("cml: lawful {0}")]
     Lawful(u64, String),
-    /// The entry at this position is the first unlawful one. Behind it are its line, and the right answer to its call.
+    /// The entry at this position is the first unlawful one. After it are its line, and the right answer to its call.
     #[error("cml: unlawful at {0}: {1}")]
     Unlawful(u64, String, String),
     /// All entries are lawful, and a short journal was asked for. This is its text.
     #[error("cml: compacted")]
     Compacted(String),
-    /// This line has a fault. Behind it are what is expected there, and what was found.
+    /// This line has a fault. After it are what is expected there, and what was found.
     #[error("journal: line {0}: {1}\nexpected: {2}\nfound: {3}")]
     Fault(u64, What, String, String),
-    /// The last piece has no end. So many lines have ended.
-    #[error("journal: torn behind line {0}")]
+    /// The last piece has no end. This many lines have ended.
+    #[error("journal: torn after line {0}")]
     Torn(u64),
-    /// The journal begins behind a cut.
-    #[error("journal: begins behind a cut")]
+    /// The journal begins after a cut.
+    #[error("journal: begins after a cut")]
     BehindCut,
     /// The line of this entry of the short journal would be longer than a line may be.
     #[error("cml: the line of entry {0} of the short journal is too long")]

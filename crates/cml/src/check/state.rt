@@ -71,7 +71,7 @@ fn write_channel<M: Message + Written>(
     lines.push_str("\n")
 }
 
-/// Adds a count behind its word.
+/// Adds a count after its word.
 fn write_count(lines: &mut String, word: &str, count: Option<u64>) -> Result<(), AllocError>
     ensures { OnOk result (string_bytes lines.new ≡ string_bytes lines.old ++ (word.now ++ counted count)) }
 {

@@ -3,7 +3,7 @@ use Rattle.std.specs.Io.KnownBytes.{Consumes}
 use Rattle.cml_journal.specs.{IsSoFar}
 use Rattle.cml.proofs.check.checking.check_all.Given as goal
 
--- the bytes that were read are checked behind the front
+-- the bytes that were read are checked after the front
 pub record Checked (g : goal.Over) (l : goal.Live-loop g) : Type 0 where
   pub can : (goal.iterator-loop g).can_next l.iterator'
   pub ends : (goal.iterator-loop g).is_finite l.iterator'
