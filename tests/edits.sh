@@ -1,6 +1,6 @@
 #!/bin/sh
 # The wrong edits in crates/*/edits: `sh tests/edits.sh [NAME..]` checks that the prover refuses each edit of the crates that
-# are named, or of all crates. `rt ci` itself tries those in crates/*/must-fail, which guard what the README promises. If you
+# are named, or of all crates. `rt ci` itself tries those in crates/*/must-fail, which guard the promises of docs/PROVED.md. If you
 # change a crate, try the others of that crate by this script.
 #
 # `rt must-fail` tries them on a copy of the crates, in which they are in must-fail/. It proves the crate once more before its
