@@ -168,6 +168,19 @@ letters() {
         --example letters > "$work/letters" && [ "$(cat "$work/letters")" = 'Ben received 5' ]
 }
 
+# The crate finds the library in a folder with a space, also by pkg-config and by a relative path.
+letters_from_a_folder_with_a_space() {
+    cp -r "$prefix" "$work/a folder" && letters "SERYUGO_PREFIX=$work/a folder" &&
+        (cd "$work" && letters 'SERYUGO_PREFIX=a folder') &&
+        { ! command -v pkg-config > /dev/null || letters "PKG_CONFIG_PATH=$work/a folder/lib/pkgconfig"; }
+}
+
+# Without an archive the crate isn't built, and the words name the folder, the variable and what builds it.
+letters_without_an_archive() {
+    ! letters SERYUGO_PREFIX=/nowhere 2> "$work/words" &&
+        grep -q 'in /nowhere/lib, which SERYUGO_PREFIX names. Run `sh bindings/try.sh PREFIX`' "$work/words"
+}
+
 # cargo_does COMMAND CRATE WORD..: a command of cargo's on a copy of a crate, with the installed library. The distribution's sources
 # are there for other crates.
 cargo_does() {
@@ -203,6 +216,8 @@ from_rust() {
     if has pkg-config 'Rust by pkg-config'; then
         check 'from Rust, by pkg-config' letters "PKG_CONFIG_PATH=$prefix/lib/pkgconfig"
     fi
+    check 'from Rust, by a folder with a space' letters_from_a_folder_with_a_space
+    check 'from Rust, without an archive' letters_without_an_archive
     check 'the version at run time, from Rust' prints "$version" version_in_rust
     if has_sources 'messages by serde' 'serde-1.*' && has_sources 'messages by serde' 'bincode-1.3.*'; then
         check 'whatever serde takes is a message' cargo_does test seryugo_serde

@@ -102,7 +102,9 @@ fn an_i_variable() {
         yield_now().await;
         assert!(seat.put(variable, (5, String::from("five"))).unwrap());
         let read = joined(readers).await;
-        assert!(read.len() == 50 && read.iter().all(|value| *value == Ok((5, String::from("five")))));
+        assert!(
+            read.len() == 50 && read.iter().all(|value| *value == Ok((5, String::from("five"))))
+        );
     });
 }
 

@@ -1,4 +1,5 @@
-//! What a journal's text costs: `cargo run --release --example journals -- 1000000` prints nanoseconds an entry.
+//! What a journal's text costs: `cargo run --release --example journals -- 1000000` prints
+//! nanoseconds an entry.
 
 use seryugo::{Checker, Error, Journal, Numbers, Switchboard};
 use std::error::Error as AnyError;

@@ -29,7 +29,8 @@ impl Appending {
         Appending { file, left: None }
     }
 
-    /// Writes a journal where the file ends. A torn piece would make all behind it unreadable, so that none is left there.
+    /// Writes a journal where the file ends. A torn piece would make all behind it unreadable, so
+    /// that none is left there.
     pub fn append<R: Room>(&mut self, journal: &Journal<R>) -> io::Result<()> {
         let end = self.file.seek(SeekFrom::End(0))?;
         let form = self.form_at(end, journal.first())?;
@@ -47,8 +48,9 @@ impl Appending {
         }
     }
 
-    /// What follows where the file ends. It looks each time, since the file's owner may have put a short journal in place of the text.
-    /// The next piece begins at this position: if the file has an entry there, the text is another one.
+    /// What follows where the file ends. It looks each time, since the file's owner may have put a
+    /// short journal in place of the text. The next piece begins at this position: if the file has
+    /// an entry there, the text is another one.
     fn form_at(&mut self, end: u64, first: u64) -> io::Result<Form> {
         match (form_of(&mut self.file, end), self.left) {
             (Ok((entries, _)), _) if entries > first => {
@@ -56,7 +58,11 @@ impl Appending {
             }
             (Ok((_, form)), _) => Ok(form),
             // The file is open for writing alone, and ends with what this wrote.
-            (Err(error), Some((left, form))) if error.kind() != ErrorKind::InvalidData && left == end => Ok(form),
+            (Err(error), Some((left, form)))
+                if error.kind() != ErrorKind::InvalidData && left == end =>
+            {
+                Ok(form)
+            }
             (Err(error), _) => Err(error),
         }
     }
@@ -65,7 +71,9 @@ impl Appending {
     fn write<R: Room>(&mut self, form: Form, journal: &Journal<R>) -> io::Result<Form> {
         let next = match form {
             Form::Plain => journal.write_to(&mut self.file).map(|()| Form::Plain),
-            Form::Sealed(after) => journal.write_sealed_to(after, &mut self.file).map(|sum| Form::Sealed(Some(sum))),
+            Form::Sealed(after) => {
+                journal.write_sealed_to(after, &mut self.file).map(|sum| Form::Sealed(Some(sum)))
+            }
         }?;
         self.file.sync_data()?;
         Ok(next)

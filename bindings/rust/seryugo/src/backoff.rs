@@ -8,21 +8,25 @@ use std::thread;
 /// The backoff of a wait of which nothing is known. The looks take less time than to wake a thread.
 pub(crate) type ShortBackoff = Backoff<7>;
 
-/// The backoff of a wait whose answer may be near: the thread's last call has woken a thread that slept, or the one that had woken it.
-/// So two threads that answer each other don't sleep at each turn. With 7 yields they took twice as long.
+/// The backoff of a wait whose answer may be near: the thread's last call has woken a thread that
+/// slept, or the one that had woken it. So two threads that answer each other don't sleep at each
+/// turn. With 7 yields they took twice as long.
 pub(crate) type LongBackoff = Backoff<30>;
 
 /// What a thread does between its later looks: whether it is to look on.
 pub(crate) type Pass = fn() -> bool;
 
-/// So often a thread spins before it looks for a wake: for one pause, and then for twice as many each time.
+/// So often a thread spins before it looks for a wake: for one pause, and then for twice as many
+/// each time.
 const SPINS: u32 = 5;
-/// In so many waits a thread doesn't look, at the most. With 64 two threads that answer each other slept now and then.
+/// In so many waits a thread doesn't look, at the most. With 64 two threads that answer each other
+/// slept now and then.
 const MOST_WITHOUT: u16 = 16;
 
-/// A thread that waits looks at a state. It looks again after each of `SPINS` spins, and then after each of `YIELDS` yields, or of as
-/// many spins if it has a time limit. Once it has looked in vain, it doesn't look in its next waits: in one, and then in twice as
-/// many each time. For that thread alone.
+/// A thread that waits looks at a state. It looks again after each of `SPINS` spins, and then after
+/// each of `YIELDS` yields, or of as many spins if it has a time limit. Once it has looked in vain,
+/// it doesn't look in its next waits: in one, and then in twice as many each time. For that thread
+/// alone.
 pub(crate) struct Backoff<const YIELDS: u32> {
     without: AtomicU16,
     left: AtomicU16,
@@ -45,7 +49,8 @@ impl<const YIELDS: u32> Backoff<YIELDS> {
         left == 0
     }
 
-    /// Whether the state is this before the last look. Before each look the thread spins, or it passes in that way.
+    /// Whether the state is this before the last look. Before each look the thread spins, or it
+    /// passes in that way.
     pub fn look_until(&self, state: &AtomicU8, this: u8, pass: Pass) -> bool {
         let is_seen = || (state.load(Ordering::Acquire) == this).then_some(());
         if is_seen().or_else(|| look(1, SPINS, pass, YIELDS, is_seen)).is_some() {
@@ -63,9 +68,16 @@ impl<const YIELDS: u32> Backoff<YIELDS> {
     }
 }
 
-/// What the first look sees that sees anything. Before each of the first looks the thread spins: for so many pauses, and then for
-/// twice as many each time. Before each of the others it passes, until that tells it to stop.
-pub(crate) fn look<T>(pauses: u32, spins: u32, pass: Pass, passes: u32, mut see: impl FnMut() -> Option<T>) -> Option<T> {
+/// What the first look sees that sees anything. Before each of the first looks the thread spins:
+/// for so many pauses, and then for twice as many each time. Before each of the others it passes,
+/// until that tells it to stop.
+pub(crate) fn look<T>(
+    pauses: u32,
+    spins: u32,
+    pass: Pass,
+    passes: u32,
+    mut see: impl FnMut() -> Option<T>,
+) -> Option<T> {
     if is_alone() {
         return None;
     }
@@ -86,7 +98,8 @@ pub(crate) fn look<T>(pauses: u32, spins: u32, pass: Pass, passes: u32, mut see:
     None
 }
 
-/// Spins in place of a yield. A thread that has a time limit does so: on a busy machine a yield may end long after the limit.
+/// Spins in place of a yield. A thread that has a time limit does so: on a busy machine a yield may
+/// end long after the limit.
 pub(crate) fn pass_by_spinning() -> bool {
     spin(64);
     true
@@ -98,9 +111,11 @@ fn spin(pauses: u32) {
     }
 }
 
-/// Whether the process has one processor. There a thread that looks keeps the processor from the one that it waits for. With yields a
-/// token round 63 threads took four times as long.
+/// Whether the process has one processor. There a thread that looks keeps the processor from the
+/// one that it waits for. With yields a token round 63 threads took four times as long.
 fn is_alone() -> bool {
     static IS_ALONE: OnceLock<bool> = OnceLock::new();
-    *IS_ALONE.get_or_init(|| thread::available_parallelism().is_ok_and(|processors| processors.get() == 1))
+    *IS_ALONE.get_or_init(|| {
+        thread::available_parallelism().is_ok_and(|processors| processors.get() == 1)
+    })
 }

@@ -1,20 +1,20 @@
 //! The calls of a switchboard of bytes.
 
-use crate::calls::{Asks, Calls, Gives, Polls};
+use crate::calls::{Calls, Give, Read};
 use crate::entry::Entry;
 use crate::error::Error;
 use crate::message::Message;
-use crate::raw::Handle;
-use crate::received::{RawBytes, RawEntry, Received, Slot};
-use crate::room::{Bytes, Carries, Carrying, Room};
+use crate::raw::{Handle, Opening};
+use crate::received::{RawEntry, Received};
+use crate::room::{Bytes, Carries, Room, Seal};
 
 impl Room for Bytes {
     type Message = Vec<u8>;
 }
 
-impl<T: Message> Carries<T> for Bytes {}
+impl<T: Message> Carries<T> for Bytes {
+    const SEAL: Seal = Seal;
 
-impl<T: Message> Carrying<T> for Bytes {
     #[inline]
     fn with_sent<O>(message: &T, call: impl FnOnce(&[u8]) -> O) -> O {
         message.with_bytes(call)
@@ -34,97 +34,193 @@ impl<T: Message> Carrying<T> for Bytes {
 impl Calls for Bytes {
     type Sent<'m> = &'m [u8];
     type Kept = Vec<u8>;
-    type Slot = Slot;
     type Received = Received;
 
     #[inline]
-    fn slot() -> Slot {
-        Slot::new()
-    }
-
-    #[inline]
-    unsafe fn taken(slot: &mut Slot) -> Received {
-        unsafe { Received::taken(slot) }
+    fn nothing() -> Received {
+        Received::nothing()
     }
 
     fn sent(kept: &Vec<u8>) -> &[u8] {
         kept
     }
 
-    fn open(limit: u64, room: &mut Handle) -> u32 {
-        unsafe { seryugo_bytes_room_open(limit, room) }
+    fn open(limit: u64, room: &mut Opening) -> u32 {
+        seryugo_bytes_room_open(limit, room)
     }
 
-    fn open_reading(reading: &mut Handle) -> u32 {
-        unsafe { seryugo_bytes_reading_open(reading) }
-    }
-
-    #[inline]
-    fn give(call: Gives, room: &mut Handle, seat: u64, object: u64, message: &[u8]) -> u32 {
-        unsafe { (call.bytes)(room, seat, object, message.as_ptr(), message.len()) }
+    fn open_reading(reading: &mut Opening) -> u32 {
+        seryugo_bytes_reading_open(reading)
     }
 
     #[inline]
-    fn ask(call: Asks, room: &mut Handle, seat: u64, object: u64, is_again: bool, slot: &mut Slot) -> u32 {
-        unsafe { (call.bytes)(room, seat, object, is_again, slot.as_mut_ptr()) }
+    fn give(call: Give, room: &mut Handle, seat: u64, object: u64, message: &[u8]) -> u32 {
+        let give = match call {
+            Give::Send => seryugo_bytes_send_from,
+            Give::Multicast => seryugo_bytes_multicast_from,
+            Give::Put => seryugo_bytes_put_from,
+        };
+        // SAFETY: the slice is good for the call, which keeps a copy.
+        unsafe { give(room, seat, object, message.as_ptr(), message.len()) }
     }
 
     #[inline]
-    fn poll(call: Polls, room: &mut Handle, seat: u64, object: u64, slot: &mut Slot) -> u32 {
-        unsafe { (call.bytes)(room, seat, object, slot.as_mut_ptr()) }
+    fn ask(
+        call: Read,
+        room: &mut Handle,
+        seat: u64,
+        object: u64,
+        is_again: bool,
+        to: &mut Received,
+    ) -> u32 {
+        match call {
+            Read::Recv => seryugo_bytes_recv(room, seat, object, is_again, to),
+            Read::Get => seryugo_bytes_get(room, seat, object, is_again, to),
+            Read::Take => seryugo_bytes_take(room, seat, object, is_again, to),
+        }
+    }
+
+    #[inline]
+    fn poll(call: Read, room: &mut Handle, seat: u64, object: u64, to: &mut Received) -> u32 {
+        match call {
+            Read::Recv => seryugo_bytes_recv_poll(room, seat, object, to),
+            Read::Get => seryugo_bytes_get_poll(room, seat, object, to),
+            Read::Take => seryugo_bytes_take_poll(room, seat, object, to),
+        }
     }
 
     #[inline]
     fn mvar_init(room: &mut Handle, seat: u64, message: &[u8], variable: &mut u64) -> u32 {
-        unsafe { seryugo_bytes_mvar_init_from(room, seat, message.as_ptr(), message.len(), variable) }
-    }
-
-    #[inline]
-    fn swap(room: &mut Handle, seat: u64, variable: u64, message: &[u8], is_again: bool, slot: &mut Slot) -> u32 {
+        // SAFETY: the slice is good for the call, which keeps a copy.
         unsafe {
-            seryugo_bytes_swap_from(room, seat, variable, message.as_ptr(), message.len(), is_again, slot.as_mut_ptr())
+            seryugo_bytes_mvar_init_from(room, seat, message.as_ptr(), message.len(), variable)
         }
     }
 
-    fn held(room: &mut Handle, variable: u64, slot: &mut Slot) -> u32 {
-        unsafe { seryugo_bytes_held(room, variable, slot.as_mut_ptr()) }
+    #[inline]
+    fn swap(
+        room: &mut Handle,
+        seat: u64,
+        variable: u64,
+        message: &[u8],
+        is_again: bool,
+        to: &mut Received,
+    ) -> u32 {
+        let (at, length) = (message.as_ptr(), message.len());
+        // SAFETY: the slice is good for the call, which keeps a copy.
+        unsafe { seryugo_bytes_swap_from(room, seat, variable, at, length, is_again, to) }
+    }
+
+    fn held(room: &mut Handle, variable: u64, to: &mut Received) -> u32 {
+        seryugo_bytes_held(room, variable, to)
     }
 
     #[inline]
     fn lane_send(lane: &mut Handle, message: &[u8]) -> u32 {
+        // SAFETY: the slice is good for the call, which keeps a copy.
         unsafe { seryugo_bytes_lane_send_from(lane, message.as_ptr(), message.len()) }
     }
 
     #[inline]
-    fn feed_recv(feed: &mut Handle, slot: &mut Slot) -> u32 {
-        unsafe { seryugo_bytes_feed_recv(feed, slot.as_mut_ptr()) }
+    fn feed_recv(feed: &mut Handle, to: &mut Received) -> u32 {
+        seryugo_bytes_feed_recv(feed, to)
     }
 
     fn entry(room: &mut Handle, at: u64) -> Result<Entry<Bytes>, Error> {
-        RawEntry::copied(|entry| unsafe { seryugo_bytes_entry(room, at, entry) })
+        RawEntry::copied(|entry| seryugo_bytes_entry(room, at, entry))
     }
 
     fn taken_entry(journal: &mut Handle, place: u64) -> Result<Entry<Bytes>, Error> {
-        RawEntry::copied(|entry| unsafe { seryugo_bytes_taken_entry(journal, place, entry) })
+        RawEntry::copied(|entry| seryugo_bytes_taken_entry(journal, place, entry))
     }
 }
 
-extern "C" {
-    fn seryugo_bytes_room_open(limit: u64, room: *mut Handle) -> u32;
-    fn seryugo_bytes_reading_open(reading: *mut Handle) -> u32;
-    fn seryugo_bytes_mvar_init_from(room: *mut Handle, seat: u64, at: *const u8, length: usize, variable: *mut u64) -> u32;
+unsafe extern "C" {
+    safe fn seryugo_bytes_room_open(limit: u64, room: &mut Opening) -> u32;
+    safe fn seryugo_bytes_reading_open(reading: &mut Opening) -> u32;
+    fn seryugo_bytes_send_from(
+        room: &mut Handle,
+        seat: u64,
+        mailbox: u64,
+        at: *const u8,
+        length: usize,
+    ) -> u32;
+    fn seryugo_bytes_multicast_from(
+        room: &mut Handle,
+        seat: u64,
+        channel: u64,
+        at: *const u8,
+        length: usize,
+    ) -> u32;
+    fn seryugo_bytes_put_from(
+        room: &mut Handle,
+        seat: u64,
+        variable: u64,
+        at: *const u8,
+        length: usize,
+    ) -> u32;
+    safe fn seryugo_bytes_recv(
+        room: &mut Handle,
+        seat: u64,
+        source: u64,
+        is_again: bool,
+        message: &mut Received,
+    ) -> u32;
+    safe fn seryugo_bytes_get(
+        room: &mut Handle,
+        seat: u64,
+        variable: u64,
+        is_again: bool,
+        message: &mut Received,
+    ) -> u32;
+    safe fn seryugo_bytes_take(
+        room: &mut Handle,
+        seat: u64,
+        variable: u64,
+        is_again: bool,
+        message: &mut Received,
+    ) -> u32;
+    safe fn seryugo_bytes_recv_poll(
+        room: &mut Handle,
+        seat: u64,
+        source: u64,
+        message: &mut Received,
+    ) -> u32;
+    safe fn seryugo_bytes_get_poll(
+        room: &mut Handle,
+        seat: u64,
+        variable: u64,
+        message: &mut Received,
+    ) -> u32;
+    safe fn seryugo_bytes_take_poll(
+        room: &mut Handle,
+        seat: u64,
+        variable: u64,
+        message: &mut Received,
+    ) -> u32;
+    fn seryugo_bytes_mvar_init_from(
+        room: &mut Handle,
+        seat: u64,
+        at: *const u8,
+        length: usize,
+        variable: &mut u64,
+    ) -> u32;
     fn seryugo_bytes_swap_from(
-        room: *mut Handle,
+        room: &mut Handle,
         seat: u64,
         variable: u64,
         at: *const u8,
         length: usize,
         is_again: bool,
-        held: *mut RawBytes,
+        held: &mut Received,
     ) -> u32;
-    fn seryugo_bytes_held(room: *mut Handle, variable: u64, message: *mut RawBytes) -> u32;
-    fn seryugo_bytes_lane_send_from(lane: *mut Handle, at: *const u8, length: usize) -> u32;
-    fn seryugo_bytes_feed_recv(feed: *mut Handle, message: *mut RawBytes) -> u32;
-    fn seryugo_bytes_entry(room: *mut Handle, at: u64, entry: *mut RawEntry) -> u32;
-    fn seryugo_bytes_taken_entry(journal: *mut Handle, place: u64, entry: *mut RawEntry) -> u32;
+    safe fn seryugo_bytes_held(room: &mut Handle, variable: u64, message: &mut Received) -> u32;
+    fn seryugo_bytes_lane_send_from(lane: &mut Handle, at: *const u8, length: usize) -> u32;
+    safe fn seryugo_bytes_feed_recv(feed: &mut Handle, message: &mut Received) -> u32;
+    safe fn seryugo_bytes_entry(room: &mut Handle, at: u64, entry: &mut RawEntry) -> u32;
+    safe fn seryugo_bytes_taken_entry(
+        journal: &mut Handle,
+        place: u64,
+        entry: &mut RawEntry,
+    ) -> u32;
 }

@@ -13,9 +13,11 @@ use std::fmt;
 use std::io::{self, BufRead, ErrorKind};
 use std::marker::PhantomData;
 
-/// Reads a journal's text from its first piece on, and checks that its entries are a lawful history of one thread.
+/// Reads a journal's text from its first piece on, and checks that its entries are a lawful history
+/// of one thread.
 ///
-/// It needs memory for the objects, for what waits in them, and for one line, however long the journal is.
+/// It needs memory for the objects, for what waits in them, and for one line, however long the
+/// journal is.
 ///
 /// ```
 /// use seryugo::{CheckError, Checker};
@@ -92,14 +94,16 @@ impl From<Error> for CheckError {
 impl Checker {
     /// A checker of a journal of bytes, that has read nothing.
     ///
-    /// Errors: only `NoMemory`, and `Library` if the linked library isn't of this crate's version.
-    ///
     /// ```
     /// let checker = seryugo::Checker::new()?;
     /// assert_eq!(checker.entries(), 0);
     /// assert!(!checker.is_whole());
     /// # Ok::<(), seryugo::CheckError>(())
     /// ```
+    ///
+    /// # Errors
+    ///
+    /// `NoMemory`, and `Library` if the linked library isn't of this crate's version.
     pub fn new() -> Result<Checker, CheckError> {
         Checker::open()
     }
@@ -114,6 +118,10 @@ impl Checker<Numbers> {
     /// assert_eq!(checker.entries(), 2);
     /// # Ok::<(), seryugo::CheckError>(())
     /// ```
+    ///
+    /// # Errors
+    ///
+    /// As [`new`](Checker::new).
     pub fn of_numbers() -> Result<Checker<Numbers>, CheckError> {
         Checker::open()
     }
@@ -129,9 +137,8 @@ impl<R: Room> Checker<R> {
         })
     }
 
-    /// Reads up to the reader's end. A later call reads on, where this one ended: also in the middle of a line.
-    ///
-    /// Errors: the first entry that isn't lawful, or the first fault, whichever comes first. Then each later call fails so too.
+    /// Reads up to the reader's end. A later call reads on, where this one ended: also in the
+    /// middle of a line.
     ///
     /// ```
     /// use seryugo::{CheckError, Checker};
@@ -145,6 +152,11 @@ impl<R: Room> Checker<R> {
     /// # Ok(())
     /// # }
     /// ```
+    ///
+    /// # Errors
+    ///
+    /// The first entry that isn't lawful, or the first fault, whichever comes first. Then each
+    /// later call fails so too.
     pub fn read(&mut self, mut from: impl BufRead) -> Result<(), CheckError> {
         loop {
             let part = match from.fill_buf() {
@@ -162,8 +174,9 @@ impl<R: Room> Checker<R> {
     }
 
     fn take(&mut self, part: &[u8]) -> Result<(), CheckError> {
-        // The part is good for the call, which keeps nothing of it.
-        match unsafe { raw::seryugo_reading_take_from(self.handle.get_mut(), part.as_ptr().cast(), part.len()) } {
+        let reading = self.handle.get_mut();
+        // SAFETY: the part is good for the call, which keeps a copy of what it needs.
+        match unsafe { raw::seryugo_reading_take_from(reading, part.as_ptr(), part.len()) } {
             code::DONE => {
                 self.lines.note(part);
                 Ok(())
@@ -190,10 +203,11 @@ impl<R: Room> Checker<R> {
     /// # Ok::<(), seryugo::CheckError>(())
     /// ```
     pub fn entries(&self) -> u64 {
-        self.count(|reading, count| unsafe { raw::seryugo_reading_entries(reading, count) })
+        self.count(raw::seryugo_reading_entries)
     }
 
-    /// Whether what was read is a whole journal, all of whose entries are lawful: its last piece has its end.
+    /// Whether what was read is a whole journal, all of whose entries are lawful: its last piece
+    /// has its end.
     ///
     /// ```
     /// let mut checker = seryugo::Checker::of_numbers()?;
@@ -204,14 +218,15 @@ impl<R: Room> Checker<R> {
     /// # Ok::<(), seryugo::CheckError>(())
     /// ```
     pub fn is_whole(&self) -> bool {
-        unsafe { raw::seryugo_reading_end(&mut *self.handle.borrow_mut()) == code::DONE }
+        raw::seryugo_reading_end(&mut self.handle.borrow_mut()) == code::DONE
     }
 
-    /// The sum to go on from, if what was read has sums: pass it to [`Journal::write_sealed_to`] for the next piece. It is the sum of the
-    /// last piece. If that has no end yet, it is the sum to end it with, as [`Kept::sum`] is.
+    /// The sum to go on from, if what was read has sums: pass it to [`Journal::write_sealed_to`]
+    /// for the next piece. It is the sum of the last piece. If that has no end yet, it is the sum
+    /// to end it with, as [`Kept::sum`] is.
     ///
-    /// It is `None` if nothing was read yet, if the text has no sums, or if the reading has stopped. If there is no memory, the program
-    /// aborts, as if a `Vec` found none.
+    /// It is `None` if nothing was read yet, if the text has no sums, or if the reading has
+    /// stopped. If there is no memory, the program aborts, as if a `Vec` found none.
     ///
     /// ```
     /// let mut checker = seryugo::Checker::of_numbers()?;
@@ -222,7 +237,7 @@ impl<R: Room> Checker<R> {
     /// # Ok::<(), seryugo::CheckError>(())
     /// ```
     pub fn sum(&self) -> Option<Sum> {
-        match unsafe { raw::seryugo_reading_end(&mut *self.handle.borrow_mut()) } {
+        match raw::seryugo_reading_end(&mut self.handle.borrow_mut()) {
             code::UNLAWFUL | code::FAULT | code::NO_MEMORY => return None,
             _ => {}
         }
@@ -232,14 +247,14 @@ impl<R: Room> Checker<R> {
         }
     }
 
-    /// A short journal that leaves what the journal leaves which was read: the same objects, with the same messages still to be
-    /// received. Whatever may follow the long journal may follow the short one, with the same replies, and nothing else.
+    /// A short journal that leaves what the journal leaves which was read: the same objects, with
+    /// the same messages still to be received. Whatever may follow the long journal may follow the
+    /// short one, with the same replies, and nothing else.
     ///
-    /// It begins at position 0. The seat with the highest number of the long journal made all of its entries, so new seats have the
-    /// numbers that they would have behind the long one. Lanes and feeds begin at 0 again. A text that ends in the middle is taken
-    /// up to its last whole line: ask [`is_whole`](Checker::is_whole) before.
-    ///
-    /// Errors: what stopped the reading, if it has stopped, and `NoMemory`.
+    /// It begins at position 0. The seat with the highest number of the long journal made all of
+    /// its entries, so new seats have the numbers that they would have behind the long one. Lanes
+    /// and feeds begin at 0 again. A text that ends in the middle is taken up to its last whole
+    /// line: ask [`is_whole`](Checker::is_whole) before.
     ///
     /// ```
     /// use seryugo::Checker;
@@ -256,10 +271,14 @@ impl<R: Room> Checker<R> {
     /// # Ok(())
     /// # }
     /// ```
+    ///
+    /// # Errors
+    ///
+    /// What stopped the reading, if it has stopped, and `NoMemory`.
     pub fn compact(self) -> Result<Journal<R>, CheckError> {
         let (mut code, mut count) = (code::DONE, 0);
         let opened = Handle::opened(|journal| {
-            code = unsafe { raw::seryugo_reading_compact(&mut *self.handle.borrow_mut(), journal, &mut count) };
+            code = raw::seryugo_reading_compact(&mut self.handle.borrow_mut(), journal, &mut count);
             code
         });
         match opened {
@@ -270,24 +289,25 @@ impl<R: Room> Checker<R> {
     }
 
     fn whole_lines(&self) -> u64 {
-        self.count(|reading, count| unsafe { raw::seryugo_reading_lines(reading, count) })
+        self.count(raw::seryugo_reading_lines)
     }
 
     /// The number that a call writes which no library refuses.
-    fn count(&self, call: impl FnOnce(&mut Handle, &mut u64) -> u32) -> u64 {
+    fn count(&self, call: extern "C" fn(&mut Handle, &mut u64) -> u32) -> u64 {
         written(|count| call(&mut self.handle.borrow_mut(), count)).unwrap_or_default()
     }
 
     /// What of the text is in whole lines. Nothing that was read had a fault.
     pub(crate) fn kept(&self) -> Result<Kept, Error> {
-        let sum = RawSum::written(|sum| unsafe { raw::seryugo_reading_sum(&mut *self.handle.borrow_mut(), sum) })?;
+        let sum =
+            RawSum::written(|sum| raw::seryugo_reading_sum(&mut self.handle.borrow_mut(), sum))?;
         Ok(self.lines.kept(self.entries(), sum))
     }
 
     /// A room with what was read. Nothing that was read had a fault.
     pub(crate) fn into_room(self, limit: u64) -> Result<Handle, Error> {
         let reading = &mut *self.handle.borrow_mut();
-        Handle::opened(|room| unsafe { raw::seryugo_room_restore(reading, limit, room) })
+        Handle::opened(|room| raw::seryugo_room_restore(reading, limit, room))
     }
 }
 

@@ -1,4 +1,5 @@
-//! The calls on a switchboard's journal: to read it, to cut it, and what becomes of it once it is full.
+//! The calls on a switchboard's journal: to read it, to cut it, and what becomes of it once it is
+//! full.
 
 use crate::entry::{found, Entry};
 use crate::error::Error;
@@ -19,12 +20,17 @@ impl<R: Room> Switchboard<R> {
     /// assert_eq!(board.reserve(usize::MAX), Err(seryugo::Error::NoMemory));
     /// # Ok::<(), seryugo::Error>(())
     /// ```
+    ///
+    /// # Errors
+    ///
+    /// `NoMemory`.
     pub fn reserve(&self, entries: usize) -> Result<(), Error> {
-        done(unsafe { raw::seryugo_reserve(&mut self.lock().handle, entries) })
+        done(raw::seryugo_reserve(&mut self.lock().handle, entries))
     }
 
-    /// Cuts the journal: what it has is dropped, and it has room for as many entries again. Nothing of what was reserved is lost.
-    /// Entries that a sink didn't take ([`when_full`](Switchboard::when_full)) are dropped too.
+    /// Cuts the journal: what it has is dropped, and it has room for as many entries again. Nothing
+    /// of what was reserved is lost. Entries that a sink didn't take
+    /// ([`when_full`](Switchboard::when_full)) are dropped too.
     ///
     /// ```
     /// # let board = seryugo::Switchboard::new(1)?;
@@ -36,6 +42,10 @@ impl<R: Room> Switchboard<R> {
     /// seat.send(mailbox, refused.message)?;
     /// # Ok::<(), seryugo::Error>(())
     /// ```
+    ///
+    /// # Errors
+    ///
+    /// `Busy`: a lane or a feed is open. Then nothing is cut.
     pub fn cut(&self) -> Result<(), Error> {
         self.lock().cut(raw::seryugo_cut)
     }
@@ -51,12 +61,18 @@ impl<R: Room> Switchboard<R> {
     /// assert_eq!(board.entry(0), None);
     /// # Ok::<(), seryugo::Error>(())
     /// ```
+    ///
+    /// # Errors
+    ///
+    /// `Busy`: a lane or a feed is open. `NoMemory`. `NotKept`: the switchboard has older entries,
+    /// which nobody takes. Then nothing is cut.
     pub fn take_journal(&self) -> Result<Journal<R>, Error> {
         self.lock().take_journal(raw::seryugo_take_journal)
     }
 
-    /// Cuts the journal as `cut` does, also while lanes and feeds are open, whose rings go on. It is never refused. What a lane sent
-    /// is in what was cut away, and then in the journal, in order, each message once.
+    /// Cuts the journal as `cut` does, also while lanes and feeds are open, whose rings go on. It
+    /// is never refused. What a lane sent is in what was cut away, and then in the journal, in
+    /// order, each message once.
     ///
     /// ```
     /// # let board = seryugo::Switchboard::new(2)?;
@@ -73,15 +89,16 @@ impl<R: Room> Switchboard<R> {
     /// assert_eq!((seat.recv(mailbox)?, seat.recv(mailbox)?), (5, 6));
     /// # Ok::<(), seryugo::Error>(())
     /// ```
+    ///
+    /// # Errors
+    ///
+    /// None that the library of this version returns.
     pub fn cut_open(&self) -> Result<(), Error> {
         self.lock().cut(raw::seryugo_cut_open)
     }
 
-    /// Cuts the journal as [`cut_open`](Switchboard::cut_open) does, and hands over the entries that it had. What was reserved goes
-    /// with them.
-    ///
-    /// Errors: `NoMemory`. `NotKept`: the switchboard has older entries, which nobody takes ([`when_full`](Switchboard::when_full)).
-    /// Then nothing is cut.
+    /// Cuts the journal as [`cut_open`](Switchboard::cut_open) does, and hands over the entries
+    /// that it had. What was reserved goes with them.
     ///
     /// ```
     /// # let board = seryugo::Switchboard::new(1_000)?;
@@ -96,17 +113,22 @@ impl<R: Room> Switchboard<R> {
     /// assert_eq!(board.take_journal()?.first(), 2);
     /// # Ok::<(), seryugo::Error>(())
     /// ```
+    ///
+    /// # Errors
+    ///
+    /// `NoMemory`. `NotKept`: the switchboard has older entries, which nobody takes
+    /// ([`when_full`](Switchboard::when_full)). Then nothing is cut.
     pub fn take_journal_open(&self) -> Result<Journal<R>, Error> {
         self.lock().take_journal(raw::seryugo_take_journal_open)
     }
 
-    /// Returns a short journal that leaves what all calls leave: the same objects, with the same messages still to be received. Whatever
-    /// may follow these calls may follow it, with the same replies. Its length depends only on what is left. The journal stays as it is.
+    /// Returns a short journal that leaves what all calls leave: the same objects, with the same
+    /// messages still to be received. Whatever may follow these calls may follow it, with the same
+    /// replies. Its length depends only on what is left. The journal stays as it is.
     ///
-    /// The last seat that was made makes all its entries. Its positions and counts begin at 0. The messages in the rings of lanes aren't
-    /// in it, and those in the rings of feeds count as received. Other threads wait for the lock meanwhile.
-    ///
-    /// Errors: `NoMemory`.
+    /// The last seat that was made makes all its entries. Its positions and counts begin at 0. The
+    /// messages in the rings of lanes aren't in it, and those in the rings of feeds count as
+    /// received. Other threads wait for the lock meanwhile.
     ///
     /// ```
     /// # let board = seryugo::Switchboard::of_numbers(1_000)?;
@@ -121,20 +143,25 @@ impl<R: Room> Switchboard<R> {
     /// assert_eq!((short.first(), short.len(), board.entries()), (0, 2, 202));
     /// # Ok::<(), seryugo::Error>(())
     /// ```
+    ///
+    /// # Errors
+    ///
+    /// `NoMemory`.
     pub fn compact(&self) -> Result<Journal<R>, Error> {
         self.lock().compact()
     }
 
-    /// Returns a short journal as [`compact`](Switchboard::compact) does, and cuts the journal at the same moment, as
-    /// [`cut_open`](Switchboard::cut_open) does. So write it in place of all that was written before, and write what is taken next
-    /// after it: [`Journal::first`] counts from its beginning. [`cut_at`](Switchboard::cut_at) and [`entry`](Switchboard::entry) go on
+    /// Returns a short journal as [`compact`](Switchboard::compact) does, and cuts the journal at
+    /// the same moment, as [`cut_open`](Switchboard::cut_open) does. So write it in place of all
+    /// that was written before, and write what is taken next after it: [`Journal::first`] counts
+    /// from its beginning. [`cut_at`](Switchboard::cut_at) and [`entry`](Switchboard::entry) go on
     /// to count since the switchboard was made.
     ///
-    /// It also stands for entries that no sink took ([`when_full`](Switchboard::when_full)): they are dropped. If a sink takes full
-    /// journals, and other threads call, use [`compact_with`](Switchboard::compact_with): else another thread may hand what follows to
-    /// the sink before you have the short journal. Without a sink nobody takes what follows but you, and other threads wait less.
-    ///
-    /// Errors: `NoMemory`. Then nothing is cut.
+    /// It also stands for entries that no sink took ([`when_full`](Switchboard::when_full)): they
+    /// are dropped. If a sink takes full journals, and other threads call, use
+    /// [`compact_with`](Switchboard::compact_with): else another thread may hand what follows to
+    /// the sink before you have the short journal. Without a sink nobody takes what follows but
+    /// you, and other threads wait less.
     ///
     /// ```
     /// # fn main() -> Result<(), Box<dyn std::error::Error>> {
@@ -154,17 +181,22 @@ impl<R: Room> Switchboard<R> {
     /// # Ok(())
     /// # }
     /// ```
+    ///
+    /// # Errors
+    ///
+    /// `NoMemory`. Then nothing is cut.
     pub fn compact_and_cut(&self) -> Result<Journal<R>, Error> {
         self.lock().compact_and_cut()
     }
 
-    /// Makes a short journal as [`compact`](Switchboard::compact) does, and hands it to this function. If the function returns `Ok`,
-    /// cuts the journal as [`compact_and_cut`](Switchboard::compact_and_cut) does. Other threads wait meanwhile, so that a sink is
-    /// handed nothing between. The function runs under the lock, so it must not call the switchboard.
+    /// Makes a short journal as [`compact`](Switchboard::compact) does, and hands it to this
+    /// function. If the function returns `Ok`, cuts the journal as
+    /// [`compact_and_cut`](Switchboard::compact_and_cut) does. Other threads wait meanwhile, so
+    /// that a sink is handed nothing between. The function runs under the lock, so it must not call
+    /// the switchboard.
     ///
-    /// So write the short journal in the function, and have the sink write to that text from now on.
-    ///
-    /// Errors: what the function fails with, and then nothing is cut; and `OutOfMemory`, before the function was called.
+    /// So write the short journal in the function, and have the sink write to that text from now
+    /// on.
     ///
     /// ```
     /// use seryugo::{Sum, Switchboard, WhenFull};
@@ -203,12 +235,21 @@ impl<R: Room> Switchboard<R> {
     /// # Ok(())
     /// # }
     /// ```
-    pub fn compact_with<T>(&self, keep: impl FnOnce(&Journal<R>) -> io::Result<T>) -> io::Result<T> {
+    ///
+    /// # Errors
+    ///
+    /// What the function fails with, and then nothing is cut; and `OutOfMemory`, before the
+    /// function was called.
+    pub fn compact_with<T>(
+        &self,
+        keep: impl FnOnce(&Journal<R>) -> io::Result<T>,
+    ) -> io::Result<T> {
         self.lock().compact_with(keep)
     }
 
-    /// The journal's entry at this position, counted from 0 since the switchboard was made. It has copies of the messages. If there
-    /// is no memory for them, the program aborts, as if a `Vec` found none.
+    /// The journal's entry at this position, counted from 0 since the switchboard was made. It has
+    /// copies of the messages. If there is no memory for them, the program aborts, as if a `Vec`
+    /// found none.
     ///
     /// ```
     /// # let board = seryugo::Switchboard::new(1_000)?;
@@ -236,7 +277,7 @@ impl<R: Room> Switchboard<R> {
     /// # Ok::<(), seryugo::Error>(())
     /// ```
     pub fn entries(&self) -> u64 {
-        self.count(|room, count| unsafe { raw::seryugo_entries(room, count) })
+        self.lock().count(raw::seryugo_entries)
     }
 
     /// How many of them were cut away.
@@ -251,17 +292,20 @@ impl<R: Room> Switchboard<R> {
     /// # Ok::<(), seryugo::Error>(())
     /// ```
     pub fn cut_at(&self) -> u64 {
-        self.count(|room, count| unsafe { raw::seryugo_cut_at(room, count) })
+        self.lock().count(raw::seryugo_cut_at)
     }
 
-    /// Says what becomes of a full journal. Until you say it, a call fails with `JournalFull` if the journal has no room for it.
+    /// Says what becomes of a full journal. Until you say it, a call fails with `JournalFull` if
+    /// the journal has no room for it.
     ///
-    /// A call that finds the journal full has it cut, and is then made. If nobody takes the entries that it had, the call fails with
-    /// [`NotKept`](Error::NotKept), and the switchboard keeps the entries: the next call has them taken first. A call that was blocked
-    /// before is still answered while the journal has room, and then fails with `NotKept` too. [`keep`](Switchboard::keep) hands over
-    /// what the journal has at the end.
+    /// A call that finds the journal full has it cut, and is then made. If nobody takes the entries
+    /// that it had, the call fails with [`NotKept`](Error::NotKept), and the switchboard keeps the
+    /// entries: the next call has them taken first. A call that was blocked before is still
+    /// answered while the journal has room, and then fails with `NotKept` too.
+    /// [`keep`](Switchboard::keep) hands over what the journal has at the end.
     ///
-    /// If the switchboard keeps entries as you say it anew, they go to the new sink. [`Refuse`](WhenFull::Refuse) drops them.
+    /// If the switchboard keeps entries as you say it anew, they go to the new sink.
+    /// [`Refuse`](WhenFull::Refuse) drops them.
     ///
     /// ```
     /// use seryugo::{Error, Switchboard, WhenFull};
@@ -279,13 +323,14 @@ impl<R: Room> Switchboard<R> {
     /// assert_eq!(refused.error, Error::NotKept);
     /// # Ok::<(), seryugo::Error>(())
     /// ```
+    #[must_use]
     pub fn when_full(mut self, when_full: WhenFull<R>) -> Switchboard<R> {
         self.inside_mut().set_when_full(when_full);
         self
     }
 
-    /// Cuts the journal now, and does with its entries what is done with those of a full one. If a full journal refuses calls, this does
-    /// nothing.
+    /// Cuts the journal now, and does with its entries what is done with those of a full one. If a
+    /// full journal refuses calls, this does nothing.
     ///
     /// ```
     /// use seryugo::{Switchboard, WhenFull};
@@ -297,6 +342,11 @@ impl<R: Room> Switchboard<R> {
     /// assert_eq!(board.cut_at(), 1);
     /// # Ok::<(), seryugo::Error>(())
     /// ```
+    ///
+    /// # Errors
+    ///
+    /// `NotKept`: nobody took the entries, and the switchboard keeps them. `NoMemory`: nothing is
+    /// cut.
     pub fn keep(&self) -> Result<(), Error> {
         self.lock().keep()
     }
@@ -307,7 +357,8 @@ impl<R: Room> Switchboard<R> {
     /// use seryugo::{Error, Switchboard, WhenFull};
     /// use std::io::ErrorKind;
     ///
-    /// let board = Switchboard::new(1_000)?.when_full(WhenFull::call(|_| Err(ErrorKind::StorageFull.into())));
+    /// let sink = WhenFull::call(|_| Err(ErrorKind::StorageFull.into()));
+    /// let board = Switchboard::new(1_000)?.when_full(sink);
     /// board.seat()?.mailbox::<u64>()?;
     /// assert_eq!(board.keep(), Err(Error::NotKept));
     /// assert_eq!(board.keeping_error().map(|error| error.kind()), Some(ErrorKind::StorageFull));

@@ -35,8 +35,8 @@ pub enum Who {
 /// let mailbox = seat.mailbox()?;
 /// seat.send(mailbox, 5)?;
 /// seat.recv(mailbox)?;
-/// let calls: Vec<Call<u64>> = (0..3).filter_map(|at| board.entry(at)).map(|entry| entry.call).collect();
-/// assert_eq!(calls, [Call::NewMailbox, Call::Send(0, 5), Call::Recv(0)]);
+/// let calls = (0..3).filter_map(|at| Some(board.entry(at)?.call));
+/// assert_eq!(calls.collect::<Vec<_>>(), [Call::NewMailbox, Call::Send(0, 5), Call::Recv(0)]);
 /// # Ok::<(), seryugo::Error>(())
 /// ```
 #[derive(Clone, Copy, Debug, PartialEq, Eq, Hash)]
@@ -89,8 +89,8 @@ pub enum Call<M> {
 /// let variable = seat.mvar_init(5)?;
 /// seat.put(variable, 6)?;
 /// seat.take(variable)?;
-/// let replies: Vec<Reply<u64>> = (0..3).filter_map(|at| board.entry(at)).map(|entry| entry.reply).collect();
-/// assert_eq!(replies, [Reply::Made(0), Reply::Put, Reply::Got(5)]);
+/// let replies = (0..3).filter_map(|at| Some(board.entry(at)?.reply));
+/// assert_eq!(replies.collect::<Vec<_>>(), [Reply::Made(0), Reply::Put, Reply::Got(5)]);
 /// # Ok::<(), seryugo::Error>(())
 /// ```
 #[derive(Clone, Copy, Debug, PartialEq, Eq, Hash)]
@@ -146,7 +146,11 @@ impl Who {
 }
 
 impl<M> Call<M> {
-    pub(crate) fn of(kind: u32, object: u64, message: impl FnOnce() -> M) -> Result<Call<M>, Error> {
+    pub(crate) fn of(
+        kind: u32,
+        object: u64,
+        message: impl FnOnce() -> M,
+    ) -> Result<Call<M>, Error> {
         Ok(match kind {
             0 => Call::NewMailbox,
             1 => Call::NewChannel,
@@ -185,7 +189,8 @@ impl<M> Reply<M> {
     }
 }
 
-/// The entry that a call has read, if there is one. If there was no memory for it, this aborts the program.
+/// The entry that a call has read, if there is one. If there was no memory for it, this aborts the
+/// program.
 pub(crate) fn found<R: Room>(read: Result<Entry<R>, Error>) -> Option<Entry<R>> {
     if matches!(read, Err(Error::NoMemory)) {
         handle_alloc_error(Layout::new::<Entry<R>>());

@@ -6,10 +6,13 @@ use std::fmt;
 
 /// Why a call failed. A call that failed changed nothing, with two exceptions:
 ///
-/// - [`Lane::close`](crate::Lane::close) has ended the lane, and may have moved some of its messages.
-/// - If it fails with [`Unreadable`](Error::Unreadable), the message was received, and its bytes are in the error.
+/// - [`Lane::close`](crate::Lane::close) has ended the lane, and may have moved some of its
+///   messages.
+/// - If it fails with [`Unreadable`](Error::Unreadable), the message was received, and its bytes
+///   are in the error.
 ///
-/// A `drain` or a `pump` that failed moved nothing. If a message after the first is refused, it returns how many moved.
+/// A `drain` or a `pump` that failed moved nothing. If a message after the first is refused, it
+/// returns how many moved.
 ///
 /// ```
 /// use seryugo::{Error, Switchboard};
@@ -32,14 +35,16 @@ pub enum Error {
     Gone,
     /// A lane or a feed is open, so that the journal can't be cut.
     Busy,
-    /// There is none of this name or number: the name is of another switchboard. Or a call reads what objects of this kind don't have.
+    /// There is none of this name or number: the name is of another switchboard. Or a call reads
+    /// what objects of this kind don't have.
     NoSuch,
     /// The object can't take this call, or an open feed alone may make it.
     WrongKind,
     /// The journal has as many entries since the last cut as its limit says.
     JournalFull,
-    /// Nobody took entries that were cut from the journal: [`Switchboard::keeping_error`](crate::Switchboard::keeping_error) says why.
-    /// The switchboard keeps them.
+    /// Nobody took entries that were cut from the journal:
+    /// [`Switchboard::keeping_error`](crate::Switchboard::keeping_error) says why. The switchboard
+    /// keeps them.
     NotKept,
     /// The call would wait, and no present seat or open lane could ever answer it: a deadlock.
     Stalled,
@@ -49,14 +54,16 @@ pub enum Error {
     Unseen,
     /// The lane has no free slot until it is drained.
     Full,
-    /// A limit isn't from 1 to 2^32, a capacity isn't from 1 to 1024, or a message has more than 2^32 - 1 bytes.
+    /// A limit isn't from 1 to 2^32, a capacity isn't from 1 to 1024, or a message has more than
+    /// 2^32 - 1 bytes.
     OutOfBounds,
-    /// The journal isn't written as text, since a message is so long that no reader would take its line, of more than 1,114,112
-    /// bytes.
+    /// The journal isn't written as text, since a message is so long that no reader would take its
+    /// line, of more than 1,114,112 bytes.
     TooLong,
     /// The call's time limit passed before there was an answer.
     TimedOut,
-    /// The message was received, and it can't be read as the type that its object has. These are its bytes.
+    /// The message was received, and it can't be read as the type that its object has. These are
+    /// its bytes.
     Unreadable(Vec<u8>),
     /// The library that is linked isn't of the version that this crate wants. No call was made.
     Version {
@@ -89,9 +96,10 @@ impl Error {
         }
     }
 
-    /// Whether the same call may succeed later, once something else has changed: the journal was cut (`JournalFull`), its entries were
-    /// taken (`NotKept`), the lanes and feeds were closed (`Busy`), the lane was drained (`Full`), memory was freed (`NoMemory`), or more
-    /// time has passed (`TimedOut`, `Unseen`).
+    /// Whether the same call may succeed later, once something else has changed: the journal was
+    /// cut (`JournalFull`), its entries were taken (`NotKept`), the lanes and feeds were closed
+    /// (`Busy`), the lane was drained (`Full`), memory was freed (`NoMemory`), or more time has
+    /// passed (`TimedOut`, `Unseen`).
     ///
     /// ```
     /// use seryugo::Error;
@@ -99,6 +107,7 @@ impl Error {
     /// assert!(Error::TimedOut.is_retryable());
     /// assert!(!Error::WrongKind.is_retryable());
     /// ```
+    #[must_use]
     pub fn is_retryable(&self) -> bool {
         match self {
             Error::JournalFull | Error::NotKept | Error::Busy | Error::Full => true,
@@ -116,7 +125,10 @@ impl fmt::Display for Error {
             Error::Gone => "the seat can't make this call: it waits, or has left",
             Error::Busy => "the journal can't be cut while a lane or a feed is open",
             Error::NoSuch => "this switchboard has nothing of this name or number",
-            Error::WrongKind => "the object can't take this call: its kind is another, or a feed receives from it",
+            Error::WrongKind => {
+                "the object can't take this call: its kind is another, or a feed receives \
+                 from it"
+            }
             Error::JournalFull => "the journal is full until it is cut or taken",
             Error::NotKept => "nobody took the entries that were cut from the journal",
             Error::Stalled => "no seat and no lane is left that could answer this call",
@@ -124,18 +136,31 @@ impl fmt::Display for Error {
             Error::Unseen => "not all messages that were sent on the lane were seen",
             Error::Full => "the lane has no free slot until it is drained",
             Error::OutOfBounds => {
-                "a limit isn't from 1 to 2^32, a capacity isn't from 1 to 1024, or a message has more than 2^32 - 1 bytes"
+                "a limit isn't from 1 to 2^32, a capacity isn't from 1 to 1024, or a message has \
+                 more than 2^32 - 1 bytes"
             }
-            Error::TooLong => "a message of the journal is so long that no reader would take its line",
+            Error::TooLong => {
+                "a message of the journal is so long that no reader would take its line"
+            }
             Error::TimedOut => "the time limit passed before there was an answer",
             Error::Unreadable(bytes) => {
-                return write!(f, "the message of {} bytes that was received can't be read as its type", bytes.len())
+                let length = bytes.len();
+                return write!(
+                    f,
+                    "the message of {length} bytes that was received can't be read as its type"
+                );
             }
             Error::Version { library, wanted } => {
-                return write!(f, "the linked library has the version {library}, and this crate wants {wanted}")
+                return write!(
+                    f,
+                    "the linked library has the version {library}, and this crate wants {wanted}"
+                )
             }
             Error::Unknown(code) => {
-                return write!(f, "the linked library returned the code {code}, which this crate doesn't know")
+                return write!(
+                    f,
+                    "the linked library returned the code {code}, which this crate doesn't know"
+                )
             }
         })
     }
@@ -145,8 +170,9 @@ impl std::error::Error for Error {}
 
 /// A message that wasn't sent, and why. It becomes its [`Error`] by `?`, which drops the message.
 ///
-/// A `swap` is the only call that may have stored the message nevertheless: if the error is [`Error::Unreadable`], the variable has
-/// the new message, and the error has the bytes of the one before.
+/// A `swap` is the only call that may have stored the message nevertheless: if the error is
+/// [`Error::Unreadable`], the variable has the new message, and the error has the bytes of the one
+/// before.
 ///
 /// ```
 /// use seryugo::{Error, SendError, Switchboard};
@@ -156,14 +182,15 @@ impl std::error::Error for Error {}
 /// let mailbox = other.seat()?.mailbox::<String>()?;
 /// let refused: SendError<String> = board.seat()?.send(mailbox, "hello".to_string()).unwrap_err();
 /// assert_eq!(refused.error, Error::NoSuch);
-/// assert_eq!(refused.to_string(), "the message wasn't sent: this switchboard has nothing of this name or number");
+/// let why = "this switchboard has nothing of this name or number";
+/// assert_eq!(refused.to_string(), format!("the message wasn't sent: {why}"));
 /// assert_eq!(refused.into_message(), "hello");
 /// # Ok(())
 /// # }
 /// ```
 ///
-/// If you send a reference and return `Box<dyn std::error::Error>`, drop the reference by `map_err(Error::from)`: such a box takes
-/// no borrowed message.
+/// If you send a reference and return `Box<dyn std::error::Error>`, drop the reference by
+/// `map_err(Error::from)`: such a box takes no borrowed message.
 ///
 /// ```
 /// use seryugo::{Error, Switchboard};

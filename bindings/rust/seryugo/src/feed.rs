@@ -8,8 +8,8 @@ use crate::room::{Carries, Room};
 use crate::switchboard::Switchboard;
 use std::fmt;
 
-/// A feed of what is multicast on a channel, from which one thread takes without the lock what was pumped. It may go to another
-/// thread, and two can't share it. It ends when it is dropped.
+/// A feed of what is multicast on a channel, from which one thread takes without the lock what was
+/// pumped. It may go to another thread, and two can't share it. It ends when it is dropped.
 ///
 /// ```
 /// use seryugo::{Error, Switchboard};
@@ -41,7 +41,12 @@ pub struct Feed<'a, R: Room, T> {
 }
 
 impl<'a, R: Room, T> Feed<'a, R, T> {
-    pub(crate) fn new(board: &'a Switchboard<R>, handle: Handle, number: u64, port: Port<T>) -> Feed<'a, R, T> {
+    pub(crate) fn new(
+        board: &'a Switchboard<R>,
+        handle: Handle,
+        number: u64,
+        port: Port<T>,
+    ) -> Feed<'a, R, T> {
         Feed {
             board,
             handle,
@@ -60,11 +65,13 @@ impl<'a, R: Room, T> Feed<'a, R, T> {
     /// assert_eq!(feed.number(), 0);
     /// # Ok::<(), seryugo::Error>(())
     /// ```
+    #[must_use]
     pub fn number(&self) -> u64 {
         self.number
     }
 
-    /// Returns the feed's port. Until the feed has ended, a seat's call that receives from it or closes it fails.
+    /// Returns the feed's port. Until the feed has ended, a seat's call that receives from it or
+    /// closes it fails.
     ///
     /// ```
     /// # let board = seryugo::Switchboard::new(1_000)?;
@@ -77,11 +84,13 @@ impl<'a, R: Room, T> Feed<'a, R, T> {
     /// assert_eq!(seat.recv_poll(port), Ok(None));
     /// # Ok::<(), seryugo::Error>(())
     /// ```
+    #[must_use]
     pub fn port(&self) -> Port<T> {
         self.port
     }
 
-    /// Receives what the feed is owed, under the lock, while there is room for it: how many messages.
+    /// Receives what the feed is owed, under the lock, while there is room for it: how many
+    /// messages.
     ///
     /// ```
     /// # let board = seryugo::Switchboard::new(1_000)?;
@@ -93,13 +102,15 @@ impl<'a, R: Room, T> Feed<'a, R, T> {
     /// assert_eq!(feed.pump()?, 0);
     /// # Ok::<(), seryugo::Error>(())
     /// ```
+    ///
+    /// # Errors
+    ///
+    /// `JournalFull`, `NotKept` and `NoMemory`: nothing was received.
     pub fn pump(&mut self) -> Result<u64, Error> {
         self.board.pump(self.number)
     }
 
     /// The next message that was pumped. It takes no lock.
-    ///
-    /// Errors: `Unreadable` if the message can't be read as this type: then it is taken. `NoMemory`: then it is still to be taken.
     ///
     /// ```
     /// # let board = seryugo::Switchboard::new(1_000)?;
@@ -112,15 +123,20 @@ impl<'a, R: Room, T> Feed<'a, R, T> {
     /// assert_eq!(feed.recv()?, None);
     /// # Ok::<(), seryugo::Error>(())
     /// ```
+    ///
+    /// # Errors
+    ///
+    /// `Unreadable` if the message can't be read as this type: then it is taken. `NoMemory`: then
+    /// it is still to be taken.
     #[inline]
     pub fn recv(&mut self) -> Result<Option<T>, Error>
     where
         R: Carries<T>,
     {
-        let mut slot = R::slot();
-        match R::feed_recv(&mut self.handle, &mut slot) {
+        let mut found = R::nothing();
+        match R::feed_recv(&mut self.handle, &mut found) {
             code::NOTHING => Ok(None),
-            code => received::<R, T>(code, &mut slot).map(Some),
+            code => received::<R, T>(code, found).map(Some),
         }
     }
 }
@@ -128,12 +144,15 @@ impl<'a, R: Room, T> Feed<'a, R, T> {
 impl<R: Room, T> Drop for Feed<'_, R, T> {
     fn drop(&mut self) {
         let number = self.number;
-        self.board.change(|room| unsafe { raw::seryugo_feed_end(room, number) });
+        self.board.change(None, |inside| raw::seryugo_feed_end(&mut inside.handle, number));
     }
 }
 
 impl<R: Room, T> fmt::Debug for Feed<'_, R, T> {
     fn fmt(&self, f: &mut fmt::Formatter<'_>) -> fmt::Result {
-        f.debug_struct("Feed").field("number", &self.number).field("port", &self.port).finish_non_exhaustive()
+        f.debug_struct("Feed")
+            .field("number", &self.number)
+            .field("port", &self.port)
+            .finish_non_exhaustive()
     }
 }

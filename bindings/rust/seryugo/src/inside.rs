@@ -40,7 +40,8 @@ pub(crate) struct Inside<R: Room> {
     keeper: Option<Keeper<R>>,
     /// Where the text begins to which the next piece is added.
     start: Start,
-    /// The number of the first seat that was made here. Those of a journal from which the switchboard goes on have lesser ones.
+    /// The number of the first seat that was made here. Those of a journal from which the
+    /// switchboard goes on have lesser ones.
     first_seat: u64,
     /// How many seats were made here.
     seats: u64,
@@ -55,7 +56,8 @@ pub(crate) struct Inside<R: Room> {
 }
 
 impl<R: Room> Inside<R> {
-    /// Over a room in which no seat was made yet. Its journal takes so many entries between two cuts.
+    /// Over a room in which no seat was made yet. Its journal takes so many entries between two
+    /// cuts.
     pub fn new(handle: Handle, limit: u64) -> Inside<R> {
         Inside {
             handle,
@@ -79,8 +81,8 @@ impl<R: Room> Inside<R> {
         self.spare = if self.keeper.is_some() { 0 } else { u64::MAX };
     }
 
-    /// Whether the journal takes one more entry, or refuses it itself. It makes room in a full one, if that is wanted. If it doesn't,
-    /// the call fails with `NotKept`.
+    /// Whether the journal takes one more entry, or refuses it itself. It makes room in a full one,
+    /// if that is wanted. If it doesn't, the call fails with `NotKept`.
     #[inline]
     pub fn makes_room(&mut self) -> bool {
         if self.spare == 0 {
@@ -96,7 +98,7 @@ impl<R: Room> Inside<R> {
             return Ok(());
         };
         keeper.hand_over()?;
-        let mut spare = self.spare_now()?;
+        let mut spare = self.spare_now();
         if spare == 0 {
             self.keep()?;
             spare = self.limit;
@@ -105,16 +107,20 @@ impl<R: Room> Inside<R> {
         Ok(())
     }
 
+    /// The number that a call writes which no library refuses.
+    pub fn count(&mut self, call: extern "C" fn(&mut Handle, &mut u64) -> u32) -> u64 {
+        written(|count| call(&mut self.handle, count)).unwrap_or_default()
+    }
+
     /// How many more entries the journal takes.
-    fn spare_now(&mut self) -> Result<u64, Error> {
-        let entries = written(|count| unsafe { raw::seryugo_entries(&mut self.handle, count) })?;
-        let cut = written(|count| unsafe { raw::seryugo_cut_at(&mut self.handle, count) })?;
-        Ok(self.limit.saturating_sub(entries - cut))
+    fn spare_now(&mut self) -> u64 {
+        let (entries, cut) = (self.count(raw::seryugo_entries), self.count(raw::seryugo_cut_at));
+        self.limit.saturating_sub(entries - cut)
     }
 
     /// Cuts the journal, and does with its entries what is done with those of a full one.
     pub fn keep(&mut self) -> Result<(), Error> {
-        let is_empty = self.spare_now()? == self.limit;
+        let is_empty = self.spare_now() == self.limit;
         match &mut self.keeper {
             Some(keeper) if is_empty => keeper.hand_over(),
             Some(keeper) => keeper.cut(&mut self.handle, self.start),
@@ -123,15 +129,16 @@ impl<R: Room> Inside<R> {
     }
 
     /// Cuts the journal by this call, and drops its entries, and those that nobody took.
-    pub fn cut(&mut self, cut: unsafe extern "C" fn(*mut Handle) -> u32) -> Result<(), Error> {
-        done(unsafe { cut(&mut self.handle) })?;
+    pub fn cut(&mut self, cut: extern "C" fn(&mut Handle) -> u32) -> Result<(), Error> {
+        done(cut(&mut self.handle))?;
         if let Some(keeper) = &mut self.keeper {
             keeper.forget();
         }
         Ok(())
     }
 
-    /// Cuts the journal by this call, and returns its entries. If some were cut away before and nobody took them, they go first.
+    /// Cuts the journal by this call, and returns its entries. If some were cut away before and
+    /// nobody took them, they go first.
     pub fn take_journal(&mut self, take: Take) -> Result<Journal<R>, Error> {
         if let Some(keeper) = &mut self.keeper {
             keeper.hand_over()?;
@@ -144,15 +151,20 @@ impl<R: Room> Inside<R> {
         journal_by(&mut self.handle, 0, raw::seryugo_compact)
     }
 
-    /// Returns a short journal, and cuts the journal. The short one stands for the entries that nobody took, too.
+    /// Returns a short journal, and cuts the journal. The short one stands for the entries that
+    /// nobody took, too.
     pub fn compact_and_cut(&mut self) -> Result<Journal<R>, Error> {
         let (journal, start) = cut_short(&mut self.handle)?;
         self.begin(start);
         Ok(journal)
     }
 
-    /// Hands over a short journal. If that goes well, it cuts the journal as `compact_and_cut` does.
-    pub fn compact_with<T>(&mut self, keep: impl FnOnce(&Journal<R>) -> io::Result<T>) -> io::Result<T> {
+    /// Hands over a short journal. If that goes well, it cuts the journal as `compact_and_cut`
+    /// does.
+    pub fn compact_with<T>(
+        &mut self,
+        keep: impl FnOnce(&Journal<R>) -> io::Result<T>,
+    ) -> io::Result<T> {
         let journal = self.compact().map_err(uncompacted)?;
         let kept = keep(&journal)?;
         let start = cut_behind(&mut self.handle, journal.len() as u64).map_err(uncompacted)?;
@@ -185,7 +197,7 @@ impl<R: Room> Inside<R> {
 
     /// Makes a seat, and returns its number.
     pub fn new_seat(&mut self) -> Result<u64, Error> {
-        let number = written(|seat| unsafe { raw::seryugo_new_seat(&mut self.handle, seat) })?;
+        let number = written(|seat| raw::seryugo_new_seat(&mut self.handle, seat))?;
         if self.seats == 0 {
             self.first_seat = number;
         }
@@ -196,14 +208,15 @@ impl<R: Room> Inside<R> {
     /// Opens a lane to this object, and returns its number.
     pub fn open_lane(&mut self, target: u64, capacity: usize) -> Result<(Handle, u64), Error> {
         let mut number = 0;
-        let lane = Handle::opened(|lane| unsafe {
+        let lane = Handle::opened(|lane| {
             raw::seryugo_lane_open(&mut self.handle, target, capacity, lane, &mut number)
         })?;
         self.moved.insert(number, 0);
         Ok((lane, number))
     }
 
-    /// The place of the next seat that is due among those that were made here. Each seat that is due is given once.
+    /// The place of the next seat that is due among those that were made here. Each seat that is
+    /// due is given once.
     #[inline]
     pub fn next_due(&mut self) -> Option<u64> {
         // Only a parked seat is ever due.
@@ -211,7 +224,7 @@ impl<R: Room> Inside<R> {
             return None;
         }
         let mut seat = 0;
-        let code = unsafe { raw::seryugo_next_due(&mut self.handle, &mut seat) };
+        let code = raw::seryugo_next_due(&mut self.handle, &mut seat);
         (code == code::DONE).then(|| seat.wrapping_sub(self.first_seat))
     }
 
@@ -238,8 +251,9 @@ impl<R: Room> Inside<R> {
         }
     }
 
-    /// Makes a call that may park its seat, or that of a parked seat again. A parked seat's call was taken before. So while the journal
-    /// has room it is made, even if nobody took the entries of the last full one.
+    /// Makes a call that may park its seat, or that of a parked seat again. A parked seat's call
+    /// was taken before. So while the journal has room it is made, even if nobody took the entries
+    /// of the last full one.
     #[inline]
     pub fn ask(&mut self, is_again: bool, call: impl FnOnce(&mut Handle) -> u32) -> u32 {
         let has_room = self.makes_room();
@@ -248,29 +262,47 @@ impl<R: Room> Inside<R> {
         }
         self.calls += 1;
         let code = call(&mut self.handle);
-        self.parked = (self.parked + u64::from(code == code::PARKED)).saturating_sub(u64::from(is_again));
+        self.parked =
+            (self.parked + u64::from(code == code::PARKED)).saturating_sub(u64::from(is_again));
         match code {
             code::JOURNAL_FULL if !has_room => code::NOT_KEPT,
             _ => code,
         }
     }
 
+    /// The same at the end of a wait: a call that parks its seat is withdrawn, before others have
+    /// the lock.
+    pub fn ask_at_last(
+        &mut self,
+        seat: u64,
+        is_again: bool,
+        call: impl FnOnce(&mut Handle) -> u32,
+    ) -> u32 {
+        let code = self.ask(is_again, call);
+        if code == code::PARKED {
+            self.withdraw(seat);
+        }
+        code
+    }
+
     /// Withdraws the call of a seat, if it is parked.
     pub fn withdraw(&mut self, seat: u64) {
-        let code = unsafe { raw::seryugo_withdraw(&mut self.handle, seat) };
+        let code = raw::seryugo_withdraw(&mut self.handle, seat);
         self.parked = self.parked.saturating_sub(u64::from(code == code::DONE));
     }
 
-    /// Moves what is seen of an open lane into the journal, up to the first message that is refused.
+    /// Moves what is seen of an open lane into the journal, up to the first message that is
+    /// refused.
     pub fn drain(&mut self, lane: u64) -> Result<u64, Error> {
-        let count = self.move_seen(|room, count| unsafe { raw::seryugo_lane_drain(room, lane, count) })?;
+        let count = self.move_seen(|room, count| raw::seryugo_lane_drain(room, lane, count))?;
         self.note_moved(lane, count);
         Ok(count)
     }
 
-    /// The same while nobody takes the entries of the last full journal. The next call still has them taken first.
+    /// The same while nobody takes the entries of the last full journal. The next call still has
+    /// them taken first.
     fn drain_unkept(&mut self, lane: u64) -> Result<u64, Error> {
-        let count = written(|count| unsafe { raw::seryugo_lane_drain(&mut self.handle, lane, count) })?;
+        let count = written(|count| raw::seryugo_lane_drain(&mut self.handle, lane, count))?;
         self.note_moved(lane, count);
         Ok(count)
     }
@@ -282,10 +314,11 @@ impl<R: Room> Inside<R> {
 
     /// Receives what a feed is owed, up to the first message that is refused.
     pub fn pump(&mut self, feed: u64) -> Result<u64, Error> {
-        self.move_seen(|room, count| unsafe { raw::seryugo_feed_pump(room, feed, count) })
+        self.move_seen(|room, count| raw::seryugo_feed_pump(room, feed, count))
     }
 
-    /// Makes a call that moves what it sees. If it stops at a full journal, and room is made there, it goes on.
+    /// Makes a call that moves what it sees. If it stops at a full journal, and room is made there,
+    /// it goes on.
     fn move_seen(&mut self, call: impl Fn(&mut Handle, &mut u64) -> u32) -> Result<u64, Error> {
         let mut last = self.move_once(&call)?;
         let mut moved = last;
@@ -310,7 +343,7 @@ impl<R: Room> Inside<R> {
 
     /// Whether the journal is full, and the next call cuts it.
     fn cuts_now(&mut self) -> bool {
-        self.keeper.is_some() && self.spare_now() == Ok(0)
+        self.keeper.is_some() && self.spare_now() == 0
     }
 
     /// The same, until none is left.
@@ -322,20 +355,22 @@ impl<R: Room> Inside<R> {
     /// Closes a lane that has ended, once all of its messages have moved.
     pub fn close_lane(&mut self, number: u64, lane: &mut Handle) -> Result<(), Error> {
         self.drain_all(number)?;
-        done(unsafe { raw::seryugo_lane_close(&mut self.handle, lane) })?;
+        done(raw::seryugo_lane_close(&mut self.handle, lane))?;
         self.moved.remove(&number);
         Ok(())
     }
 
-    /// Moves what it can of an open lane on which so many messages were sent, and closes the lane: how many are lost.
+    /// Moves what it can of an open lane on which so many messages were sent, and closes the lane:
+    /// how many are lost.
     pub fn end_lane(&mut self, lane: u64, sent: u64) -> u64 {
-        // A lane may end as its thread panics, so that no panic of a sink may leave this: the sink has failed.
+        // A lane may end as its thread panics, so that no panic of a sink may leave this: the sink
+        // has failed.
         let drained = panic::catch_unwind(AssertUnwindSafe(|| self.drain_all(lane)));
         // Messages that are refused are lost.
         if !matches!(drained, Ok(Ok(()))) {
             while self.drain_unkept(lane).is_ok_and(|count| count != 0) {}
         }
-        unsafe { raw::seryugo_lane_abandon(&mut self.handle, lane) };
+        raw::seryugo_lane_abandon(&mut self.handle, lane);
         let lost = sent.saturating_sub(self.moved.remove(&lane).unwrap_or_default());
         self.lost = self.lost.saturating_add(lost);
         lost
@@ -353,7 +388,7 @@ fn uncompacted(error: Error) -> io::Error {
 #[cfg(test)]
 mod tests {
     use super::*;
-    use crate::calls::{self, Calls};
+    use crate::calls::{Calls, Give, Read};
     use crate::room::Numbers;
 
     const SEATS: u64 = 4;
@@ -364,7 +399,10 @@ mod tests {
 
     impl Random {
         fn below(&mut self, limit: u64) -> u64 {
-            self.0 = self.0.wrapping_mul(6_364_136_223_846_793_005).wrapping_add(1_442_695_040_888_963_407);
+            self.0 = self
+                .0
+                .wrapping_mul(6_364_136_223_846_793_005)
+                .wrapping_add(1_442_695_040_888_963_407);
             (self.0 >> 33) % limit
         }
     }
@@ -375,13 +413,14 @@ mod tests {
         for _ in 0..SEATS {
             inside.new_seat().unwrap();
         }
-        let made = written(|name| unsafe { raw::seryugo_new_mailbox(&mut inside.handle, 0, name) });
+        let made = written(|name| raw::seryugo_new_mailbox(&mut inside.handle, 0, name));
         assert_eq!(made, Ok(MAILBOX));
         inside
     }
 
     fn receive(inside: &mut Inside<Numbers>, seat: u64, is_again: bool) {
-        inside.ask(is_again, |room| Numbers::ask(calls::RECV, room, seat, MAILBOX, is_again, &mut 0));
+        inside
+            .ask(is_again, |room| Numbers::ask(Read::Recv, room, seat, MAILBOX, is_again, &mut 0));
     }
 
     /// Makes some calls, and wakes each seat that is due.
@@ -392,7 +431,7 @@ mod tests {
                 0 | 1 => receive(inside, seat, false),
                 2 => inside.withdraw(seat),
                 _ => {
-                    Numbers::give(calls::SEND, &mut inside.handle, seat, MAILBOX, 5);
+                    Numbers::give(Give::Send, &mut inside.handle, seat, MAILBOX, 5);
                 }
             }
             while let Some(due) = inside.next_due() {
@@ -409,7 +448,8 @@ mod tests {
             let mut inside = room();
             call(&mut inside, &mut random);
             let parked = inside.parked;
-            let is_parked = |seat: &u64| unsafe { raw::seryugo_withdraw(&mut inside.handle, *seat) } == code::DONE;
+            let is_parked =
+                |seat: &u64| raw::seryugo_withdraw(&mut inside.handle, *seat) == code::DONE;
             assert_eq!(parked, (0..SEATS).filter(is_parked).count() as u64);
             most = most.max(parked);
         }

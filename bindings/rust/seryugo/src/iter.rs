@@ -7,10 +7,11 @@ use crate::seat::Seat;
 use std::fmt;
 use std::iter::FusedIterator;
 
-/// The messages of a mailbox or a port, each received as it is asked for. It blocks while there is none. It ends if the port is
-/// closed, or if a call fails.
+/// The messages of a mailbox or a port, each received as it is asked for. It blocks while there is
+/// none. It ends if the port is closed, or if a call fails.
 ///
-/// It borrows the seat. If you want to call from the seat between two messages, use `while let` and [`Seat::recv`].
+/// It borrows the seat. If you want to call from the seat between two messages, use `while let` and
+/// [`Seat::recv`].
 ///
 /// ```
 /// use seryugo::{Error, Switchboard};
@@ -28,6 +29,7 @@ use std::iter::FusedIterator;
 /// # Ok(())
 /// # }
 /// ```
+#[must_use = "an iterator receives nothing before it is asked"]
 pub struct Iter<'s, 'a, R: Room, S> {
     seat: &'s mut Seat<'a, R>,
     source: S,
@@ -35,8 +37,8 @@ pub struct Iter<'s, 'a, R: Room, S> {
     error: Option<Error>,
 }
 
-/// The messages that wait in a mailbox or at a port. It blocks never, and ends if there is none, if the port is closed, or if a call
-/// fails.
+/// The messages that wait in a mailbox or at a port. It blocks never, and ends if there is none, if
+/// the port is closed, or if a call fails.
 ///
 /// ```
 /// # let board = seryugo::Switchboard::new(1_000)?;
@@ -49,6 +51,7 @@ pub struct Iter<'s, 'a, R: Room, S> {
 /// assert_eq!(messages.error(), None);
 /// # Ok::<(), seryugo::Error>(())
 /// ```
+#[must_use = "an iterator receives nothing before it is asked"]
 pub struct TryIter<'s, 'a, R: Room, S> {
     seat: &'s mut Seat<'a, R>,
     source: S,
@@ -56,7 +59,8 @@ pub struct TryIter<'s, 'a, R: Room, S> {
 }
 
 impl<'a, R: Room> Seat<'a, R> {
-    /// Receives the messages of a mailbox or a port in a loop, which ends if the port is closed or a call fails: see [`Iter`].
+    /// Receives the messages of a mailbox or a port in a loop, which ends if the port is closed or
+    /// a call fails: see [`Iter`].
     ///
     /// ```
     /// # let board = seryugo::Switchboard::new(1_000)?;
@@ -175,12 +179,18 @@ impl<R: Carries<S::Message>, S: Source> Iterator for TryIter<'_, '_, R, S> {
 
 impl<R: Room, S> fmt::Debug for Iter<'_, '_, R, S> {
     fn fmt(&self, f: &mut fmt::Formatter<'_>) -> fmt::Result {
-        f.debug_struct("Iter").field("seat", &self.seat).field("error", &self.error).finish_non_exhaustive()
+        f.debug_struct("Iter")
+            .field("seat", &self.seat)
+            .field("error", &self.error)
+            .finish_non_exhaustive()
     }
 }
 
 impl<R: Room, S> fmt::Debug for TryIter<'_, '_, R, S> {
     fn fmt(&self, f: &mut fmt::Formatter<'_>) -> fmt::Result {
-        f.debug_struct("TryIter").field("seat", &self.seat).field("error", &self.error).finish_non_exhaustive()
+        f.debug_struct("TryIter")
+            .field("seat", &self.seat)
+            .field("error", &self.error)
+            .finish_non_exhaustive()
     }
 }

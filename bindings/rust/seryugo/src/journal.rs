@@ -12,8 +12,8 @@ use std::io::{self, ErrorKind, Write};
 use std::marker::PhantomData;
 use std::ops::Range;
 
-/// The entries that a switchboard's journal had when it was taken, oldest first. They are their owner's own, and may go to
-/// another thread, to be read there without the switchboard's lock.
+/// The entries that a switchboard's journal had when it was taken, oldest first. They are their
+/// owner's own, and may go to another thread, to be read there without the switchboard's lock.
 ///
 /// ```
 /// use seryugo::{Call, Error, Switchboard};
@@ -55,8 +55,8 @@ impl<R: Room> Journal<R> {
         }
     }
 
-    /// The position of its first entry: how many entries the switchboard had before, since it was made or made short by
-    /// [`compact_and_cut`](crate::Switchboard::compact_and_cut).
+    /// The position of its first entry: how many entries the switchboard had before, since it was
+    /// made or made short by [`compact_and_cut`](crate::Switchboard::compact_and_cut).
     ///
     /// ```
     /// # fn main() -> Result<(), seryugo::Error> {
@@ -98,8 +98,8 @@ impl<R: Room> Journal<R> {
         self.len == 0
     }
 
-    /// The entry of this place, counted from 0 for the oldest. It has copies of the messages. If there is no memory for them, the
-    /// program aborts, as if a `Vec` found none.
+    /// The entry of this place, counted from 0 for the oldest. It has copies of the messages. If
+    /// there is no memory for them, the program aborts, as if a `Vec` found none.
     ///
     /// ```
     /// # let board = seryugo::Switchboard::of_numbers(1_000)?;
@@ -114,15 +114,11 @@ impl<R: Room> Journal<R> {
         found(R::taken_entry(&mut self.handle.borrow_mut(), place as u64))
     }
 
-    /// Writes the entries as text: one piece, as `docs/FORMATS.md` says under "Journals". Write the pieces of a switchboard one
-    /// behind the other, and [`Checker`](crate::Checker) and [`Switchboard::restore`](crate::Switchboard::restore) read them. It
-    /// flushes nothing.
+    /// Writes the entries as text: one piece, as `docs/FORMATS.md` says under "Journals". Write the
+    /// pieces of a switchboard one behind the other, and [`Checker`](crate::Checker) and
+    /// [`Switchboard::restore`](crate::Switchboard::restore) read them. It flushes nothing.
     ///
     /// Not all damage of such a text is seen. That of a [sealed](Journal::write_sealed_to) one is.
-    ///
-    /// Errors: `InvalidData`, with [`Error::TooLong`] inside, if a message is so long that no reader would take its line, and then
-    /// nothing is written; `OutOfMemory` if there is no memory for the text, or it would have 2^32 bytes or more; and what `to`
-    /// fails with.
     ///
     /// ```
     /// # fn main() -> Result<(), Box<dyn std::error::Error>> {
@@ -136,14 +132,18 @@ impl<R: Room> Journal<R> {
     /// # Ok(())
     /// # }
     /// ```
+    ///
+    /// # Errors
+    ///
+    /// `InvalidData`, with [`Error::TooLong`] inside, if a message is so long that no reader would
+    /// take its line, and then nothing is written; `OutOfMemory` if there is no memory for the
+    /// text, or it would have 2^32 bytes or more; and what `to` fails with.
     pub fn write_to(&self, to: &mut impl Write) -> io::Result<()> {
         self.write_at(self.first, to)
     }
 
-    /// Writes the piece as [`write_to`](Journal::write_to) does, with its first entry at this position of the text, in place of
-    /// [`first`](Journal::first).
-    ///
-    /// Errors: those of `write_to`; and `InvalidInput` if the position behind the last entry would be 2^64 or more.
+    /// Writes the piece as [`write_to`](Journal::write_to) does, with its first entry at this
+    /// position of the text, in place of [`first`](Journal::first).
     ///
     /// ```
     /// # fn main() -> Result<(), Box<dyn std::error::Error>> {
@@ -155,18 +155,22 @@ impl<R: Room> Journal<R> {
     /// # Ok(())
     /// # }
     /// ```
+    ///
+    /// # Errors
+    ///
+    /// Those of `write_to`; and `InvalidInput` if the position behind the last entry would be 2^64
+    /// or more.
     pub fn write_at(&self, position: u64, to: &mut impl Write) -> io::Result<()> {
         let text = Received::text_of(&mut self.handle.borrow_mut(), position).map_err(unwritten)?;
         to.write_all(text.as_slice())
     }
 
-    /// Writes the entries as a piece with a sum, which shows damage. `after` is the sum of the piece before, and `None` for
-    /// the first piece of a text. Returns the sum of this piece.
+    /// Writes the entries as a piece with a sum, which shows damage. `after` is the sum of the
+    /// piece before, and `None` for the first piece of a text. Returns the sum of this piece.
     ///
-    /// All pieces of a text have sums, or none has. If a reader finds a byte changed, or a piece left out, doubled or exchanged, it has a
-    /// fault. The last sum names the whole text: keep it elsewhere, and nobody can write another text in its place unseen.
-    ///
-    /// Errors: those of [`write_to`](Journal::write_to). After one the piece isn't written: the next one follows `after`.
+    /// All pieces of a text have sums, or none has. If a reader finds a byte changed, or a piece
+    /// left out, doubled or exchanged, it has a fault. The last sum names the whole text: keep it
+    /// elsewhere, and nobody can write another text in its place unseen.
     ///
     /// ```
     /// use seryugo::{Numbers, Switchboard};
@@ -186,14 +190,17 @@ impl<R: Room> Journal<R> {
     /// # Ok(())
     /// # }
     /// ```
+    ///
+    /// # Errors
+    ///
+    /// Those of [`write_to`](Journal::write_to). After one the piece isn't written: the next one
+    /// follows `after`.
     pub fn write_sealed_to(&self, after: Option<Sum>, to: &mut impl Write) -> io::Result<Sum> {
         self.write_sealed_at(self.first, after, to)
     }
 
-    /// Writes the piece as [`write_sealed_to`](Journal::write_sealed_to) does, with its first entry at this position of the text, in
-    /// place of [`first`](Journal::first).
-    ///
-    /// Errors: those of [`write_at`](Journal::write_at).
+    /// Writes the piece as [`write_sealed_to`](Journal::write_sealed_to) does, with its first entry
+    /// at this position of the text, in place of [`first`](Journal::first).
     ///
     /// ```
     /// # fn main() -> Result<(), Box<dyn std::error::Error>> {
@@ -202,12 +209,23 @@ impl<R: Room> Journal<R> {
     /// let mut text = Vec::new();
     /// let sum = board.take_journal()?.write_sealed_at(7, Some([9; 32].into()), &mut text)?;
     /// let header = format!("journal 3 {}\n", "09".repeat(32));
-    /// assert_eq!(text, format!("{header}from 7\nseat 0 mailbox: made 0\nend 8 {sum}\n").as_bytes());
+    /// let entry = "seat 0 mailbox: made 0";
+    /// assert_eq!(text, format!("{header}from 7\n{entry}\nend 8 {sum}\n").as_bytes());
     /// # Ok(())
     /// # }
     /// ```
-    pub fn write_sealed_at(&self, position: u64, after: Option<Sum>, to: &mut impl Write) -> io::Result<Sum> {
-        let (text, sum) = Received::sealed_text_of(&mut self.handle.borrow_mut(), position, after).map_err(unwritten)?;
+    ///
+    /// # Errors
+    ///
+    /// Those of [`write_at`](Journal::write_at).
+    pub fn write_sealed_at(
+        &self,
+        position: u64,
+        after: Option<Sum>,
+        to: &mut impl Write,
+    ) -> io::Result<Sum> {
+        let (text, sum) = Received::sealed_text_of(&mut self.handle.borrow_mut(), position, after)
+            .map_err(unwritten)?;
         to.write_all(text.as_slice())?;
         Ok(sum)
     }
@@ -251,6 +269,7 @@ fn unwritten(error: Error) -> io::Error {
 /// assert!(entries.next().is_some() && entries.next().is_none());
 /// # Ok::<(), seryugo::Error>(())
 /// ```
+#[must_use = "an iterator reads nothing before it is asked"]
 pub struct Entries<'a, R: Room = Bytes> {
     journal: &'a Journal<R>,
     places: Range<usize>,
@@ -281,7 +300,10 @@ impl<'a, R: Room> IntoIterator for &'a Journal<R> {
 
 impl<R: Room> fmt::Debug for Journal<R> {
     fn fmt(&self, f: &mut fmt::Formatter<'_>) -> fmt::Result {
-        f.debug_struct("Journal").field("first", &self.first).field("len", &self.len).finish_non_exhaustive()
+        f.debug_struct("Journal")
+            .field("first", &self.first)
+            .field("len", &self.len)
+            .finish_non_exhaustive()
     }
 }
 

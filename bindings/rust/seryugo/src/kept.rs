@@ -2,14 +2,16 @@
 
 use crate::sum::Sum;
 
-/// The part of a journal's text that is kept, as [`Switchboard::restore_torn`](crate::Switchboard::restore_torn) returns it: its whole
-/// lines, but no piece's first line alone.
+/// The part of a journal's text that is kept, as
+/// [`Switchboard::restore_torn`](crate::Switchboard::restore_torn) returns it: its whole lines, but
+/// no piece's first line alone.
 ///
 /// ```
 /// use seryugo::{Numbers, RestoreError, Switchboard};
 ///
 /// # fn main() -> Result<(), RestoreError> {
-/// let (_, kept) = Switchboard::<Numbers>::restore_torn(&b"journal 1\nseat 0 mailbox: made 0\nseat 0 se"[..], 1_000)?;
+/// let torn = &b"journal 1\nseat 0 mailbox: made 0\nseat 0 se"[..];
+/// let (_, kept) = Switchboard::<Numbers>::restore_torn(torn, 1_000)?;
 /// assert_eq!((kept.entries, kept.bytes, kept.ending.as_str()), (1, 33, "end 1\n"));
 /// # Ok(())
 /// # }
@@ -20,11 +22,12 @@ pub struct Kept {
     pub entries: u64,
     /// How many bytes it has. Cut the text there.
     pub bytes: u64,
-    /// The line that ends its last piece. Write it behind these bytes, and the text is a whole journal. It is empty if the last piece
-    /// has its end.
+    /// The line that ends its last piece. Write it behind these bytes, and the text is a whole
+    /// journal. It is empty if the last piece has its end.
     pub ending: String,
-    /// The sum of the last piece with this ending: pass it to [`Journal::write_sealed_to`](crate::Journal::write_sealed_to) for the
-    /// next one. If it is `None`, and some bytes are kept, the text has no sums: go on by
+    /// The sum of the last piece with this ending: pass it to
+    /// [`Journal::write_sealed_to`](crate::Journal::write_sealed_to) for the next one. If it is
+    /// `None`, and some bytes are kept, the text has no sums: go on by
     /// [`write_to`](crate::Journal::write_to). If no bytes are kept, choose.
     pub sum: Option<Sum>,
 }
@@ -75,7 +78,8 @@ impl Lines {
         self.bytes += part.len() as u64;
     }
 
-    /// What is kept, by how the last line begins: with `journal`, `end`, or another word. The sum is that of the whole lines.
+    /// What is kept, by how the last line begins: with `journal`, `end`, or another word. The sum
+    /// is that of the whole lines.
     pub fn kept(&self, entries: u64, sum: Option<Sum>) -> Kept {
         let (bytes, ending, sum) = match (self.last.first(), sum) {
             (None | Some(b'e'), sum) => (self.whole, String::new(), sum),

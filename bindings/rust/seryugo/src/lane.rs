@@ -8,10 +8,12 @@ use std::borrow::Borrow;
 use std::fmt;
 use std::marker::PhantomData;
 
-/// A lane, on which one thread sends without the lock. End it by [`close`](Lane::close), which loses nothing.
+/// A lane, on which one thread sends without the lock. End it by [`close`](Lane::close), which
+/// loses nothing.
 ///
-/// It may go to another thread, and two can't share it. If it is dropped, it moves its messages into the journal and is closed.
-/// Those for which the journal has no room are lost: [`Switchboard::lost`] counts them.
+/// It may go to another thread, and two can't share it. If it is dropped, it moves its messages
+/// into the journal and is closed. Those for which the journal has no room are lost:
+/// [`Switchboard::lost`] counts them.
 ///
 /// ```
 /// use seryugo::{Error, Switchboard};
@@ -61,7 +63,8 @@ impl<'a, R: Room, T> Lane<'a, R, T> {
         }
     }
 
-    /// The lane's number, by which the journal tells its messages, and [`Switchboard::drain`] finds it.
+    /// The lane's number, by which the journal tells its messages, and [`Switchboard::drain`] finds
+    /// it.
     ///
     /// ```
     /// # let board = seryugo::Switchboard::new(1_000)?;
@@ -71,14 +74,13 @@ impl<'a, R: Room, T> Lane<'a, R, T> {
     /// assert_eq!(board.drain(lane.number())?, 1);
     /// # Ok::<(), seryugo::Error>(())
     /// ```
+    #[must_use]
     pub fn number(&self) -> u64 {
         self.number
     }
 
-    /// Sends a message, which the next drain may move into the journal. It takes no lock, and never blocks.
-    ///
-    /// Errors: [`SendError`] hands the message back. `Full`: the lane has no free slot until it is drained. `NoMemory` and
-    /// `OutOfBounds`: as of [`Seat::send`](crate::Seat::send).
+    /// Sends a message, which the next drain may move into the journal. It takes no lock, and never
+    /// blocks.
     ///
     /// ```
     /// # let board = seryugo::Switchboard::new(1_000)?;
@@ -90,12 +92,18 @@ impl<'a, R: Room, T> Lane<'a, R, T> {
     /// assert_eq!(board.owed(mailbox)?, 1);
     /// # Ok::<(), seryugo::Error>(())
     /// ```
+    ///
+    /// # Errors
+    ///
+    /// [`SendError`] hands the message back. `Full`: the lane has no free slot until it is drained.
+    /// `NoMemory` and `OutOfBounds`: as of [`Seat::send`](crate::Seat::send).
     #[inline]
     pub fn send<M: Borrow<T>>(&mut self, message: M) -> Result<(), SendError<M>>
     where
         R: Carries<T>,
     {
-        let sent = done(R::with_sent(message.borrow(), |sent| R::lane_send(&mut self.handle, sent)));
+        let sent =
+            done(R::with_sent(message.borrow(), |sent| R::lane_send(&mut self.handle, sent)));
         self.sent += u64::from(sent.is_ok());
         handing_back(sent, message)
     }
@@ -112,15 +120,16 @@ impl<'a, R: Room, T> Lane<'a, R, T> {
     /// assert_eq!(lane.drain()?, 0);
     /// # Ok::<(), seryugo::Error>(())
     /// ```
+    ///
+    /// # Errors
+    ///
+    /// `JournalFull`, `NotKept` and `NoMemory`: no message has moved.
     pub fn drain(&mut self) -> Result<u64, Error> {
         self.board.drain(self.number)
     }
 
-    /// Moves all that was sent into the journal, and closes the lane. If a message is refused, the lane comes back to be closed
-    /// again or abandoned. The messages before it have moved.
-    ///
-    /// Errors: `NoMemory`, `NotKept`, or `JournalFull`. Cut a full journal by [`cut_open`](Switchboard::cut_open), and close the lane
-    /// again.
+    /// Moves all that was sent into the journal, and closes the lane. If a message is refused, the
+    /// lane comes back to be closed again or abandoned. The messages before it have moved.
     ///
     /// ```
     /// use seryugo::{Error, Switchboard};
@@ -139,10 +148,15 @@ impl<'a, R: Room, T> Lane<'a, R, T> {
     /// # Ok(())
     /// # }
     /// ```
+    ///
+    /// # Errors
+    ///
+    /// `NoMemory`, `NotKept`, or `JournalFull`. Cut a full journal by
+    /// [`cut_open`](Switchboard::cut_open), and close the lane again.
     #[must_use = "a lane that wasn't closed loses messages when it is dropped"]
     pub fn close(mut self) -> Result<(), UnclosedLane<'a, R, T>> {
         // A lane that is open on both sides can be ended.
-        unsafe { raw::seryugo_lane_finish(&mut self.handle) };
+        raw::seryugo_lane_finish(&mut self.handle);
         self.close_finished()
     }
 
@@ -170,10 +184,11 @@ impl<R: Room, T> Drop for Lane<'_, R, T> {
     }
 }
 
-/// A lane that has ended, and could not be closed. Close it again, or abandon it. If it is dropped, it is abandoned.
+/// A lane that has ended, and could not be closed. Close it again, or abandon it. If it is dropped,
+/// it is abandoned.
 ///
-/// If the journal is full, cut it by [`cut_open`](Switchboard::cut_open), and close the lane again. If there was no memory, close it
-/// again later.
+/// If the journal is full, cut it by [`cut_open`](Switchboard::cut_open), and close the lane again.
+/// If there was no memory, close it again later.
 ///
 /// It becomes its [`Error`] by `?`. That drops it.
 ///
@@ -189,7 +204,8 @@ impl<R: Room, T> Drop for Lane<'_, R, T> {
 /// other.send(6).unwrap();
 /// lane.close()?;
 /// let unclosed = other.close().unwrap_err();
-/// assert_eq!(unclosed.to_string(), "lane 1 isn't closed: the journal is full until it is cut or taken");
+/// let why = "the journal is full until it is cut or taken";
+/// assert_eq!(unclosed.to_string(), format!("lane 1 isn't closed: {why}"));
 /// let unclosed = unclosed.close().unwrap_err();
 /// assert_eq!(unclosed.abandon(), 1);
 /// # Ok(())
@@ -213,6 +229,7 @@ impl<'a, R: Room, T> UnclosedLane<'a, R, T> {
     /// assert_eq!(unclosed.error(), seryugo::Error::JournalFull);
     /// # Ok::<(), seryugo::Error>(())
     /// ```
+    #[must_use]
     pub fn error(&self) -> Error {
         self.error.clone()
     }
@@ -228,6 +245,7 @@ impl<'a, R: Room, T> UnclosedLane<'a, R, T> {
     /// assert_eq!(unclosed.number(), 0);
     /// # Ok::<(), seryugo::Error>(())
     /// ```
+    #[must_use]
     pub fn number(&self) -> u64 {
         self.lane.number
     }
@@ -244,6 +262,10 @@ impl<'a, R: Room, T> UnclosedLane<'a, R, T> {
     /// assert_eq!(board.lost(), 1);
     /// # Ok::<(), seryugo::Error>(())
     /// ```
+    ///
+    /// # Errors
+    ///
+    /// As [`Lane::close`].
     #[must_use = "a lane that wasn't closed loses messages when it is dropped"]
     pub fn close(self) -> Result<(), UnclosedLane<'a, R, T>> {
         self.lane.close_finished()
@@ -261,6 +283,7 @@ impl<'a, R: Room, T> UnclosedLane<'a, R, T> {
     /// board.cut()?;
     /// # Ok::<(), seryugo::Error>(())
     /// ```
+    #[must_use]
     pub fn abandon(mut self) -> u64 {
         self.lane.end()
     }
@@ -295,6 +318,9 @@ impl<R: Room, T> From<UnclosedLane<'_, R, T>> for Error {
 
 impl<R: Room, T> fmt::Debug for Lane<'_, R, T> {
     fn fmt(&self, f: &mut fmt::Formatter<'_>) -> fmt::Result {
-        f.debug_struct("Lane").field("number", &self.number).field("sent", &self.sent).finish_non_exhaustive()
+        f.debug_struct("Lane")
+            .field("number", &self.number)
+            .field("sent", &self.sent)
+            .finish_non_exhaustive()
     }
 }

@@ -1,8 +1,8 @@
 //! Buffered Concurrent ML for Rust, by a library that is proved.
 //!
-//! A [`Switchboard`] has mailboxes, channels and variables, and a journal of every call that was accepted. Each object has a type of
-//! messages: numbers, texts, tuples, or a type of yours that implements [`Message`]. Threads call from [`Seat`]s under a lock of this
-//! crate.
+//! A [`Switchboard`] has mailboxes, channels and variables, and a journal of every call that was
+//! accepted. Each object has a type of messages: numbers, texts, tuples, or a type of yours that
+//! implements [`Message`]. Threads call from [`Seat`]s under a lock of this crate.
 //!
 //! ```
 //! use seryugo::{Error, Switchboard};
@@ -26,10 +26,12 @@
 //! | a switchboard of [`Bytes`] | each type that implements [`Message`], several types on one switchboard | [`Switchboard::new`] |
 //! | a switchboard of [`Numbers`] | `u64`; its calls are the fastest | [`Switchboard::of_numbers`] |
 //!
-//! - A call that sends takes the message or a reference to it. If it fails, [`SendError`] hands the message back.
-//! - A message that was received and can't be read as the object's type is [`Error::Unreadable`], which has its bytes.
-//! - A name such as [`Mailbox`] is `Copy`, and belongs to the switchboard that made it. On another one each call with it fails with
-//!   [`Error::NoSuch`].
+//! - A call that sends takes the message or a reference to it. If it fails, [`SendError`] hands the
+//!   message back.
+//! - A message that was received and can't be read as the object's type is [`Error::Unreadable`],
+//!   which has its bytes.
+//! - A name such as [`Mailbox`] is `Copy`, and belongs to the switchboard that made it. On another
+//!   one each call with it fails with [`Error::NoSuch`].
 //! - [`Error::is_retryable`] says whether the same call may succeed later.
 //! - [`Seat`] has a table of how each call waits.
 //!
@@ -67,16 +69,17 @@
 //! | [`board.take_journal()`](Switchboard::take_journal), [`Switchboard::restore`] | - | - |
 //! | - | `select!` | `choose`, `wrap`, `guard` and the other events |
 //!
-//! Nothing is cloned here: give each thread a seat. A mailbox has no end. To end those that receive, send a last message, or let them
-//! receive from a port and close it.
+//! Nothing is cloned here: give each thread a seat. A mailbox has no end. To end those that
+//! receive, send a last message, or let them receive from a port and close it.
 //!
 //! # What else there is
 //!
-//! [`Lane`]s and [`Feed`]s keep senders and subscribers off the lock. A [`Journal`] that was taken is written as text. A [`Checker`]
-//! checks such a text, and [`Switchboard::restore`] goes on from it in another process. With the feature `scripts`, `replay` plays
-//! scripts of threads.
+//! [`Lane`]s and [`Feed`]s keep senders and subscribers off the lock. A [`Journal`] that was taken
+//! is written as text. A [`Checker`] checks such a text, and [`Switchboard::restore`] goes on from
+//! it in another process. With the feature `scripts`, `replay` plays scripts of threads.
 //!
-//! Before its first call the crate compares the library's version with its own. If they differ, it fails with [`Error::Version`].
+//! Before its first call the crate compares the library's version with its own. If they differ, it
+//! fails with [`Error::Version`].
 
 #![warn(missing_docs)]
 
@@ -95,6 +98,8 @@ mod iter;
 mod journal;
 mod kept;
 mod lane;
+mod locked;
+mod making;
 mod message;
 mod names;
 mod numbers;

@@ -2,8 +2,8 @@
 
 /// A value that is sent as bytes, and read back from them.
 ///
-/// It is implemented for the numbers, `bool`, `char`, `()`, strings, lists and arrays of bytes, tuples of one to six messages, and
-/// [`Option`]s. Implement it for your own types:
+/// It is implemented for the numbers, `bool`, `char`, `()`, strings, lists and arrays of bytes,
+/// tuples of one to six messages, and [`Option`]s. Implement it for your own types:
 ///
 /// ```
 /// use seryugo::{Error, Message, Switchboard};
@@ -75,8 +75,8 @@ pub trait Message: Sized {
     /// ```
     fn write_to(&self, bytes: &mut Vec<u8>);
 
-    /// Calls a function with the value's bytes: those that [`write_to`](Message::write_to) writes. Override it if the value has its
-    /// bytes in one piece, or needs no memory for them.
+    /// Calls a function with the value's bytes: those that [`write_to`](Message::write_to) writes.
+    /// Override it if the value has its bytes in one piece, or needs no memory for them.
     ///
     /// ```
     /// use seryugo::Message;
@@ -91,8 +91,9 @@ pub trait Message: Sized {
         use_bytes(&bytes)
     }
 
-    /// Reads a value back from all of these bytes. `None` if they are no such value: then the call that received them fails with
-    /// [`Error::Unreadable`](crate::Error::Unreadable), which has the bytes.
+    /// Reads a value back from all of these bytes. `None` if they are no such value: then the call
+    /// that received them fails with [`Error::Unreadable`](crate::Error::Unreadable), which has the
+    /// bytes.
     ///
     /// ```
     /// use seryugo::Message;

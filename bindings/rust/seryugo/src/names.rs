@@ -261,7 +261,10 @@ impl<T> Target for Channel<T> {}
 /// ```
 /// use seryugo::{Error, Message, Switchboard, Variable};
 ///
-/// fn is_full<T: Message>(board: &Switchboard, variable: impl Variable<Message = T>) -> Result<bool, Error> {
+/// fn is_full<T: Message>(
+///     board: &Switchboard,
+///     variable: impl Variable<Message = T>,
+/// ) -> Result<bool, Error> {
 ///     Ok(board.held(variable)?.is_some())
 /// }
 /// # let board = Switchboard::new(1_000)?;

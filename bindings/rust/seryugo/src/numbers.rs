@@ -1,18 +1,18 @@
 //! The calls of a switchboard of numbers.
 
-use crate::calls::{Asks, Calls, Gives, Polls};
+use crate::calls::{Calls, Give, Read};
 use crate::entry::{Call, Entry, Reply, Who};
 use crate::error::Error;
-use crate::raw::{done, Handle};
-use crate::room::{Carries, Carrying, Numbers, Room};
+use crate::raw::{done, Handle, Opening};
+use crate::room::{Carries, Numbers, Room, Seal};
 
 impl Room for Numbers {
     type Message = u64;
 }
 
-impl Carries<u64> for Numbers {}
+impl Carries<u64> for Numbers {
+    const SEAL: Seal = Seal;
 
-impl Carrying<u64> for Numbers {
     #[inline]
     fn with_sent<O>(message: &u64, call: impl FnOnce(u64) -> O) -> O {
         call(*message)
@@ -31,76 +31,96 @@ impl Carrying<u64> for Numbers {
 impl Calls for Numbers {
     type Sent<'m> = u64;
     type Kept = u64;
-    type Slot = u64;
     type Received = u64;
 
     #[inline]
-    fn slot() -> u64 {
+    fn nothing() -> u64 {
         0
-    }
-
-    #[inline]
-    unsafe fn taken(slot: &mut u64) -> u64 {
-        *slot
     }
 
     fn sent(kept: &u64) -> u64 {
         *kept
     }
 
-    fn open(limit: u64, room: &mut Handle) -> u32 {
-        unsafe { seryugo_room_open(limit, room) }
+    fn open(limit: u64, room: &mut Opening) -> u32 {
+        seryugo_room_open(limit, room)
     }
 
-    fn open_reading(reading: &mut Handle) -> u32 {
-        unsafe { seryugo_reading_open(reading) }
-    }
-
-    #[inline]
-    fn give(call: Gives, room: &mut Handle, seat: u64, object: u64, message: u64) -> u32 {
-        unsafe { (call.numbers)(room, seat, object, message) }
+    fn open_reading(reading: &mut Opening) -> u32 {
+        seryugo_reading_open(reading)
     }
 
     #[inline]
-    fn ask(call: Asks, room: &mut Handle, seat: u64, object: u64, is_again: bool, slot: &mut u64) -> u32 {
-        unsafe { (call.numbers)(room, seat, object, is_again, slot) }
+    fn give(call: Give, room: &mut Handle, seat: u64, object: u64, message: u64) -> u32 {
+        match call {
+            Give::Send => seryugo_send(room, seat, object, message),
+            Give::Multicast => seryugo_multicast(room, seat, object, message),
+            Give::Put => seryugo_put(room, seat, object, message),
+        }
     }
 
     #[inline]
-    fn poll(call: Polls, room: &mut Handle, seat: u64, object: u64, slot: &mut u64) -> u32 {
-        unsafe { (call.numbers)(room, seat, object, slot) }
+    fn ask(
+        call: Read,
+        room: &mut Handle,
+        seat: u64,
+        object: u64,
+        is_again: bool,
+        to: &mut u64,
+    ) -> u32 {
+        match call {
+            Read::Recv => seryugo_recv(room, seat, object, is_again, to),
+            Read::Get => seryugo_get(room, seat, object, is_again, to),
+            Read::Take => seryugo_take(room, seat, object, is_again, to),
+        }
+    }
+
+    #[inline]
+    fn poll(call: Read, room: &mut Handle, seat: u64, object: u64, to: &mut u64) -> u32 {
+        match call {
+            Read::Recv => seryugo_recv_poll(room, seat, object, to),
+            Read::Get => seryugo_get_poll(room, seat, object, to),
+            Read::Take => seryugo_take_poll(room, seat, object, to),
+        }
     }
 
     #[inline]
     fn mvar_init(room: &mut Handle, seat: u64, message: u64, variable: &mut u64) -> u32 {
-        unsafe { seryugo_mvar_init(room, seat, message, variable) }
+        seryugo_mvar_init(room, seat, message, variable)
     }
 
     #[inline]
-    fn swap(room: &mut Handle, seat: u64, variable: u64, message: u64, is_again: bool, slot: &mut u64) -> u32 {
-        unsafe { seryugo_swap(room, seat, variable, message, is_again, slot) }
+    fn swap(
+        room: &mut Handle,
+        seat: u64,
+        variable: u64,
+        message: u64,
+        is_again: bool,
+        to: &mut u64,
+    ) -> u32 {
+        seryugo_swap(room, seat, variable, message, is_again, to)
     }
 
-    fn held(room: &mut Handle, variable: u64, slot: &mut u64) -> u32 {
-        unsafe { seryugo_held(room, variable, slot) }
+    fn held(room: &mut Handle, variable: u64, to: &mut u64) -> u32 {
+        seryugo_held(room, variable, to)
     }
 
     #[inline]
     fn lane_send(lane: &mut Handle, message: u64) -> u32 {
-        unsafe { seryugo_lane_send(lane, message) }
+        seryugo_lane_send(lane, message)
     }
 
     #[inline]
-    fn feed_recv(feed: &mut Handle, slot: &mut u64) -> u32 {
-        unsafe { seryugo_feed_recv(feed, slot) }
+    fn feed_recv(feed: &mut Handle, to: &mut u64) -> u32 {
+        seryugo_feed_recv(feed, to)
     }
 
     fn entry(room: &mut Handle, at: u64) -> Result<Entry<Numbers>, Error> {
-        entry_of(|entry| unsafe { seryugo_entry(room, at, entry) })
+        entry_of(|entry| seryugo_entry(room, at, entry))
     }
 
     fn taken_entry(journal: &mut Handle, place: u64) -> Result<Entry<Numbers>, Error> {
-        entry_of(|entry| unsafe { seryugo_taken_entry(journal, place, entry) })
+        entry_of(|entry| seryugo_taken_entry(journal, place, entry))
     }
 }
 
@@ -146,14 +166,59 @@ struct RawReply {
     given: u64,
 }
 
-extern "C" {
-    fn seryugo_room_open(limit: u64, room: *mut Handle) -> u32;
-    fn seryugo_reading_open(reading: *mut Handle) -> u32;
-    fn seryugo_mvar_init(room: *mut Handle, seat: u64, message: u64, variable: *mut u64) -> u32;
-    fn seryugo_swap(room: *mut Handle, seat: u64, variable: u64, message: u64, is_again: bool, held: *mut u64) -> u32;
-    fn seryugo_held(room: *mut Handle, variable: u64, message: *mut u64) -> u32;
-    fn seryugo_lane_send(lane: *mut Handle, message: u64) -> u32;
-    fn seryugo_feed_recv(feed: *mut Handle, message: *mut u64) -> u32;
-    fn seryugo_entry(room: *mut Handle, at: u64, entry: *mut RawEntry) -> u32;
-    fn seryugo_taken_entry(journal: *mut Handle, place: u64, entry: *mut RawEntry) -> u32;
+unsafe extern "C" {
+    safe fn seryugo_room_open(limit: u64, room: &mut Opening) -> u32;
+    safe fn seryugo_reading_open(reading: &mut Opening) -> u32;
+    safe fn seryugo_send(room: &mut Handle, seat: u64, mailbox: u64, message: u64) -> u32;
+    safe fn seryugo_multicast(room: &mut Handle, seat: u64, channel: u64, message: u64) -> u32;
+    safe fn seryugo_put(room: &mut Handle, seat: u64, variable: u64, message: u64) -> u32;
+    safe fn seryugo_recv(
+        room: &mut Handle,
+        seat: u64,
+        source: u64,
+        is_again: bool,
+        message: &mut u64,
+    ) -> u32;
+    safe fn seryugo_get(
+        room: &mut Handle,
+        seat: u64,
+        variable: u64,
+        is_again: bool,
+        message: &mut u64,
+    ) -> u32;
+    safe fn seryugo_take(
+        room: &mut Handle,
+        seat: u64,
+        variable: u64,
+        is_again: bool,
+        message: &mut u64,
+    ) -> u32;
+    safe fn seryugo_recv_poll(room: &mut Handle, seat: u64, source: u64, message: &mut u64) -> u32;
+    safe fn seryugo_get_poll(room: &mut Handle, seat: u64, variable: u64, message: &mut u64)
+        -> u32;
+    safe fn seryugo_take_poll(
+        room: &mut Handle,
+        seat: u64,
+        variable: u64,
+        message: &mut u64,
+    ) -> u32;
+    safe fn seryugo_mvar_init(
+        room: &mut Handle,
+        seat: u64,
+        message: u64,
+        variable: &mut u64,
+    ) -> u32;
+    safe fn seryugo_swap(
+        room: &mut Handle,
+        seat: u64,
+        variable: u64,
+        message: u64,
+        is_again: bool,
+        held: &mut u64,
+    ) -> u32;
+    safe fn seryugo_held(room: &mut Handle, variable: u64, message: &mut u64) -> u32;
+    safe fn seryugo_lane_send(lane: &mut Handle, message: u64) -> u32;
+    safe fn seryugo_feed_recv(feed: &mut Handle, message: &mut u64) -> u32;
+    safe fn seryugo_entry(room: &mut Handle, at: u64, entry: &mut RawEntry) -> u32;
+    safe fn seryugo_taken_entry(journal: &mut Handle, place: u64, entry: &mut RawEntry) -> u32;
 }

@@ -5,15 +5,17 @@
 use crate::calls::received;
 use crate::error::Error;
 use crate::names::{Channel, IVar, MVar, Mailbox, Named, Object, Port, Target, Variable};
-use crate::raw::{self, code, done_or, Handle};
+use crate::raw::{self, code, done_or, written, Handle};
 use crate::room::{Carries, Room};
 use crate::switchboard::Switchboard;
 
+/// A call that writes a number which an object has.
+type Reader = extern "C" fn(&mut Handle, u64, &mut u64) -> u32;
+
 impl<R: Room> Switchboard<R> {
-    /// The mailbox of this number, as of a switchboard that goes on from a journal. Objects are numbered in the order in which they
-    /// were made, from 0. The journal has no types: name the type that the mailbox had.
-    ///
-    /// Errors: `NoSuch` if there is no object of this number, and `WrongKind` if it isn't a mailbox.
+    /// The mailbox of this number, as of a switchboard that goes on from a journal. Objects are
+    /// numbered in the order in which they were made, from 0. The journal has no types: name the
+    /// type that the mailbox had.
     ///
     /// ```
     /// use seryugo::{Error, Switchboard};
@@ -34,6 +36,10 @@ impl<R: Room> Switchboard<R> {
     /// # Ok(())
     /// # }
     /// ```
+    ///
+    /// # Errors
+    ///
+    /// `NoSuch` if there is no object of this number, and `WrongKind` if it isn't a mailbox.
     pub fn mailbox<T>(&self, number: u64) -> Result<Mailbox<T>, Error>
     where
         R: Carries<T>,
@@ -50,6 +56,10 @@ impl<R: Room> Switchboard<R> {
     /// assert_eq!(board.channel(0), Ok(channel));
     /// # Ok::<(), seryugo::Error>(())
     /// ```
+    ///
+    /// # Errors
+    ///
+    /// As [`mailbox`](Switchboard::mailbox).
     pub fn channel<T>(&self, number: u64) -> Result<Channel<T>, Error>
     where
         R: Carries<T>,
@@ -67,6 +77,10 @@ impl<R: Room> Switchboard<R> {
     /// assert_eq!(board.port(1), Ok(port));
     /// # Ok::<(), seryugo::Error>(())
     /// ```
+    ///
+    /// # Errors
+    ///
+    /// As [`mailbox`](Switchboard::mailbox).
     pub fn port<T>(&self, number: u64) -> Result<Port<T>, Error>
     where
         R: Carries<T>,
@@ -83,6 +97,10 @@ impl<R: Room> Switchboard<R> {
     /// assert_eq!(board.ivar(0), Ok(variable));
     /// # Ok::<(), seryugo::Error>(())
     /// ```
+    ///
+    /// # Errors
+    ///
+    /// As [`mailbox`](Switchboard::mailbox).
     pub fn ivar<T>(&self, number: u64) -> Result<IVar<T>, Error>
     where
         R: Carries<T>,
@@ -99,6 +117,10 @@ impl<R: Room> Switchboard<R> {
     /// assert_eq!(board.mvar(0), Ok(variable));
     /// # Ok::<(), seryugo::Error>(())
     /// ```
+    ///
+    /// # Errors
+    ///
+    /// As [`mailbox`](Switchboard::mailbox).
     pub fn mvar<T>(&self, number: u64) -> Result<MVar<T>, Error>
     where
         R: Carries<T>,
@@ -108,7 +130,7 @@ impl<R: Room> Switchboard<R> {
 
     /// The name of an object of this number, if it has this kind.
     fn named<N: Named>(&self, number: u64) -> Result<N, Error> {
-        let kind = self.read(|room, kind| unsafe { raw::seryugo_kind(room, number, kind) })?;
+        let kind = self.number_of(number, raw::seryugo_kind)?;
         if kind == N::KIND {
             Ok(self.name(number))
         } else {
@@ -128,8 +150,12 @@ impl<R: Room> Switchboard<R> {
     /// assert_eq!(board.sent(mailbox)?, 2);
     /// # Ok::<(), seryugo::Error>(())
     /// ```
+    ///
+    /// # Errors
+    ///
+    /// `NoSuch`: the name is of another switchboard.
     pub fn sent(&self, object: impl Target) -> Result<u64, Error> {
-        self.read_of(object, |room, object, count| unsafe { raw::seryugo_sent(room, object, count) })
+        self.read_of(object, raw::seryugo_sent)
     }
 
     /// How many were received from a mailbox or a port.
@@ -144,8 +170,12 @@ impl<R: Room> Switchboard<R> {
     /// assert_eq!(board.got(mailbox)?, 1);
     /// # Ok::<(), seryugo::Error>(())
     /// ```
+    ///
+    /// # Errors
+    ///
+    /// `NoSuch`: the name is of another switchboard, or nothing is received from such an object.
     pub fn got(&self, object: impl Object) -> Result<u64, Error> {
-        self.read_of(object, |room, object, count| unsafe { raw::seryugo_got(room, object, count) })
+        self.read_of(object, raw::seryugo_got)
     }
 
     /// How many wait in a mailbox, or are owed to an open port.
@@ -160,8 +190,12 @@ impl<R: Room> Switchboard<R> {
     /// assert_eq!(board.owed(mailbox)?, 1);
     /// # Ok::<(), seryugo::Error>(())
     /// ```
+    ///
+    /// # Errors
+    ///
+    /// `NoSuch`: the name is of another switchboard, or nothing is owed by such an object.
     pub fn owed(&self, object: impl Object) -> Result<u64, Error> {
-        self.read_of(object, |room, object, count| unsafe { raw::seryugo_owed(room, object, count) })
+        self.read_of(object, raw::seryugo_owed)
     }
 
     /// How many of a mailbox or a channel are kept.
@@ -176,13 +210,15 @@ impl<R: Room> Switchboard<R> {
     /// assert!(board.kept(mailbox)? >= board.owed(mailbox)?);
     /// # Ok::<(), seryugo::Error>(())
     /// ```
+    ///
+    /// # Errors
+    ///
+    /// `NoSuch`: the name is of another switchboard.
     pub fn kept(&self, object: impl Target) -> Result<u64, Error> {
-        self.read_of(object, |room, object, count| unsafe { raw::seryugo_kept(room, object, count) })
+        self.read_of(object, raw::seryugo_kept)
     }
 
     /// What a variable holds; `None` if it is empty.
-    ///
-    /// Errors: `Unreadable` if it holds what can't be read as this type. It holds it still.
     ///
     /// ```
     /// # let board = seryugo::Switchboard::new(1_000)?;
@@ -193,15 +229,21 @@ impl<R: Room> Switchboard<R> {
     /// assert_eq!(board.held(variable)?, None);
     /// # Ok::<(), seryugo::Error>(())
     /// ```
+    ///
+    /// # Errors
+    ///
+    /// `NoSuch`: the name is of another switchboard. `NoMemory`. `Unreadable`: it holds what can't
+    /// be read as this type, and holds it still.
     pub fn held<V: Variable>(&self, variable: V) -> Result<Option<V::Message>, Error>
     where
         R: Carries<V::Message>,
     {
         let variable = self.here(variable)?;
-        let mut slot = R::slot();
-        match self.with_handle(|room| R::held(room, variable, &mut slot)) {
+        let mut found = R::nothing();
+        let code = R::held(&mut self.lock().handle, variable, &mut found);
+        match code {
             code::NOTHING => Ok(None),
-            code => received::<R, _>(code, &mut slot).map(Some),
+            code => received::<R, _>(code, found).map(Some),
         }
     }
 
@@ -218,9 +260,13 @@ impl<R: Room> Switchboard<R> {
     /// assert!(!board.is_open(port)?);
     /// # Ok::<(), seryugo::Error>(())
     /// ```
+    ///
+    /// # Errors
+    ///
+    /// `NoSuch`: the name is of another switchboard.
     pub fn is_open<T>(&self, port: Port<T>) -> Result<bool, Error> {
         let port = self.here(port)?;
-        done_or(self.with_handle(|room| unsafe { raw::seryugo_is_open(room, port) }), code::CLOSED)
+        done_or(raw::seryugo_is_open(&mut self.lock().handle, port), code::CLOSED)
     }
 
     /// A port's channel.
@@ -234,8 +280,12 @@ impl<R: Room> Switchboard<R> {
     /// assert_eq!(board.channel_of(port)?, channel);
     /// # Ok::<(), seryugo::Error>(())
     /// ```
+    ///
+    /// # Errors
+    ///
+    /// `NoSuch`: the name is of another switchboard.
     pub fn channel_of<T>(&self, port: Port<T>) -> Result<Channel<T>, Error> {
-        let channel = self.read_of(port, |room, port, channel| unsafe { raw::seryugo_channel_of(room, port, channel) })?;
+        let channel = self.read_of(port, raw::seryugo_channel_of)?;
         Ok(self.name(channel))
     }
 
@@ -250,13 +300,22 @@ impl<R: Room> Switchboard<R> {
     /// assert_eq!(board.start_of(port)?, 1);
     /// # Ok::<(), seryugo::Error>(())
     /// ```
+    ///
+    /// # Errors
+    ///
+    /// `NoSuch`: the name is of another switchboard.
     pub fn start_of<T>(&self, port: Port<T>) -> Result<u64, Error> {
-        self.read_of(port, |room, port, start| unsafe { raw::seryugo_start_of(room, port, start) })
+        self.read_of(port, raw::seryugo_start_of)
     }
 
     /// A number that an object has.
-    fn read_of(&self, object: impl Named, call: impl FnOnce(&mut Handle, u64, &mut u64) -> u32) -> Result<u64, Error> {
-        let object = self.here(object)?;
-        self.read(|room, number| call(room, object, number))
+    fn read_of(&self, object: impl Named, call: Reader) -> Result<u64, Error> {
+        self.number_of(self.here(object)?, call)
+    }
+
+    /// A number that the object with this number has.
+    fn number_of(&self, object: u64, call: Reader) -> Result<u64, Error> {
+        let room = &mut self.lock().handle;
+        written(|number| call(room, object, number))
     }
 }

@@ -8,8 +8,9 @@ use std::sync::{Condvar, Mutex, MutexGuard, PoisonError};
 use std::task::Waker;
 use std::time::{Duration, Instant};
 
-/// If more calls than this were made on the switchboard while a seat waited, the answer to its next call isn't near. In a token round
-/// eight threads there are some 20 calls between two waits of each.
+/// If more calls than this were made on the switchboard while a seat waited, the answer to its next
+/// call isn't near. In a token round eight threads there are some 20 calls between two waits of
+/// each.
 const FEW_CALLS: u64 = 32;
 /// If less is left until its time limit, a thread sleeps at once. All looks take less.
 const LONGEST_LOOK: Duration = Duration::from_micros(500);
@@ -36,9 +37,11 @@ const NOBODY: u64 = u64::MAX;
 
 /// What a seat waits by.
 ///
-/// The room returns a parked seat as due once, until the seat asks again, and each return has a wake. So a wake that is on its way
-/// as its seat withdraws the call comes late: it ends a later wait too early. Then the seat asks again in vain, and waits on. No
-/// wake for the last ask is lost, since the state becomes `AWAKE` only before an ask, and never between the ask and the sleep.
+/// The room returns a parked seat as due once, until the seat asks again, and each return has a
+/// wake. So a wake that is on its way as its seat withdraws the call comes late: it ends a later
+/// wait too early. Then the seat asks again in vain, and waits on. No wake for the last ask is
+/// lost, since the state becomes `AWAKE` only before an ask, and never between the ask and the
+/// sleep.
 pub(crate) struct Parker {
     /// The seat's number.
     number: u64,
@@ -57,8 +60,8 @@ pub(crate) struct Parker {
     parked_at: AtomicU64,
 }
 
-// All of it is in one line of memory. The thread that wakes and the one that is woken run on two processors, and each line that both
-// use has to go from one to the other.
+// All of it is in one line of memory. The thread that wakes and the one that is woken run on two
+// processors, and each line that both use has to go from one to the other.
 #[cfg(target_os = "linux")]
 const _: () = assert!(mem::size_of::<Parker>() <= 64);
 
@@ -89,7 +92,8 @@ impl Parker {
     /// The same, but at most until then. Returns whether it was woken.
     pub fn park_until(&self, deadline: Instant) -> bool {
         let has_time = deadline.saturating_duration_since(Instant::now()) > LONGEST_LOOK;
-        let is_woken = has_time && self.is_soon_woken(pass_by_spinning) || self.sleep_until(deadline);
+        let is_woken =
+            has_time && self.is_soon_woken(pass_by_spinning) || self.sleep_until(deadline);
         self.forget_wake();
         is_woken
     }
@@ -111,7 +115,8 @@ impl Parker {
             let old = self.waker().replace(new);
             drop(old);
         }
-        let state = self.state.compare_exchange(AWAKE, LISTENS, Ordering::AcqRel, Ordering::Acquire);
+        let state =
+            self.state.compare_exchange(AWAKE, LISTENS, Ordering::AcqRel, Ordering::Acquire);
         state != Err(WOKEN)
     }
 
@@ -166,7 +171,8 @@ impl Parker {
         let _ = self.state.compare_exchange(AWAKE, ASLEEP, Ordering::AcqRel, Ordering::Acquire);
     }
 
-    /// Wakes the thread or the future, or has its next wait end at once, for a call of that seat or of none.
+    /// Wakes the thread or the future, or has its next wait end at once, for a call of that seat or
+    /// of none.
     pub fn unpark(&self, by: Option<&Parker>) -> Woken {
         self.woken_by.store(by.map_or(NOBODY, |by| by.number), Ordering::Relaxed);
         match self.state.swap(WOKEN, Ordering::AcqRel) {
@@ -186,7 +192,8 @@ impl Parker {
         }
     }
 
-    /// The seat made a call that may park it, or made it again. So many calls were made on the switchboard.
+    /// The seat made a call that may park it, or made it again. So many calls were made on the
+    /// switchboard.
     #[inline]
     pub fn note_ask(&self, is_again: bool, is_parked: bool, calls: u64) {
         if is_again {
@@ -198,8 +205,8 @@ impl Parker {
         }
     }
 
-    /// The seat's call has just woken another seat. If a thread slept there, or that seat had woken this one, it may answer
-    /// soon: so in its next wait this seat's thread may look for longer.
+    /// The seat's call has just woken another seat. If a thread slept there, or that seat had woken
+    /// this one, it may answer soon: so in its next wait this seat's thread may look for longer.
     pub fn note_woken(&self, other: &Parker, woken: Woken) {
         if woken == Woken::Thread || self.woken_by.load(Ordering::Relaxed) == other.number {
             self.is_answer_near.store(true, Ordering::Relaxed);

@@ -9,8 +9,9 @@ const FIRST: usize = 8;
 /// So many that there is no memory for the last.
 const PARTS: usize = 40;
 
-/// A parker for each seat, by the seat's place among those that were made here. No parker moves, so that a thread that wakes
-/// another one needs neither the lock nor a count of who uses it. A thread that looks at its own slows no other one.
+/// A parker for each seat, by the seat's place among those that were made here. No parker moves, so
+/// that a thread that wakes another one needs neither the lock nor a count of who uses it. A thread
+/// that looks at its own slows no other one.
 pub(crate) struct Parkers {
     parts: [OnceLock<Box<[Apart<Parker>]>>; PARTS],
 }
@@ -34,7 +35,8 @@ impl Parkers {
         let (part, at) = place_of(place)?;
         let first = place - at as u64;
         let new = |number| Apart(Parker::new(number));
-        let parkers = self.parts.get(part)?.get_or_init(|| (first..).take(FIRST << part).map(new).collect());
+        let parkers =
+            self.parts.get(part)?.get_or_init(|| (first..).take(FIRST << part).map(new).collect());
         parkers.get(at).map(|parker| &parker.0)
     }
 }
@@ -54,7 +56,8 @@ mod tests {
     #[test]
     fn each_place_has_a_parker_of_its_own() {
         let parkers = Parkers::new();
-        let made: Vec<*const Parker> = (0..1_000).map(|place| parkers.make(place).unwrap() as *const _).collect();
+        let made: Vec<*const Parker> =
+            (0..1_000).map(|place| std::ptr::from_ref(parkers.make(place).unwrap())).collect();
         for (place, &at) in made.iter().enumerate() {
             assert!(std::ptr::eq(parkers.get(place as u64).unwrap(), at));
             assert_eq!(made.iter().filter(|other| **other == at).count(), 1);

@@ -1,10 +1,12 @@
-//! The library's calls that are the same for both kinds of switchboard, as its header has them, and a handle that is closed when it
-//! is dropped. `numbers` and `bytes` have the others.
+//! The library's calls that are the same for both kinds of switchboard, as its header has them, and
+//! a handle that is closed when it is dropped. `numbers` and `bytes` have the others.
+//!
+//! The library tests each argument but a pointer to bytes. So a call that takes handles by
+//! reference and numbers is safe.
 
 use crate::error::Error;
 use crate::sum::RawSum;
-use std::mem::ManuallyDrop;
-use std::os::raw::c_void;
+use std::ffi::c_void;
 use std::ptr;
 
 /// What a call returns, as the header numbers it.
@@ -18,32 +20,55 @@ pub mod code {
     pub const NO_MEMORY: u32 = 11;
     pub const UNLAWFUL: u32 = 17;
     pub const FAULT: u32 = 18;
-    /// The library never returns it: a call that this crate didn't make, since nobody took the entries of a full journal.
+    /// The library never returns it: a call that this crate didn't make, since nobody took the
+    /// entries of a full journal.
     pub const NOT_KEPT: u32 = u32::MAX - 1;
 }
 
-/// A handle to a room, a lane, a feed, a reading or a taken journal. A thread that has it by `&mut` has it alone, which orders its
-/// calls.
+/// A handle to a room, a lane, a feed, a reading or a taken journal, which is open until it is
+/// dropped. A thread that has it by `&mut` has it alone, which orders its calls.
 #[repr(C)]
 pub struct Handle {
     at: *mut c_void,
 }
 
-// What a handle leads to may go to another thread: the library proves that of each.
+// SAFETY: what a handle leads to may go to another thread: the library proves that of each.
 unsafe impl Send for Handle {}
+
+/// Where a call writes a handle that it opens. Nothing else writes it.
+#[repr(C)]
+pub struct Opening {
+    at: *mut c_void,
+}
+
+impl Opening {
+    pub const fn new() -> Opening {
+        Opening {
+            at: ptr::null_mut(),
+        }
+    }
+
+    /// The handle, once a call has opened it.
+    pub fn opened(self) -> Result<Handle, Error> {
+        if self.at.is_null() {
+            return Err(Error::Unknown(code::DONE));
+        }
+        Ok(Handle { at: self.at })
+    }
+}
 
 impl Handle {
     /// A handle that is opened by a call which writes it.
-    pub fn opened(open: impl FnOnce(&mut Handle) -> u32) -> Result<Handle, Error> {
-        // Until it is opened it must not be closed.
-        let mut handle = ManuallyDrop::new(Handle { at: ptr::null_mut() });
-        done(open(&mut handle))?;
-        Ok(ManuallyDrop::into_inner(handle))
+    pub fn opened(open: impl FnOnce(&mut Opening) -> u32) -> Result<Handle, Error> {
+        let mut opening = Opening::new();
+        done(open(&mut opening))?;
+        opening.opened()
     }
 }
 
 impl Drop for Handle {
     fn drop(&mut self) {
+        // SAFETY: a call has opened it, and none is made on it from here on.
         unsafe { seryugo_close(Closing { at: self.at }) }
     }
 }
@@ -80,50 +105,79 @@ pub fn written(call: impl FnOnce(&mut u64) -> u32) -> Result<u64, Error> {
     Ok(number)
 }
 
-extern "C" {
+unsafe extern "C" {
     fn seryugo_close(handle: Closing);
-    pub fn seryugo_reading_take_from(reading: *mut Handle, at: *const c_void, length: usize) -> u32;
-    pub fn seryugo_reading_entries(reading: *mut Handle, count: *mut u64) -> u32;
-    pub fn seryugo_reading_lines(reading: *mut Handle, lines: *mut u64) -> u32;
-    pub fn seryugo_reading_sum(reading: *mut Handle, sum: *mut RawSum) -> u32;
-    pub fn seryugo_reading_end(reading: *mut Handle) -> u32;
-    pub fn seryugo_room_restore(reading: *mut Handle, limit: u64, room: *mut Handle) -> u32;
-    pub fn seryugo_reading_compact(reading: *mut Handle, journal: *mut Handle, count: *mut u64) -> u32;
-    pub fn seryugo_new_seat(room: *mut Handle, seat: *mut u64) -> u32;
-    pub fn seryugo_leave(room: *mut Handle, seat: u64) -> u32;
-    pub fn seryugo_withdraw(room: *mut Handle, seat: u64) -> u32;
-    pub fn seryugo_next_due(room: *mut Handle, seat: *mut u64) -> u32;
-    pub fn seryugo_new_mailbox(room: *mut Handle, seat: u64, mailbox: *mut u64) -> u32;
-    pub fn seryugo_new_channel(room: *mut Handle, seat: u64, channel: *mut u64) -> u32;
-    pub fn seryugo_new_port(room: *mut Handle, seat: u64, channel: u64, port: *mut u64) -> u32;
-    pub fn seryugo_copy_port(room: *mut Handle, seat: u64, port: u64, copy: *mut u64) -> u32;
-    pub fn seryugo_close_port(room: *mut Handle, seat: u64, port: u64) -> u32;
-    pub fn seryugo_new_ivar(room: *mut Handle, seat: u64, variable: *mut u64) -> u32;
-    pub fn seryugo_new_mvar(room: *mut Handle, seat: u64, variable: *mut u64) -> u32;
-    pub fn seryugo_lane_open(room: *mut Handle, target: u64, capacity: usize, lane: *mut Handle, number: *mut u64) -> u32;
-    pub fn seryugo_lane_finish(lane: *mut Handle) -> u32;
-    pub fn seryugo_lane_close(room: *mut Handle, lane: *mut Handle) -> u32;
-    pub fn seryugo_lane_drain(room: *mut Handle, lane: u64, count: *mut u64) -> u32;
-    pub fn seryugo_lane_abandon(room: *mut Handle, lane: u64) -> u32;
-    pub fn seryugo_feed_open(room: *mut Handle, channel: u64, capacity: usize, feed: *mut Handle, number: *mut u64) -> u32;
-    pub fn seryugo_feed_pump(room: *mut Handle, feed: u64, count: *mut u64) -> u32;
-    pub fn seryugo_feed_port(feed: *mut Handle, port: *mut u64) -> u32;
-    pub fn seryugo_feed_end(room: *mut Handle, feed: u64) -> u32;
-    pub fn seryugo_reserve(room: *mut Handle, entries: usize) -> u32;
-    pub fn seryugo_cut(room: *mut Handle) -> u32;
-    pub fn seryugo_cut_open(room: *mut Handle) -> u32;
-    pub fn seryugo_take_journal(room: *mut Handle, journal: *mut Handle, count: *mut u64) -> u32;
-    pub fn seryugo_take_journal_open(room: *mut Handle, journal: *mut Handle, count: *mut u64) -> u32;
-    pub fn seryugo_compact(room: *mut Handle, journal: *mut Handle, count: *mut u64) -> u32;
-    pub fn seryugo_compact_and_cut(room: *mut Handle, journal: *mut Handle, count: *mut u64) -> u32;
-    pub fn seryugo_kind(room: *mut Handle, object: u64, kind: *mut u64) -> u32;
-    pub fn seryugo_channel_of(room: *mut Handle, port: u64, channel: *mut u64) -> u32;
-    pub fn seryugo_start_of(room: *mut Handle, port: u64, start: *mut u64) -> u32;
-    pub fn seryugo_sent(room: *mut Handle, object: u64, count: *mut u64) -> u32;
-    pub fn seryugo_got(room: *mut Handle, object: u64, count: *mut u64) -> u32;
-    pub fn seryugo_owed(room: *mut Handle, object: u64, count: *mut u64) -> u32;
-    pub fn seryugo_kept(room: *mut Handle, object: u64, count: *mut u64) -> u32;
-    pub fn seryugo_is_open(room: *mut Handle, port: u64) -> u32;
-    pub fn seryugo_entries(room: *mut Handle, count: *mut u64) -> u32;
-    pub fn seryugo_cut_at(room: *mut Handle, count: *mut u64) -> u32;
+    pub fn seryugo_reading_take_from(reading: &mut Handle, at: *const u8, length: usize) -> u32;
+    pub safe fn seryugo_reading_entries(reading: &mut Handle, count: &mut u64) -> u32;
+    pub safe fn seryugo_reading_lines(reading: &mut Handle, lines: &mut u64) -> u32;
+    pub safe fn seryugo_reading_sum(reading: &mut Handle, sum: &mut RawSum) -> u32;
+    pub safe fn seryugo_reading_end(reading: &mut Handle) -> u32;
+    pub safe fn seryugo_room_restore(reading: &mut Handle, limit: u64, room: &mut Opening) -> u32;
+    pub safe fn seryugo_reading_compact(
+        reading: &mut Handle,
+        journal: &mut Opening,
+        count: &mut u64,
+    ) -> u32;
+    pub safe fn seryugo_new_seat(room: &mut Handle, seat: &mut u64) -> u32;
+    pub safe fn seryugo_leave(room: &mut Handle, seat: u64) -> u32;
+    pub safe fn seryugo_withdraw(room: &mut Handle, seat: u64) -> u32;
+    pub safe fn seryugo_next_due(room: &mut Handle, seat: &mut u64) -> u32;
+    pub safe fn seryugo_new_mailbox(room: &mut Handle, seat: u64, mailbox: &mut u64) -> u32;
+    pub safe fn seryugo_new_channel(room: &mut Handle, seat: u64, channel: &mut u64) -> u32;
+    pub safe fn seryugo_new_port(room: &mut Handle, seat: u64, channel: u64, port: &mut u64)
+        -> u32;
+    pub safe fn seryugo_copy_port(room: &mut Handle, seat: u64, port: u64, copy: &mut u64) -> u32;
+    pub safe fn seryugo_close_port(room: &mut Handle, seat: u64, port: u64) -> u32;
+    pub safe fn seryugo_new_ivar(room: &mut Handle, seat: u64, variable: &mut u64) -> u32;
+    pub safe fn seryugo_new_mvar(room: &mut Handle, seat: u64, variable: &mut u64) -> u32;
+    pub safe fn seryugo_lane_open(
+        room: &mut Handle,
+        target: u64,
+        capacity: usize,
+        lane: &mut Opening,
+        number: &mut u64,
+    ) -> u32;
+    pub safe fn seryugo_lane_finish(lane: &mut Handle) -> u32;
+    pub safe fn seryugo_lane_close(room: &mut Handle, lane: &mut Handle) -> u32;
+    pub safe fn seryugo_lane_drain(room: &mut Handle, lane: u64, count: &mut u64) -> u32;
+    pub safe fn seryugo_lane_abandon(room: &mut Handle, lane: u64) -> u32;
+    pub safe fn seryugo_feed_open(
+        room: &mut Handle,
+        channel: u64,
+        capacity: usize,
+        feed: &mut Opening,
+        number: &mut u64,
+    ) -> u32;
+    pub safe fn seryugo_feed_pump(room: &mut Handle, feed: u64, count: &mut u64) -> u32;
+    pub safe fn seryugo_feed_port(feed: &mut Handle, port: &mut u64) -> u32;
+    pub safe fn seryugo_feed_end(room: &mut Handle, feed: u64) -> u32;
+    pub safe fn seryugo_reserve(room: &mut Handle, entries: usize) -> u32;
+    pub safe fn seryugo_cut(room: &mut Handle) -> u32;
+    pub safe fn seryugo_cut_open(room: &mut Handle) -> u32;
+    pub safe fn seryugo_take_journal(
+        room: &mut Handle,
+        journal: &mut Opening,
+        count: &mut u64,
+    ) -> u32;
+    pub safe fn seryugo_take_journal_open(
+        room: &mut Handle,
+        journal: &mut Opening,
+        count: &mut u64,
+    ) -> u32;
+    pub safe fn seryugo_compact(room: &mut Handle, journal: &mut Opening, count: &mut u64) -> u32;
+    pub safe fn seryugo_compact_and_cut(
+        room: &mut Handle,
+        journal: &mut Opening,
+        count: &mut u64,
+    ) -> u32;
+    pub safe fn seryugo_kind(room: &mut Handle, object: u64, kind: &mut u64) -> u32;
+    pub safe fn seryugo_channel_of(room: &mut Handle, port: u64, channel: &mut u64) -> u32;
+    pub safe fn seryugo_start_of(room: &mut Handle, port: u64, start: &mut u64) -> u32;
+    pub safe fn seryugo_sent(room: &mut Handle, object: u64, count: &mut u64) -> u32;
+    pub safe fn seryugo_got(room: &mut Handle, object: u64, count: &mut u64) -> u32;
+    pub safe fn seryugo_owed(room: &mut Handle, object: u64, count: &mut u64) -> u32;
+    pub safe fn seryugo_kept(room: &mut Handle, object: u64, count: &mut u64) -> u32;
+    pub safe fn seryugo_is_open(room: &mut Handle, port: u64) -> u32;
+    pub safe fn seryugo_entries(room: &mut Handle, count: &mut u64) -> u32;
+    pub safe fn seryugo_cut_at(room: &mut Handle, count: &mut u64) -> u32;
 }

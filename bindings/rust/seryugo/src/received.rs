@@ -3,101 +3,86 @@
 use crate::entry::{Call, Entry, Reply, Who};
 use crate::error::Error;
 use crate::numbers::RawMaker;
-use crate::raw::{done, Handle};
+use crate::raw::{done, Handle, Opening};
 use crate::room::Bytes;
 use crate::sum::{RawSum, Sum};
+use std::ffi::c_void;
 use std::mem::MaybeUninit;
-use std::os::raw::c_void;
+use std::ptr;
 use std::slice;
 
 /// The most bytes of a message that lie in the struct itself.
 const IN_PLACE: usize = 78;
 
-/// A message of the library. The call that receives writes `length` and `block`. It writes the others only if the message needs
-/// them.
+/// A message of the library, or a journal's text. It is freed when it is dropped.
+///
+/// Only a call that receives writes it, once. If the message lies elsewhere, the call writes
+/// `block` and `owner`. Else it writes so many bytes of `in_place`.
 #[repr(C)]
-pub struct RawBytes {
+pub struct Received {
     length: usize,
     block: *const u8,
-    /// What keeps a message that lies elsewhere.
     owner: MaybeUninit<Share>,
     in_place: [MaybeUninit<u8>; IN_PLACE],
 }
 
+/// What keeps a message that lies elsewhere.
 #[derive(Clone, Copy)]
 #[repr(C)]
 struct Share {
     at: *mut c_void,
 }
 
-/// Where a call writes a message.
-pub struct Slot(MaybeUninit<RawBytes>);
-
-impl Slot {
-    #[inline]
-    pub fn new() -> Slot {
-        Slot(MaybeUninit::uninit())
-    }
-
-    #[inline]
-    pub fn as_mut_ptr(&mut self) -> *mut RawBytes {
-        self.0.as_mut_ptr()
-    }
-}
-
-/// A message that was received, or a journal's text. It is freed when it is dropped.
-pub struct Received(RawBytes);
-
 impl Received {
-    /// The message in a slot.
-    ///
-    /// # Safety
-    ///
-    /// A call has written a message to the slot, and it is taken out once.
+    /// The empty message, in whose place a call writes another one.
     #[inline]
-    pub unsafe fn taken(slot: &mut Slot) -> Received {
-        Received(unsafe { slot.0.assume_init_read() })
+    pub const fn nothing() -> Received {
+        Received {
+            length: 0,
+            block: ptr::null(),
+            owner: MaybeUninit::uninit(),
+            in_place: [const { MaybeUninit::uninit() }; IN_PLACE],
+        }
     }
 
     /// The text of a taken journal, whose first entry is at the position `from`.
     pub fn text_of(journal: &mut Handle, from: u64) -> Result<Received, Error> {
-        let mut text = Slot::new();
-        done(unsafe { seryugo_journal_text(journal, from, text.as_mut_ptr()) })?;
-        Ok(unsafe { Received::taken(&mut text) })
+        let mut text = Received::nothing();
+        done(seryugo_journal_text(journal, from, &mut text))?;
+        Ok(text)
     }
 
     /// The same with sums: behind the piece that has the first sum. Returns this piece's sum, too.
-    pub fn sealed_text_of(journal: &mut Handle, from: u64, after: Option<Sum>) -> Result<(Received, Sum), Error> {
-        let mut text = Slot::new();
+    pub fn sealed_text_of(
+        journal: &mut Handle,
+        from: u64,
+        after: Option<Sum>,
+    ) -> Result<(Received, Sum), Error> {
+        let mut text = Received::nothing();
         let mut sum = RawSum::from(after);
-        done(unsafe { seryugo_sealed_text(journal, from, &mut sum, text.as_mut_ptr()) })?;
-        Ok((unsafe { Received::taken(&mut text) }, sum.sum()))
+        done(seryugo_sealed_text(journal, from, &mut sum, &mut text))?;
+        Ok((text, sum.sum()))
     }
 
     #[inline]
     pub fn as_slice(&self) -> &[u8] {
-        let RawBytes {
-            length,
-            block,
-            in_place,
-            ..
-        } = &self.0;
-        // The library has written so many bytes. Those elsewhere stay until they are freed.
-        let at = if *length > IN_PLACE {
-            *block
+        let at = if self.length > IN_PLACE {
+            self.block
         } else {
-            in_place.as_ptr().cast()
+            self.in_place.as_ptr().cast()
         };
-        unsafe { slice::from_raw_parts(at, *length) }
+        // SAFETY: the library has written so many bytes. Those elsewhere stay until they are freed.
+        unsafe { slice::from_raw_parts(at, self.length) }
     }
 }
 
 impl Drop for Received {
     #[inline]
     fn drop(&mut self) {
-        if self.0.length > IN_PLACE {
-            // Then the library has written the owner too.
-            unsafe { seryugo_bytes_release(self.0.owner.assume_init()) }
+        if self.length > IN_PLACE {
+            // SAFETY: the library has written the owner too, and nothing reads the bytes from here
+            // on.
+            unsafe { seryugo_bytes_release(self.owner.assume_init()) }
         }
     }
 }
@@ -107,6 +92,26 @@ impl Drop for Received {
 struct RawPlace {
     at: *const u8,
     length: usize,
+}
+
+impl RawPlace {
+    const NOTHING: RawPlace = RawPlace {
+        at: ptr::null(),
+        length: 0,
+    };
+
+    /// A copy of the bytes. The pointer of no bytes may be null.
+    ///
+    /// # Safety
+    ///
+    /// The entry's owner is open.
+    unsafe fn copied(&self) -> Vec<u8> {
+        match self.length {
+            0 => Vec::new(),
+            // SAFETY: the library has written a pointer to so many bytes, which the owner keeps.
+            length => unsafe { slice::from_raw_parts(self.at, length) }.to_vec(),
+        }
+    }
 }
 
 #[repr(C)]
@@ -123,52 +128,64 @@ struct RawReply {
     message: RawPlace,
 }
 
-/// An entry of the library. The call that hands it over writes it. Its owner keeps the messages.
+/// An entry of the library. Only the call that hands it over writes it, once. Its owner keeps the
+/// messages.
 #[repr(C)]
 pub struct RawEntry {
     maker: RawMaker,
     call: RawCall,
     reply: RawReply,
-    owner: Handle,
+    owner: Opening,
 }
 
 impl RawEntry {
+    fn nothing() -> RawEntry {
+        RawEntry {
+            maker: RawMaker::default(),
+            call: RawCall {
+                kind: 0,
+                object: 0,
+                message: RawPlace::NOTHING,
+            },
+            reply: RawReply {
+                kind: 0,
+                name: 0,
+                message: RawPlace::NOTHING,
+            },
+            owner: Opening::new(),
+        }
+    }
+
     /// The entry that a call hands over, with copies of its messages.
-    pub fn copied(call: impl FnOnce(*mut RawEntry) -> u32) -> Result<Entry<Bytes>, Error> {
-        let mut raw = MaybeUninit::uninit();
-        done(call(raw.as_mut_ptr()))?;
-        // A call that is done has written the entry.
+    pub fn copied(call: impl FnOnce(&mut RawEntry) -> u32) -> Result<Entry<Bytes>, Error> {
+        let mut raw = RawEntry::nothing();
+        done(call(&mut raw))?;
         let RawEntry {
             maker,
             call,
             reply,
             owner,
-        } = unsafe { raw.assume_init() };
-        let copied = |place: &RawPlace| unsafe { bytes_at(place) }.to_vec();
+        } = raw;
+        let owner = owner.opened()?;
+        // SAFETY: the owner is dropped behind the last copy.
+        let copied = |place: RawPlace| unsafe { place.copied() };
         let entry = Entry {
             who: Who::of(maker.kind, maker.number)?,
-            call: Call::of(call.kind, call.object, || copied(&call.message))?,
-            reply: Reply::of(reply.kind, reply.name, || copied(&reply.message))?,
+            call: Call::of(call.kind, call.object, || copied(call.message))?,
+            reply: Reply::of(reply.kind, reply.name, || copied(reply.message))?,
         };
         drop(owner);
         Ok(entry)
     }
 }
 
-/// The bytes at a place. The pointer of no bytes may be null.
-///
-/// # Safety
-///
-/// The entry's owner is kept as long as the slice is used.
-unsafe fn bytes_at(place: &RawPlace) -> &[u8] {
-    match place.length {
-        0 => &[],
-        length => unsafe { slice::from_raw_parts(place.at, length) },
-    }
-}
-
-extern "C" {
+unsafe extern "C" {
     fn seryugo_bytes_release(owner: Share);
-    fn seryugo_journal_text(journal: *mut Handle, from: u64, text: *mut RawBytes) -> u32;
-    fn seryugo_sealed_text(journal: *mut Handle, from: u64, sum: *mut RawSum, text: *mut RawBytes) -> u32;
+    safe fn seryugo_journal_text(journal: &mut Handle, from: u64, text: &mut Received) -> u32;
+    safe fn seryugo_sealed_text(
+        journal: &mut Handle,
+        from: u64,
+        sum: &mut RawSum,
+        text: &mut Received,
+    ) -> u32;
 }

@@ -20,7 +20,8 @@ use std::io::BufRead;
 pub enum RestoreError {
     /// The journal was read no further.
     Check(CheckError),
-    /// The text ends in the middle: this is what it has in whole lines. [`Switchboard::restore_torn`] goes on from there.
+    /// The text ends in the middle: this is what it has in whole lines.
+    /// [`Switchboard::restore_torn`] goes on from there.
     Torn(Kept),
     /// The limit isn't from 1 to 2^32.
     OutOfBounds,
@@ -30,7 +31,9 @@ impl fmt::Display for RestoreError {
     fn fmt(&self, f: &mut fmt::Formatter<'_>) -> fmt::Result {
         match self {
             RestoreError::Check(error) => error.fmt(f),
-            RestoreError::Torn(kept) => write!(f, "the journal ends in the middle, behind {} entries", kept.entries),
+            RestoreError::Torn(kept) => {
+                write!(f, "the journal ends in the middle, behind {} entries", kept.entries)
+            }
             RestoreError::OutOfBounds => Error::OutOfBounds.fmt(f),
         }
     }
@@ -52,15 +55,16 @@ impl From<CheckError> for RestoreError {
 }
 
 impl<R: Room> Switchboard<R> {
-    /// Reads a journal to its end, and returns a switchboard that goes on from there: with the objects that the journal made,
-    /// and what they held behind its last entry. Its journal is cut, and takes `limit` entries between two cuts.
+    /// Reads a journal to its end, and returns a switchboard that goes on from there: with the
+    /// objects that the journal made, and what they held behind its last entry. Its journal is cut,
+    /// and takes `limit` entries between two cuts.
     ///
-    /// Find the objects again by their numbers ([`mailbox`](Switchboard::mailbox) and so on). The seats, lanes and feeds of the
-    /// journal are gone. New ones have numbers that the journal doesn't have.
+    /// Find the objects again by their numbers ([`mailbox`](Switchboard::mailbox) and so on). The
+    /// seats, lanes and feeds of the journal are gone. New ones have numbers that the journal
+    /// doesn't have.
     ///
-    /// If the journal has sums, the next piece needs the last one: call [`restore_torn`](Switchboard::restore_torn), which returns it.
-    ///
-    /// Errors: the journal isn't lawful, or has a fault, or ends in the middle.
+    /// If the journal has sums, the next piece needs the last one: call
+    /// [`restore_torn`](Switchboard::restore_torn), which returns it.
     ///
     /// ```
     /// use seryugo::{Numbers, Switchboard};
@@ -83,6 +87,10 @@ impl<R: Room> Switchboard<R> {
     /// # Ok(())
     /// # }
     /// ```
+    ///
+    /// # Errors
+    ///
+    /// The journal isn't lawful, or has a fault, or ends in the middle.
     pub fn restore(journal: impl BufRead, limit: u64) -> Result<Switchboard<R>, RestoreError> {
         let checker = checked(journal)?;
         if !checker.is_whole() {
@@ -91,17 +99,21 @@ impl<R: Room> Switchboard<R> {
         restored(checker, limit)
     }
 
-    /// The same of a journal that may end in the middle, as after a crash. The switchboard goes on from the last whole line.
+    /// The same of a journal that may end in the middle, as after a crash. The switchboard goes on
+    /// from the last whole line.
     ///
-    /// Before you write the next piece, cut the text to the bytes that were kept, and write their ending. If the text has sums, write
-    /// the next piece by [`Journal::write_sealed_to`](crate::Journal::write_sealed_to) behind [`Kept::sum`]. This holds of a whole text
-    /// too. A piece without its end has no sum yet: a change among its lines that leaves a lawful journal isn't seen.
+    /// Before you write the next piece, cut the text to the bytes that were kept, and write their
+    /// ending. If the text has sums, write the next piece by
+    /// [`Journal::write_sealed_to`](crate::Journal::write_sealed_to) behind [`Kept::sum`]. This
+    /// holds of a whole text too. A piece without its end has no sum yet: a change among its lines
+    /// that leaves a lawful journal isn't seen.
     ///
     /// ```
     /// use seryugo::{Numbers, Switchboard};
     ///
     /// # fn main() -> Result<(), Box<dyn std::error::Error>> {
-    /// let mut file = b"journal 1\nseat 0 mailbox: made 0\nseat 0 send 0 5: done\nseat 0 recv 0".to_vec();
+    /// let mut file = b"journal 1\nseat 0 mailbox: made 0\n".to_vec();
+    /// file.extend_from_slice(b"seat 0 send 0 5: done\nseat 0 recv 0");
     /// let (board, kept) = Switchboard::<Numbers>::restore_torn(&file[..], 1_000)?;
     /// assert_eq!((kept.entries, kept.bytes), (2, 55));
     /// assert_eq!(board.owed(board.mailbox(0)?)?, 1);
@@ -111,7 +123,14 @@ impl<R: Room> Switchboard<R> {
     /// # Ok(())
     /// # }
     /// ```
-    pub fn restore_torn(journal: impl BufRead, limit: u64) -> Result<(Switchboard<R>, Kept), RestoreError> {
+    ///
+    /// # Errors
+    ///
+    /// The journal isn't lawful, or has a fault.
+    pub fn restore_torn(
+        journal: impl BufRead,
+        limit: u64,
+    ) -> Result<(Switchboard<R>, Kept), RestoreError> {
         let checker = checked(journal)?;
         let kept = checker.kept().map_err(CheckError::from)?;
         Ok((restored(checker, limit)?, kept))

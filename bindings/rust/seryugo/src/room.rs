@@ -5,8 +5,8 @@ use crate::error::Error;
 use std::fmt::Debug;
 use std::hash::Hash;
 
-/// A switchboard whose messages are bytes. Values of each type that implements [`Message`](crate::Message) are turned into bytes and
-/// back.
+/// A switchboard whose messages are bytes. Values of each type that implements
+/// [`Message`](crate::Message) are turned into bytes and back.
 ///
 /// ```
 /// use seryugo::{Bytes, Switchboard};
@@ -64,13 +64,16 @@ pub trait Room: Calls + Copy + Debug + Eq + Hash + Send + Sync + 'static {
     type Message: Clone + Debug + Eq + Hash + Send + Sync + 'static;
 }
 
-/// A switchboard that takes messages of this type: [`Numbers`] takes `u64`, and [`Bytes`] each type that implements
-/// [`Message`](crate::Message).
+/// A switchboard that takes messages of this type: [`Numbers`] takes `u64`, and [`Bytes`] each type
+/// that implements [`Message`](crate::Message).
 ///
 /// ```
 /// use seryugo::{Carries, Error, Mailbox, Seat, Switchboard};
 ///
-/// fn send_twice<R: Carries<u64>>(seat: &mut Seat<'_, R>, mailbox: Mailbox<u64>) -> Result<(), Error> {
+/// fn send_twice<R>(seat: &mut Seat<'_, R>, mailbox: Mailbox<u64>) -> Result<(), Error>
+/// where
+///     R: Carries<u64>,
+/// {
 ///     seat.send(mailbox, 5)?;
 ///     Ok(seat.send(mailbox, 5)?)
 /// }
@@ -83,18 +86,25 @@ pub trait Room: Calls + Copy + Debug + Eq + Hash + Send + Sync + 'static {
 /// ```
 #[diagnostic::on_unimplemented(
     message = "a switchboard of `{Self}` takes no messages of the type `{T}`",
-    note = "a switchboard of bytes takes each type that implements `Message`, and one of numbers takes `u64`"
+    note = "one of bytes takes each type that implements `Message`, and one of numbers `u64`"
 )]
-pub trait Carries<T>: Room + Carrying<T> {}
+pub trait Carries<T>: Room {
+    /// Nobody else has such a value, so only this crate implements the trait.
+    #[doc(hidden)]
+    const SEAL: Seal;
 
-/// How a message is turned into what the library takes, and back.
-pub trait Carrying<T>: Calls {
     /// Makes a call with what is sent.
+    #[doc(hidden)]
     fn with_sent<O>(message: &T, call: impl FnOnce(Self::Sent<'_>) -> O) -> O;
 
     /// What is sent, kept for a call that is made again later.
+    #[doc(hidden)]
     fn kept(message: &T) -> Self::Kept;
 
     /// The message that was received.
+    #[doc(hidden)]
     fn read(received: Self::Received) -> Result<T, Error>;
 }
+
+/// What an implementation of [`Carries`] has.
+pub struct Seal;

@@ -37,7 +37,8 @@ pub enum End {
     Unknown(u32),
 }
 
-/// A report, and how the replay ended. If the script has a fault, or there was no memory, the report is empty.
+/// A report, and how the replay ended. If the script has a fault, or there was no memory, the
+/// report is empty.
 ///
 /// ```
 /// let replayed = seryugo::replay(b"cml 1\nmailbox m\nthread A\nA send m 5\n", 10).unwrap();
@@ -78,7 +79,7 @@ struct RawEnd {
 const NO_ROOM: u32 = 1;
 const BAD_LIMIT: u32 = 2;
 
-extern "C" {
+unsafe extern "C" {
     fn seryugo_replay(
         script: *const u8,
         script_length: usize,
@@ -99,6 +100,10 @@ extern "C" {
 /// assert_eq!(replayed.end, End::Done);
 /// assert!(replayed.report.contains("A recv m: 5"));
 /// ```
+///
+/// # Errors
+///
+/// The limit is 0, or more than [`MOST_ENTRIES`].
 pub fn replay(script: &[u8], limit: u64) -> Result<Replayed, BadLimit> {
     let mut report = vec![0; 2 * script.len()];
     let mut end = RawEnd::default();
@@ -118,8 +123,10 @@ pub fn replay(script: &[u8], limit: u64) -> Result<Replayed, BadLimit> {
 }
 
 fn call(script: &[u8], limit: u64, report: &mut [u8], end: &mut RawEnd) -> u32 {
-    // Both slices and `end` are this caller's own, and the call keeps none of them.
-    unsafe { seryugo_replay(script.as_ptr(), script.len(), limit, report.as_mut_ptr(), report.len(), end) }
+    // SAFETY: both slices and `end` are this caller's own, and the call keeps none of them.
+    unsafe {
+        seryugo_replay(script.as_ptr(), script.len(), limit, report.as_mut_ptr(), report.len(), end)
+    }
 }
 
 impl RawEnd {

@@ -1,8 +1,8 @@
 //! A seat, from which one thread calls.
 
-use crate::calls::{self, received};
+use crate::calls::{received, Give, Read};
 use crate::error::{handing_back, Error, SendError};
-use crate::names::{Channel, IVar, MVar, Mailbox, Named, Port, Source, Variable};
+use crate::names::{Channel, MVar, Mailbox, Named, Source, Variable};
 use crate::parker::Parker;
 use crate::raw::{self, code, done, done_or, Handle};
 use crate::room::{Bytes, Carries, Room};
@@ -12,8 +12,9 @@ use std::fmt;
 
 /// A seat at a switchboard, for one thread at a time. It leaves when it is dropped.
 ///
-/// A call that would wait blocks. If all other seats wait, and no lane is open, it fails with [`Error::Stalled`]: nothing could
-/// answer it. Drop the seat as soon as its thread has no more to do: while the seat is free, no call fails with `Stalled`.
+/// A call that would wait blocks. If all other seats wait, and no lane is open, it fails with
+/// [`Error::Stalled`]: nothing could answer it. Drop the seat as soon as its thread has no more to
+/// do: while the seat is free, no call fails with `Stalled`.
 ///
 /// ```
 /// use seryugo::{Error, Switchboard};
@@ -40,15 +41,30 @@ use std::fmt;
 /// | as a future | [`recv_async`](Seat::recv_async) | [`get_async`](Seat::get_async) | [`take_async`](Seat::take_async), [`swap_async`](Seat::swap_async) |
 /// | not at all | [`recv_poll`](Seat::recv_poll), [`try_iter`](Seat::try_iter) | [`get_poll`](Seat::get_poll) | [`take_poll`](Seat::take_poll) |
 ///
-/// - A call whose time passes fails with [`Error::TimedOut`], and has done nothing. Neither has a future that is dropped.
+/// - A call whose time passes fails with [`Error::TimedOut`], and has done nothing. Neither has a
+///   future that is dropped.
 /// - The journal has polls that found nothing. It has no call that timed out.
-/// - If all seats wait, and no lane is open, each call that waits fails with [`Error::Stalled`]. A seat that waits with a time limit
-///   or as a future counts as one that waits. If it is to answer others later, keep another seat free.
+/// - If all seats wait, and no lane is open, each call that waits fails with [`Error::Stalled`]. A
+///   seat that waits with a time limit or as a future counts as one that waits. If it is to answer
+///   others later, keep another seat free.
+///
+/// # How a call fails
+///
+/// Each call may fail so:
+///
+/// - `NoSuch`: the name is of another switchboard.
+/// - `WrongKind`: a feed receives from the port.
+/// - `JournalFull`: the journal has no room for the call's entry. `NotKept`: nobody took the entries of
+///   the last full journal.
+/// - `NoMemory`.
+///
+/// If a sink panics ([`WhenFull`](crate::WhenFull)), so does the call that found the journal full.
 pub struct Seat<'a, R: Room = Bytes> {
     pub(crate) board: &'a Switchboard<R>,
     number: u64,
     pub(crate) parker: &'a Parker,
-    /// Whether a future waits by it, or was forgotten while it waited. Or a call that waited is made again, or a sink panicked in it.
+    /// Whether a future waits by it, or was forgotten while it waited. Or a call that waited is
+    /// made again, or a sink panicked in it.
     pub(crate) is_parked: bool,
 }
 
@@ -70,157 +86,12 @@ impl<'a, R: Room> Seat<'a, R> {
     /// assert_eq!(board.seat()?.number(), 1);
     /// # Ok::<(), seryugo::Error>(())
     /// ```
+    #[must_use]
     pub fn number(&self) -> u64 {
         self.number
     }
 
-    /// Makes a mailbox of messages of a type.
-    ///
-    /// ```
-    /// # let board = seryugo::Switchboard::new(1_000)?;
-    /// # let mut seat = board.seat()?;
-    /// let (names, ages) = (seat.mailbox::<String>()?, seat.mailbox::<u8>()?);
-    /// assert_eq!((board.owed(names)?, board.owed(ages)?), (0, 0));
-    /// # Ok::<(), seryugo::Error>(())
-    /// ```
-    pub fn mailbox<T>(&mut self) -> Result<Mailbox<T>, Error>
-    where
-        R: Carries<T>,
-    {
-        self.make(|room, seat, name| unsafe { raw::seryugo_new_mailbox(room, seat, name) })
-    }
-
-    /// Makes a channel of messages of a type.
-    ///
-    /// ```
-    /// # let board = seryugo::Switchboard::new(1_000)?;
-    /// # let mut seat = board.seat()?;
-    /// let channel = seat.channel::<(String, u64)>()?;
-    /// assert_eq!(board.sent(channel)?, 0);
-    /// # Ok::<(), seryugo::Error>(())
-    /// ```
-    pub fn channel<T>(&mut self) -> Result<Channel<T>, Error>
-    where
-        R: Carries<T>,
-    {
-        self.make(|room, seat, name| unsafe { raw::seryugo_new_channel(room, seat, name) })
-    }
-
-    /// Makes a port of a channel, which receives what is multicast from now on.
-    ///
-    /// ```
-    /// # let board = seryugo::Switchboard::new(1_000)?;
-    /// # let mut seat = board.seat()?;
-    /// let channel = seat.channel::<u64>()?;
-    /// seat.multicast(channel, 1)?;
-    /// let port = seat.port(channel)?;
-    /// seat.multicast(channel, 2)?;
-    /// assert_eq!(seat.recv(port)?, Some(2));
-    /// # Ok::<(), seryugo::Error>(())
-    /// ```
-    pub fn port<T>(&mut self, channel: Channel<T>) -> Result<Port<T>, Error> {
-        let channel = self.here(channel)?;
-        self.make(|room, seat, name| unsafe { raw::seryugo_new_port(room, seat, channel, name) })
-    }
-
-    /// Makes a port at this port's place. Returns `None` if this port was closed.
-    ///
-    /// ```
-    /// # let board = seryugo::Switchboard::new(1_000)?;
-    /// # let mut seat = board.seat()?;
-    /// # let channel = seat.channel::<u64>()?;
-    /// let port = seat.port(channel)?;
-    /// seat.multicast(channel, 1)?;
-    /// if let Some(copy) = seat.copy(port)? {
-    ///     assert_eq!(seat.recv(copy)?, Some(1));
-    /// }
-    /// assert_eq!(seat.recv(port)?, Some(1));
-    /// # Ok::<(), seryugo::Error>(())
-    /// ```
-    pub fn copy<T>(&mut self, port: Port<T>) -> Result<Option<Port<T>>, Error> {
-        let port = self.here(port)?;
-        let mut number = 0;
-        let code = self.call(|room, seat| unsafe { raw::seryugo_copy_port(room, seat, port, &mut number) });
-        let is_open = done_or(code, code::CLOSED)?;
-        Ok(is_open.then(|| self.board.name(number)))
-    }
-
-    /// Closes a port: whether it was open.
-    ///
-    /// ```
-    /// # let board = seryugo::Switchboard::new(1_000)?;
-    /// # let mut seat = board.seat()?;
-    /// # let channel = seat.channel::<u64>()?;
-    /// let port = seat.port(channel)?;
-    /// assert!(seat.close(port)?);
-    /// assert!(!seat.close(port)?);
-    /// assert_eq!(seat.recv(port)?, None);
-    /// # Ok::<(), seryugo::Error>(())
-    /// ```
-    pub fn close<T>(&mut self, port: Port<T>) -> Result<bool, Error> {
-        let port = self.here(port)?;
-        let code = self.call(|room, seat| unsafe { raw::seryugo_close_port(room, seat, port) });
-        done_or(code, code::CLOSED)
-    }
-
-    /// Makes an empty i-variable.
-    ///
-    /// ```
-    /// # let board = seryugo::Switchboard::new(1_000)?;
-    /// # let mut seat = board.seat()?;
-    /// let variable = seat.ivar::<u64>()?;
-    /// assert!(seat.put(variable, 5)?);
-    /// assert!(!seat.put(variable, 6)?);
-    /// # Ok::<(), seryugo::Error>(())
-    /// ```
-    pub fn ivar<T>(&mut self) -> Result<IVar<T>, Error>
-    where
-        R: Carries<T>,
-    {
-        self.make(|room, seat, name| unsafe { raw::seryugo_new_ivar(room, seat, name) })
-    }
-
-    /// Makes an empty m-variable.
-    ///
-    /// ```
-    /// # let board = seryugo::Switchboard::new(1_000)?;
-    /// # let mut seat = board.seat()?;
-    /// let variable = seat.mvar::<u64>()?;
-    /// seat.put(variable, 5)?;
-    /// assert_eq!(seat.take(variable)?, 5);
-    /// assert!(seat.put(variable, 6)?);
-    /// # Ok::<(), seryugo::Error>(())
-    /// ```
-    pub fn mvar<T>(&mut self) -> Result<MVar<T>, Error>
-    where
-        R: Carries<T>,
-    {
-        self.make(|room, seat, name| unsafe { raw::seryugo_new_mvar(room, seat, name) })
-    }
-
-    /// Makes an m-variable that holds this, of this type.
-    ///
-    /// Errors: [`SendError`] hands the message back.
-    ///
-    /// ```
-    /// # let board = seryugo::Switchboard::new(1_000)?;
-    /// # let mut seat = board.seat()?;
-    /// let variable = seat.mvar_init(5)?;
-    /// assert_eq!(seat.take(variable)?, 5);
-    /// # Ok::<(), seryugo::Error>(())
-    /// ```
-    pub fn mvar_init<T>(&mut self, message: T) -> Result<MVar<T>, SendError<T>>
-    where
-        R: Carries<T>,
-    {
-        let made = R::with_sent(&message, |sent| self.make(|room, seat, name| R::mvar_init(room, seat, sent, name)));
-        handing_back(made, message)
-    }
-
     /// Sends a message to a mailbox: the message, or a reference to it. It never blocks.
-    ///
-    /// Errors: [`SendError`] hands the message or the reference back. If a message has more than 2^32 - 1 bytes, the error is
-    /// `OutOfBounds`.
     ///
     /// ```
     /// # let board = seryugo::Switchboard::new(1_000)?;
@@ -232,22 +103,29 @@ impl<'a, R: Room> Seat<'a, R> {
     /// assert_eq!(seat.recv(mailbox)?, "Dear Ben");
     /// # Ok::<(), seryugo::Error>(())
     /// ```
+    ///
+    /// # Errors
+    ///
+    /// [The usual ones](crate::Seat#how-a-call-fails). [`SendError`] hands the message back.
+    /// `OutOfBounds`: the message has more than 2^32 - 1 bytes.
     #[inline]
-    pub fn send<T, M: Borrow<T>>(&mut self, mailbox: Mailbox<T>, message: M) -> Result<(), SendError<M>>
+    pub fn send<T, M: Borrow<T>>(
+        &mut self,
+        mailbox: Mailbox<T>,
+        message: M,
+    ) -> Result<(), SendError<M>>
     where
         R: Carries<T>,
     {
         let sent = self.here(mailbox).and_then(|mailbox| {
             done(R::with_sent(message.borrow(), |sent| {
-                self.call(|room, seat| R::give(calls::SEND, room, seat, mailbox, sent))
+                self.call(|room, seat| R::give(Give::Send, room, seat, mailbox, sent))
             }))
         });
         handing_back(sent, message)
     }
 
     /// Sends a message to every port of a channel. It never blocks.
-    ///
-    /// Errors: [`SendError`] hands the message back.
     ///
     /// ```
     /// # let board = seryugo::Switchboard::new(1_000)?;
@@ -259,20 +137,29 @@ impl<'a, R: Room> Seat<'a, R> {
     /// assert_eq!(seat.recv(other)?, Some(5));
     /// # Ok::<(), seryugo::Error>(())
     /// ```
+    ///
+    /// # Errors
+    ///
+    /// [The usual ones](crate::Seat#how-a-call-fails). As [`send`](Seat::send).
     #[inline]
-    pub fn multicast<T, M: Borrow<T>>(&mut self, channel: Channel<T>, message: M) -> Result<(), SendError<M>>
+    pub fn multicast<T, M: Borrow<T>>(
+        &mut self,
+        channel: Channel<T>,
+        message: M,
+    ) -> Result<(), SendError<M>>
     where
         R: Carries<T>,
     {
         let sent = self.here(channel).and_then(|channel| {
             done(R::with_sent(message.borrow(), |sent| {
-                self.call(|room, seat| R::give(calls::MULTICAST, room, seat, channel, sent))
+                self.call(|room, seat| R::give(Give::Multicast, room, seat, channel, sent))
             }))
         });
         handing_back(sent, message)
     }
 
-    /// Receives the next message of a mailbox or a port. Returns `None` if there is none, or if the port is closed.
+    /// Receives the next message of a mailbox or a port. Returns `None` if there is none, or if the
+    /// port is closed.
     ///
     /// ```
     /// # let board = seryugo::Switchboard::new(1_000)?;
@@ -283,21 +170,24 @@ impl<'a, R: Room> Seat<'a, R> {
     /// assert_eq!(seat.recv_poll(mailbox)?, Some(5));
     /// # Ok::<(), seryugo::Error>(())
     /// ```
+    ///
+    /// # Errors
+    ///
+    /// [The usual ones](crate::Seat#how-a-call-fails). `Unreadable`: the message was received, and
+    /// can't be read as this type.
     #[inline]
     pub fn recv_poll<S: Source>(&mut self, source: S) -> Result<Option<S::Message>, Error>
     where
         R: Carries<S::Message>,
     {
         let source = self.here(source)?;
-        self.poll(|room, seat, slot| match R::poll(calls::RECV_POLL, room, seat, source, slot) {
+        self.poll(|room, seat, to| match R::poll(Read::Recv, room, seat, source, to) {
             code::CLOSED => code::NOTHING,
             code => code,
         })
     }
 
     /// Fills an empty variable: whether it was empty. It never blocks.
-    ///
-    /// Errors: [`SendError`] hands the message back.
     ///
     /// ```
     /// # let board = seryugo::Switchboard::new(1_000)?;
@@ -308,14 +198,22 @@ impl<'a, R: Room> Seat<'a, R> {
     /// assert_eq!(seat.get(variable)?, 5);
     /// # Ok::<(), seryugo::Error>(())
     /// ```
+    ///
+    /// # Errors
+    ///
+    /// [The usual ones](crate::Seat#how-a-call-fails). As [`send`](Seat::send).
     #[inline]
-    pub fn put<V: Variable, M: Borrow<V::Message>>(&mut self, variable: V, message: M) -> Result<bool, SendError<M>>
+    pub fn put<V: Variable, M: Borrow<V::Message>>(
+        &mut self,
+        variable: V,
+        message: M,
+    ) -> Result<bool, SendError<M>>
     where
         R: Carries<V::Message>,
     {
         let put = self.here(variable).and_then(|variable| {
             let code = R::with_sent(message.borrow(), |sent| {
-                self.call(|room, seat| R::give(calls::PUT, room, seat, variable, sent))
+                self.call(|room, seat| R::give(Give::Put, room, seat, variable, sent))
             });
             done_or(code, code::PUT)
         });
@@ -333,13 +231,18 @@ impl<'a, R: Room> Seat<'a, R> {
     /// assert_eq!(seat.get_poll(variable)?, Some(5));
     /// # Ok::<(), seryugo::Error>(())
     /// ```
+    ///
+    /// # Errors
+    ///
+    /// [The usual ones](crate::Seat#how-a-call-fails). `Unreadable`: what the variable holds can't
+    /// be read as this type.
     #[inline]
     pub fn get_poll<V: Variable>(&mut self, variable: V) -> Result<Option<V::Message>, Error>
     where
         R: Carries<V::Message>,
     {
         let variable = self.here(variable)?;
-        self.poll(|room, seat, slot| R::poll(calls::GET_POLL, room, seat, variable, slot))
+        self.poll(|room, seat, to| R::poll(Read::Get, room, seat, variable, to))
     }
 
     /// Reads and empties an m-variable. Returns `None` if it is empty.
@@ -352,13 +255,18 @@ impl<'a, R: Room> Seat<'a, R> {
     /// assert_eq!(seat.take_poll(variable)?, None);
     /// # Ok::<(), seryugo::Error>(())
     /// ```
+    ///
+    /// # Errors
+    ///
+    /// [The usual ones](crate::Seat#how-a-call-fails). `Unreadable`: the message was received, and
+    /// can't be read as this type.
     #[inline]
     pub fn take_poll<T>(&mut self, variable: MVar<T>) -> Result<Option<T>, Error>
     where
         R: Carries<T>,
     {
         let variable = self.here(variable)?;
-        self.poll(|room, seat, slot| R::poll(calls::TAKE_POLL, room, seat, variable, slot))
+        self.poll(|room, seat, to| R::poll(Read::Take, room, seat, variable, to))
     }
 
     /// The number of an object of this switchboard.
@@ -367,32 +275,30 @@ impl<'a, R: Room> Seat<'a, R> {
         self.board.here(object)
     }
 
-    fn make<N: Named>(&mut self, call: impl FnOnce(&mut Handle, u64, &mut u64) -> u32) -> Result<N, Error> {
-        let mut number = 0;
-        done(self.call(|room, seat| call(room, seat, &mut number)))?;
-        Ok(self.board.name(number))
-    }
-
     /// Makes a call that may find a message.
     #[inline]
-    fn poll<T>(&mut self, call: impl FnOnce(&mut Handle, u64, &mut R::Slot) -> u32) -> Result<Option<T>, Error>
+    fn poll<T>(
+        &mut self,
+        call: impl FnOnce(&mut Handle, u64, &mut R::Received) -> u32,
+    ) -> Result<Option<T>, Error>
     where
         R: Carries<T>,
     {
-        let mut slot = R::slot();
-        match self.call(|room, seat| call(room, seat, &mut slot)) {
+        let mut found = R::nothing();
+        match self.call(|room, seat| call(room, seat, &mut found)) {
             code::NOTHING => Ok(None),
-            code => received::<R, T>(code, &mut slot).map(Some),
+            code => received::<R, T>(code, found).map(Some),
         }
     }
 
     #[inline]
-    fn call(&mut self, call: impl FnOnce(&mut Handle, u64) -> u32) -> u32 {
+    pub(crate) fn call(&mut self, call: impl FnOnce(&mut Handle, u64) -> u32) -> u32 {
         let seat = self.ready();
-        self.board.enter_by(self.parker, |room| call(room, seat))
+        self.board.change(Some(self.parker), |inside| inside.enter(|room| call(room, seat)))
     }
 
-    /// The seat's number, once it may call: a future that was forgotten left it waiting, or a call in which a sink panicked.
+    /// The seat's number, once it may call: a future that was forgotten left it waiting, or a call
+    /// in which a sink panicked.
     #[inline]
     pub(crate) fn ready(&mut self) -> u64 {
         if self.is_parked {
@@ -405,7 +311,8 @@ impl<'a, R: Room> Seat<'a, R> {
     #[cold]
     pub(crate) fn withdraw(&mut self) {
         self.is_parked = false;
-        self.board.withdraw_by(self.parker, self.number);
+        let seat = self.number;
+        self.board.change(Some(self.parker), |inside| inside.withdraw(seat));
         self.parker.forget_waker();
     }
 }
@@ -414,7 +321,7 @@ impl<R: Room> Drop for Seat<'_, R> {
     fn drop(&mut self) {
         let seat = self.ready();
         // The seat isn't parked, so that it may leave.
-        self.board.change(|room| unsafe { raw::seryugo_leave(room, seat) });
+        self.board.change(None, |inside| raw::seryugo_leave(&mut inside.handle, seat));
     }
 }
 

@@ -7,8 +7,9 @@ use std::str::FromStr;
 
 const LENGTH: usize = 32;
 
-/// The sum of a piece of a sealed journal: the SHA-256 of its lines. The piece names the sum of the piece before, so a sum stands for
-/// all that was written before, too. [`Journal::write_sealed_to`](crate::Journal::write_sealed_to) takes one and returns the next.
+/// The sum of a piece of a sealed journal: the SHA-256 of its lines. The piece names the sum of the
+/// piece before, so a sum stands for all that was written before, too.
+/// [`Journal::write_sealed_to`](crate::Journal::write_sealed_to) takes one and returns the next.
 ///
 /// As text it has 64 hex digits with small letters, as in the journal.
 ///
@@ -33,6 +34,7 @@ impl Sum {
     /// ```
     /// assert_eq!(seryugo::Sum::from([7; 32]).as_bytes(), &[7; 32]);
     /// ```
+    #[must_use]
     pub fn as_bytes(&self) -> &[u8; 32] {
         &self.0
     }

@@ -34,6 +34,7 @@ impl Version {
     /// ```
     /// assert_eq!(seryugo::Version::new(1, 2, 3).to_string(), "1.2.3");
     /// ```
+    #[must_use]
     pub const fn new(major: u16, minor: u8, patch: u8) -> Version {
         Version((major as u32) << 16 | (minor as u32) << 8 | patch as u32)
     }
@@ -63,10 +64,10 @@ const fn number(digits: &str) -> u16 {
     number
 }
 
-/// Fails if the linked library isn't of the version that this crate wants: then no other call of it may be made.
+/// Fails if the linked library isn't of the version that this crate wants: then no other call of it
+/// may be made.
 pub(crate) fn check() -> Result<(), Error> {
-    // The call has had this form in each version.
-    expect(Version(unsafe { seryugo_version() }))
+    expect(Version(seryugo_version()))
 }
 
 fn expect(library: Version) -> Result<(), Error> {
@@ -79,8 +80,9 @@ fn expect(library: Version) -> Result<(), Error> {
     }
 }
 
-extern "C" {
-    fn seryugo_version() -> u32;
+unsafe extern "C" {
+    // The call has had this form in each version.
+    safe fn seryugo_version() -> u32;
 }
 
 #[cfg(test)]
@@ -98,7 +100,10 @@ mod tests {
         ] {
             let error = expect(library).unwrap_err();
             let text = error.to_string();
-            assert!(text.contains(&library.to_string()) && text.contains(env!("CARGO_PKG_VERSION")), "{text}");
+            assert!(
+                text.contains(&library.to_string()) && text.contains(env!("CARGO_PKG_VERSION")),
+                "{text}"
+            );
             assert!(!error.is_retryable());
         }
     }

@@ -1,5 +1,6 @@
 //! The calls of a seat that wait: until they are answered, up to a time limit, or as futures.
 
+use crate::calls::Read;
 use crate::error::{handing_back, Error, SendError};
 use crate::names::{MVar, Source, Variable};
 use crate::room::{Carries, Room};
@@ -10,17 +11,16 @@ use std::time::{Duration, Instant};
 
 /// # Calls that wait
 ///
-/// `recv`, `get`, `take` and `swap` block until they are answered. Those that end in `_timeout` and `_deadline` fail with
-/// [`Error::TimedOut`] once their time has passed. If it has passed before, they make the call once. Those that end in `_async` are
-/// futures. They need no executor of a certain kind, and do nothing before they are polled.
+/// `recv`, `get`, `take` and `swap` block until they are answered. Those that end in `_timeout` and
+/// `_deadline` fail with [`Error::TimedOut`] once their time has passed. If it has passed before,
+/// they make the call once. Those that end in `_async` are futures. They need no executor of a
+/// certain kind, and do nothing before they are polled.
 ///
-/// A call that fails and a future that is dropped have done nothing. If the seat was about to be answered, the next seat that waits
-/// for the same goes on in its place.
+/// A call that fails and a future that is dropped have done nothing. If the seat was about to be
+/// answered, the next seat that waits for the same goes on in its place.
 impl<R: Room> Seat<'_, R> {
-    /// Receives the next message of a mailbox or a port. Blocks while there is none. A mailbox gives the message. A port gives `Some`
-    /// message, or `None` once it is closed.
-    ///
-    /// Errors: `Unreadable` if the message was received, and can't be read as this type.
+    /// Receives the next message of a mailbox or a port. Blocks while there is none. A mailbox
+    /// gives the message. A port gives `Some` message, or `None` once it is closed.
     ///
     /// ```
     /// # let board = seryugo::Switchboard::new(1_000)?;
@@ -36,13 +36,18 @@ impl<R: Room> Seat<'_, R> {
     /// assert_eq!(seat.recv(port)?, None);
     /// # Ok::<(), seryugo::Error>(())
     /// ```
+    ///
+    /// # Errors
+    ///
+    /// [The usual ones](crate::Seat#how-a-call-fails). `Stalled`: nothing could answer the call.
+    /// `Unreadable`: the message was received, and can't be read as this type.
     #[inline]
     pub fn recv<S: Source>(&mut self, source: S) -> Result<S::Received, Error>
     where
         R: Carries<S::Message>,
     {
         let source = self.here(source)?;
-        received::<R, S>(self.wait(Want::Recv(source)))
+        received::<R, S>(self.wait(Want::Read(Read::Recv, source)))
     }
 
     /// The same, but it blocks no longer than this.
@@ -59,12 +64,20 @@ impl<R: Room> Seat<'_, R> {
     /// assert_eq!(seat.recv_timeout(mailbox, Duration::from_millis(1)), Ok(5));
     /// # Ok::<(), seryugo::Error>(())
     /// ```
-    pub fn recv_timeout<S: Source>(&mut self, source: S, timeout: Duration) -> Result<S::Received, Error>
+    ///
+    /// # Errors
+    ///
+    /// As [`recv`](Seat::recv). `TimedOut`: the time has passed.
+    pub fn recv_timeout<S: Source>(
+        &mut self,
+        source: S,
+        timeout: Duration,
+    ) -> Result<S::Received, Error>
     where
         R: Carries<S::Message>,
     {
         let source = self.here(source)?;
-        received::<R, S>(self.wait_for(Want::Recv(source), timeout))
+        received::<R, S>(self.wait_for(Want::Read(Read::Recv, source), timeout))
     }
 
     /// The same, but it blocks until then at the latest.
@@ -80,12 +93,20 @@ impl<R: Room> Seat<'_, R> {
     /// assert_eq!(seat.recv_deadline(mailbox, deadline), Err(Error::TimedOut));
     /// # Ok::<(), seryugo::Error>(())
     /// ```
-    pub fn recv_deadline<S: Source>(&mut self, source: S, deadline: Instant) -> Result<S::Received, Error>
+    ///
+    /// # Errors
+    ///
+    /// As [`recv_timeout`](Seat::recv_timeout).
+    pub fn recv_deadline<S: Source>(
+        &mut self,
+        source: S,
+        deadline: Instant,
+    ) -> Result<S::Received, Error>
     where
         R: Carries<S::Message>,
     {
         let source = self.here(source)?;
-        received::<R, S>(self.wait_until(Want::Recv(source), deadline))
+        received::<R, S>(self.wait_until(Want::Read(Read::Recv, source), deadline))
     }
 
     /// The same as a future.
@@ -102,12 +123,16 @@ impl<R: Room> Seat<'_, R> {
     /// assert_eq!(received.as_mut().poll(&mut context), Poll::Ready(Ok(5)));
     /// # Ok::<(), seryugo::Error>(())
     /// ```
+    ///
+    /// # Errors
+    ///
+    /// As [`recv`](Seat::recv).
     pub async fn recv_async<S: Source>(&mut self, source: S) -> Result<S::Received, Error>
     where
         R: Carries<S::Message>,
     {
         let source = self.here(source)?;
-        received::<R, S>(self.waiting(Want::Recv(source)).await)
+        received::<R, S>(self.waiting(Want::Read(Read::Recv, source)).await)
     }
 
     /// Reads a variable, which keeps its message. Blocks while it is empty.
@@ -120,13 +145,18 @@ impl<R: Room> Seat<'_, R> {
     /// assert_eq!(seat.get(variable)?, 5);
     /// # Ok::<(), seryugo::Error>(())
     /// ```
+    ///
+    /// # Errors
+    ///
+    /// [The usual ones](crate::Seat#how-a-call-fails). `Stalled`: nothing could answer the call.
+    /// `Unreadable`: what it holds can't be read as this type.
     #[inline]
     pub fn get<V: Variable>(&mut self, variable: V) -> Result<V::Message, Error>
     where
         R: Carries<V::Message>,
     {
         let variable = self.here(variable)?;
-        held::<R, _>(self.wait(Want::Get(variable)))
+        held::<R, _>(self.wait(Want::Read(Read::Get, variable)))
     }
 
     /// The same, but it blocks no longer than this.
@@ -140,12 +170,20 @@ impl<R: Room> Seat<'_, R> {
     /// assert_eq!(seat.get_timeout(variable, Duration::ZERO), Err(seryugo::Error::TimedOut));
     /// # Ok::<(), seryugo::Error>(())
     /// ```
-    pub fn get_timeout<V: Variable>(&mut self, variable: V, timeout: Duration) -> Result<V::Message, Error>
+    ///
+    /// # Errors
+    ///
+    /// As [`get`](Seat::get). `TimedOut`: the time has passed.
+    pub fn get_timeout<V: Variable>(
+        &mut self,
+        variable: V,
+        timeout: Duration,
+    ) -> Result<V::Message, Error>
     where
         R: Carries<V::Message>,
     {
         let variable = self.here(variable)?;
-        held::<R, _>(self.wait_for(Want::Get(variable), timeout))
+        held::<R, _>(self.wait_for(Want::Read(Read::Get, variable), timeout))
     }
 
     /// The same, but it blocks until then at the latest.
@@ -158,12 +196,20 @@ impl<R: Room> Seat<'_, R> {
     /// assert_eq!(seat.get_deadline(variable, now), Err(seryugo::Error::TimedOut));
     /// # Ok::<(), seryugo::Error>(())
     /// ```
-    pub fn get_deadline<V: Variable>(&mut self, variable: V, deadline: Instant) -> Result<V::Message, Error>
+    ///
+    /// # Errors
+    ///
+    /// As [`get_timeout`](Seat::get_timeout).
+    pub fn get_deadline<V: Variable>(
+        &mut self,
+        variable: V,
+        deadline: Instant,
+    ) -> Result<V::Message, Error>
     where
         R: Carries<V::Message>,
     {
         let variable = self.here(variable)?;
-        held::<R, _>(self.wait_until(Want::Get(variable), deadline))
+        held::<R, _>(self.wait_until(Want::Read(Read::Get, variable), deadline))
     }
 
     /// The same as a future.
@@ -177,12 +223,16 @@ impl<R: Room> Seat<'_, R> {
     /// assert_eq!(pin!(seat.get_async(variable)).poll(&mut context), Poll::Ready(Ok(5)));
     /// # Ok::<(), seryugo::Error>(())
     /// ```
+    ///
+    /// # Errors
+    ///
+    /// As [`get`](Seat::get).
     pub async fn get_async<V: Variable>(&mut self, variable: V) -> Result<V::Message, Error>
     where
         R: Carries<V::Message>,
     {
         let variable = self.here(variable)?;
-        held::<R, _>(self.waiting(Want::Get(variable)).await)
+        held::<R, _>(self.waiting(Want::Read(Read::Get, variable)).await)
     }
 
     /// Reads and empties an m-variable. Blocks while it is empty.
@@ -195,13 +245,18 @@ impl<R: Room> Seat<'_, R> {
     /// assert_eq!(board.held(variable)?, None);
     /// # Ok::<(), seryugo::Error>(())
     /// ```
+    ///
+    /// # Errors
+    ///
+    /// [The usual ones](crate::Seat#how-a-call-fails). `Stalled`: nothing could answer the call.
+    /// `Unreadable`: the message was received, and can't be read as this type.
     #[inline]
     pub fn take<T>(&mut self, variable: MVar<T>) -> Result<T, Error>
     where
         R: Carries<T>,
     {
         let variable = self.here(variable)?;
-        held::<R, _>(self.wait(Want::Take(variable)))
+        held::<R, _>(self.wait(Want::Read(Read::Take, variable)))
     }
 
     /// The same, but it blocks no longer than this.
@@ -212,16 +267,21 @@ impl<R: Room> Seat<'_, R> {
     /// # let board = seryugo::Switchboard::new(1_000)?;
     /// let (mut seat, _other) = (board.seat()?, board.seat()?);
     /// let variable = seat.mvar_init(5)?;
-    /// assert_eq!(seat.take_timeout(variable, Duration::from_millis(1)), Ok(5));
-    /// assert_eq!(seat.take_timeout(variable, Duration::from_millis(1)), Err(seryugo::Error::TimedOut));
+    /// let limit = Duration::from_millis(1);
+    /// assert_eq!(seat.take_timeout(variable, limit), Ok(5));
+    /// assert_eq!(seat.take_timeout(variable, limit), Err(seryugo::Error::TimedOut));
     /// # Ok::<(), seryugo::Error>(())
     /// ```
+    ///
+    /// # Errors
+    ///
+    /// As [`take`](Seat::take). `TimedOut`: the time has passed.
     pub fn take_timeout<T>(&mut self, variable: MVar<T>, timeout: Duration) -> Result<T, Error>
     where
         R: Carries<T>,
     {
         let variable = self.here(variable)?;
-        held::<R, _>(self.wait_for(Want::Take(variable), timeout))
+        held::<R, _>(self.wait_for(Want::Read(Read::Take, variable), timeout))
     }
 
     /// The same, but it blocks until then at the latest.
@@ -234,12 +294,16 @@ impl<R: Room> Seat<'_, R> {
     /// assert_eq!(seat.take_deadline(variable, now), Err(seryugo::Error::TimedOut));
     /// # Ok::<(), seryugo::Error>(())
     /// ```
+    ///
+    /// # Errors
+    ///
+    /// As [`take_timeout`](Seat::take_timeout).
     pub fn take_deadline<T>(&mut self, variable: MVar<T>, deadline: Instant) -> Result<T, Error>
     where
         R: Carries<T>,
     {
         let variable = self.here(variable)?;
-        held::<R, _>(self.wait_until(Want::Take(variable), deadline))
+        held::<R, _>(self.wait_until(Want::Read(Read::Take, variable), deadline))
     }
 
     /// The same as a future.
@@ -253,18 +317,20 @@ impl<R: Room> Seat<'_, R> {
     /// assert_eq!(pin!(seat.take_async(variable)).poll(&mut context), Poll::Ready(Ok(5)));
     /// # Ok::<(), seryugo::Error>(())
     /// ```
+    ///
+    /// # Errors
+    ///
+    /// As [`take`](Seat::take).
     pub async fn take_async<T>(&mut self, variable: MVar<T>) -> Result<T, Error>
     where
         R: Carries<T>,
     {
         let variable = self.here(variable)?;
-        held::<R, _>(self.waiting(Want::Take(variable)).await)
+        held::<R, _>(self.waiting(Want::Read(Read::Take, variable)).await)
     }
 
-    /// Stores a message in a full m-variable, and returns the one that it held. Blocks while it is empty.
-    ///
-    /// Errors: [`SendError`] hands the message back. If the error is `Unreadable`, the message was stored nevertheless, and the error
-    /// has the bytes of the one before.
+    /// Stores a message in a full m-variable, and returns the one that it held. Blocks while it is
+    /// empty.
     ///
     /// ```
     /// # let board = seryugo::Switchboard::new(1_000)?;
@@ -274,13 +340,25 @@ impl<R: Room> Seat<'_, R> {
     /// assert_eq!(seat.take(variable)?, 6);
     /// # Ok::<(), seryugo::Error>(())
     /// ```
+    ///
+    /// # Errors
+    ///
+    /// [The usual ones](crate::Seat#how-a-call-fails). `Stalled`: nothing could answer the call.
+    /// [`SendError`] hands the message back. `Unreadable`: the message was stored nevertheless, and
+    /// the error has the bytes of the one before.
     #[inline]
-    pub fn swap<T, M: Borrow<T>>(&mut self, variable: MVar<T>, message: M) -> Result<T, SendError<M>>
+    pub fn swap<T, M: Borrow<T>>(
+        &mut self,
+        variable: MVar<T>,
+        message: M,
+    ) -> Result<T, SendError<M>>
     where
         R: Carries<T>,
     {
         let held = self.here(variable).and_then(|variable| {
-            held::<R, _>(R::with_sent(message.borrow(), |sent| self.wait(Want::Swap(variable, sent))))
+            held::<R, _>(R::with_sent(message.borrow(), |sent| {
+                self.wait(Want::Swap(variable, sent))
+            }))
         });
         handing_back(held, message)
     }
@@ -298,6 +376,10 @@ impl<R: Room> Seat<'_, R> {
     /// assert_eq!(board.held(variable)?, None);
     /// # Ok::<(), seryugo::Error>(())
     /// ```
+    ///
+    /// # Errors
+    ///
+    /// As [`swap`](Seat::swap). `TimedOut`: the time has passed.
     pub fn swap_timeout<T, M: Borrow<T>>(
         &mut self,
         variable: MVar<T>,
@@ -308,7 +390,9 @@ impl<R: Room> Seat<'_, R> {
         R: Carries<T>,
     {
         let held = self.here(variable).and_then(|variable| {
-            held::<R, _>(R::with_sent(message.borrow(), |sent| self.wait_for(Want::Swap(variable, sent), timeout)))
+            held::<R, _>(R::with_sent(message.borrow(), |sent| {
+                self.wait_for(Want::Swap(variable, sent), timeout)
+            }))
         });
         handing_back(held, message)
     }
@@ -320,9 +404,14 @@ impl<R: Room> Seat<'_, R> {
     /// let (mut seat, _other) = (board.seat()?, board.seat()?);
     /// let variable = seat.mvar::<u64>()?;
     /// let now = std::time::Instant::now();
-    /// assert_eq!(seat.swap_deadline(variable, 6, now).unwrap_err().error, seryugo::Error::TimedOut);
+    /// let refused = seat.swap_deadline(variable, 6, now).unwrap_err();
+    /// assert_eq!(refused.error, seryugo::Error::TimedOut);
     /// # Ok::<(), seryugo::Error>(())
     /// ```
+    ///
+    /// # Errors
+    ///
+    /// As [`swap_timeout`](Seat::swap_timeout).
     pub fn swap_deadline<T, M: Borrow<T>>(
         &mut self,
         variable: MVar<T>,
@@ -333,7 +422,9 @@ impl<R: Room> Seat<'_, R> {
         R: Carries<T>,
     {
         let held = self.here(variable).and_then(|variable| {
-            held::<R, _>(R::with_sent(message.borrow(), |sent| self.wait_until(Want::Swap(variable, sent), deadline)))
+            held::<R, _>(R::with_sent(message.borrow(), |sent| {
+                self.wait_until(Want::Swap(variable, sent), deadline)
+            }))
         });
         handing_back(held, message)
     }
@@ -349,7 +440,15 @@ impl<R: Room> Seat<'_, R> {
     /// assert_eq!(pin!(seat.swap_async(variable, 6)).poll(&mut context), Poll::Ready(Ok(5)));
     /// # Ok::<(), seryugo::Error>(())
     /// ```
-    pub async fn swap_async<T, M: Borrow<T>>(&mut self, variable: MVar<T>, message: M) -> Result<T, SendError<M>>
+    ///
+    /// # Errors
+    ///
+    /// As [`swap`](Seat::swap).
+    pub async fn swap_async<T, M: Borrow<T>>(
+        &mut self,
+        variable: MVar<T>,
+        message: M,
+    ) -> Result<T, SendError<M>>
     where
         R: Carries<T>,
     {

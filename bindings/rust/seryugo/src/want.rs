@@ -1,6 +1,6 @@
 //! How a seat waits for what it wants.
 
-use crate::calls;
+use crate::calls::{Calls, Read};
 use crate::error::Error;
 use crate::names::Source;
 use crate::raw::{self, code, Handle};
@@ -14,24 +14,20 @@ use std::time::{Duration, Instant};
 /// A call that may wait, with the number of its object.
 #[derive(Clone, Copy)]
 pub(crate) enum Want<'m, R: Room> {
-    Recv(u64),
-    Get(u64),
-    Take(u64),
+    Read(Read, u64),
     Swap(u64, R::Sent<'m>),
 }
 
 impl<R: Room> Want<'_, R> {
     #[inline]
-    fn ask(self, room: &mut Handle, seat: u64, is_again: bool, slot: &mut R::Slot) -> u32 {
+    fn ask(self, room: &mut Handle, seat: u64, is_again: bool, to: &mut R::Received) -> u32 {
         let code = match self {
-            Want::Recv(source) => R::ask(calls::RECV, room, seat, source, is_again, slot),
-            Want::Get(variable) => R::ask(calls::GET, room, seat, variable, is_again, slot),
-            Want::Take(variable) => R::ask(calls::TAKE, room, seat, variable, is_again, slot),
-            Want::Swap(variable, stored) => R::swap(room, seat, variable, stored, is_again, slot),
+            Want::Read(call, object) => R::ask(call, room, seat, object, is_again, to),
+            Want::Swap(variable, stored) => R::swap(room, seat, variable, stored, is_again, to),
         };
         if is_again && code == code::NO_MEMORY {
             // The seat may be parked still. It isn't to wait after a refusal.
-            unsafe { raw::seryugo_withdraw(room, seat) };
+            raw::seryugo_withdraw(room, seat);
         }
         code
     }
@@ -54,20 +50,21 @@ impl From<Refused> for Error {
 }
 
 /// What a call that waits has received.
-pub(crate) type Answer<R> = Result<<R as crate::calls::Calls>::Received, Refused>;
+pub(crate) type Answer<R> = Result<<R as Calls>::Received, Refused>;
 
 #[inline]
-fn answer<R: Room>(code: u32, slot: &mut R::Slot) -> Answer<R> {
+fn answer<R: Room>(code: u32, received: R::Received) -> Answer<R> {
     match code {
-        // The call has written the message.
-        code::DONE => Ok(unsafe { R::taken(slot) }),
+        code::DONE => Ok(received),
         _ => Err(Refused::Code(code)),
     }
 }
 
 /// What was received from a mailbox or a port.
 #[inline]
-pub(crate) fn received<R: Carries<S::Message>, S: Source>(answer: Answer<R>) -> Result<S::Received, Error> {
+pub(crate) fn received<R: Carries<S::Message>, S: Source>(
+    answer: Answer<R>,
+) -> Result<S::Received, Error> {
     match answer {
         Ok(message) => S::received(Some(R::read(message)?)),
         Err(Refused::Code(code::CLOSED)) => S::received(None),
@@ -82,20 +79,23 @@ pub(crate) fn held<R: Carries<T>, T>(answer: Answer<R>) -> Result<T, Error> {
 }
 
 impl<'a, R: Room> Seat<'a, R> {
-    /// Makes a call that may block. If its seat is parked, this waits until the seat is woken, and makes the call again.
+    /// Makes a call that may block. If its seat is parked, this waits until the seat is woken, and
+    /// makes the call again.
     #[inline]
     pub(crate) fn wait(&mut self, want: Want<'_, R>) -> Answer<R> {
         let seat = self.ready();
-        let mut slot = R::slot();
-        let mut code = self.board.ask_by(self.parker, false, |room| want.ask(room, seat, false, &mut slot));
+        let mut received = R::nothing();
+        let mut code =
+            self.board.ask(self.parker, false, |room| want.ask(room, seat, false, &mut received));
         while code == code::PARKED {
             self.parker.park();
             // If a sink panics in this call, the seat's next one withdraws it, or the seat's end.
             self.is_parked = true;
-            code = self.board.ask_by(self.parker, true, |room| want.ask(room, seat, true, &mut slot));
+            code =
+                self.board.ask(self.parker, true, |room| want.ask(room, seat, true, &mut received));
             self.is_parked = false;
         }
-        answer::<R>(code, &mut slot)
+        answer::<R>(code, received)
     }
 
     /// The same, but no longer than this. A limit that no clock reaches is none.
@@ -106,25 +106,26 @@ impl<'a, R: Room> Seat<'a, R> {
         }
     }
 
-    /// The same, until then at the latest. Behind the deadline it makes the call once more. If that is parked, it withdraws it
-    /// before others have the lock.
+    /// The same, until then at the latest. Behind the deadline it makes the call once more. If that
+    /// is parked, it withdraws it before others have the lock.
     pub(crate) fn wait_until(&mut self, want: Want<'_, R>, deadline: Instant) -> Answer<R> {
         let seat = self.ready();
-        let mut slot = R::slot();
+        let mut received = R::nothing();
         let mut is_again = false;
         let mut is_last = deadline <= Instant::now();
         loop {
-            let ask = |room: &mut Handle| want.ask(room, seat, is_again, &mut slot);
+            let ask = |room: &mut Handle| want.ask(room, seat, is_again, &mut received);
             // As in `wait`.
             self.is_parked = is_again;
             let code = if is_last {
-                self.board.ask_at_last_by(self.parker, seat, is_again, ask)
+                self.board
+                    .change(Some(self.parker), |inside| inside.ask_at_last(seat, is_again, ask))
             } else {
-                self.board.ask_by(self.parker, is_again, ask)
+                self.board.ask(self.parker, is_again, ask)
             };
             self.is_parked = false;
             if code != code::PARKED {
-                return answer::<R>(code, &mut slot);
+                return answer::<R>(code, received);
             }
             if is_last {
                 return Err(Refused::TimedOut);
@@ -141,7 +142,8 @@ impl<'a, R: Room> Seat<'a, R> {
     }
 }
 
-/// A call that waits for its future's task to be woken. If it is dropped before it is answered, it is withdrawn.
+/// A call that waits for its future's task to be woken. If it is dropped before it is answered, it
+/// is withdrawn.
 pub(crate) struct Waiting<'s, 'a, 'm, R: Room> {
     seat: &'s mut Seat<'a, R>,
     want: Want<'m, R>,
@@ -151,10 +153,13 @@ impl<R: Room> Waiting<'_, '_, '_, R> {
     /// Makes the call, for the first time or again. `None` if its seat is parked.
     fn ask(&mut self, is_again: bool) -> Option<Answer<R>> {
         let (seat, want) = (self.seat.number(), self.want);
-        let mut slot = R::slot();
-        let code = self.seat.board.ask_by(self.seat.parker, is_again, |room| want.ask(room, seat, is_again, &mut slot));
+        let mut received = R::nothing();
+        let code = self
+            .seat
+            .board
+            .ask(self.seat.parker, is_again, |room| want.ask(room, seat, is_again, &mut received));
         self.seat.is_parked = code == code::PARKED;
-        (!self.seat.is_parked).then(|| answer::<R>(code, &mut slot))
+        (!self.seat.is_parked).then(|| answer::<R>(code, received))
     }
 }
 

@@ -3,16 +3,18 @@
 use crate::appending::Appending;
 use crate::error::Error;
 use crate::journal::Journal;
-use crate::raw::{self, done, written, Handle};
+use crate::raw::{self, done, written, Handle, Opening};
 use crate::room::{Bytes, Room};
 use std::fmt;
 use std::fs::File;
 use std::io;
 use std::mem;
 
-/// What a switchboard does if a call finds its journal full. See [`Switchboard::when_full`](crate::Switchboard::when_full).
+/// What a switchboard does if a call finds its journal full. See
+/// [`Switchboard::when_full`](crate::Switchboard::when_full).
 ///
-/// It cuts the journal under the lock, and asks no lane and no feed to close. Then it makes the call.
+/// It cuts the journal under the lock, and asks no lane and no feed to close. Then it makes the
+/// call.
 ///
 /// ```
 /// use seryugo::{Switchboard, WhenFull};
@@ -31,7 +33,8 @@ pub enum WhenFull<R: Room = Bytes> {
     Refuse,
     /// The switchboard drops the entries.
     Drop,
-    /// The switchboard calls this sink with the entries, which it keeps until the sink returns `Ok`.
+    /// The switchboard calls this sink with the entries, which it keeps until the sink returns
+    /// `Ok`.
     Call(Box<Sink<R>>),
     /// The switchboard gives the entries away. If it gets them back, it keeps them.
     Give(Box<Taker<R>>),
@@ -41,7 +44,8 @@ type Sink<R> = dyn FnMut(&Journal<R>) -> io::Result<()> + Send;
 type Taker<R> = dyn FnMut(Journal<R>) -> Result<(), Journal<R>> + Send;
 
 impl<R: Room> WhenFull<R> {
-    /// Calls this sink with the entries. The sink runs under the lock, so it must not call the switchboard.
+    /// Calls this sink with the entries. The sink runs under the lock, so it must not call the
+    /// switchboard.
     ///
     /// ```
     /// use seryugo::{Switchboard, WhenFull};
@@ -61,8 +65,9 @@ impl<R: Room> WhenFull<R> {
         WhenFull::Call(Box::new(sink))
     }
 
-    /// Gives the entries away, such as to a thread that writes them meanwhile. `Err` gives them back. If the taker panics, they are
-    /// lost. It runs under the lock, so it must not call the switchboard.
+    /// Gives the entries away, such as to a thread that writes them meanwhile. `Err` gives them
+    /// back. If the taker panics, they are lost. It runs under the lock, so it must not call the
+    /// switchboard.
     ///
     /// ```
     /// use seryugo::{Switchboard, WhenFull};
@@ -78,24 +83,30 @@ impl<R: Room> WhenFull<R> {
     /// assert_eq!(journals.recv().unwrap().len(), 1);
     /// # Ok::<(), seryugo::Error>(())
     /// ```
-    pub fn give(taker: impl FnMut(Journal<R>) -> Result<(), Journal<R>> + Send + 'static) -> WhenFull<R> {
+    pub fn give(
+        taker: impl FnMut(Journal<R>) -> Result<(), Journal<R>> + Send + 'static,
+    ) -> WhenFull<R> {
         WhenFull::Give(Box::new(taker))
     }
 
-    /// Appends the entries to a file, and syncs it before the call is made. If that fails, it cuts the file to what it had.
+    /// Appends the entries to a file, and syncs it before the call is made. If that fails, it cuts
+    /// the file to what it had.
     ///
-    /// An empty file gets pieces with sums, as [`Journal::write_sealed_to`] writes them. A file that has such pieces, or pieces without
-    /// sums, gets more of them. Open it for reading too: the last line, which has the last sum, is read before a piece is written. If
-    /// that isn't the end of a piece, nothing is written: cut off first what is torn
-    /// ([`restore_torn`](crate::Switchboard::restore_torn)). Nor is anything written if the file has an entry where the piece begins, as
-    /// if a new switchboard gets the file of another one.
+    /// An empty file gets pieces with sums, as [`Journal::write_sealed_to`] writes them. A file
+    /// that has such pieces, or pieces without sums, gets more of them. Open it for reading too:
+    /// the last line, which has the last sum, is read before a piece is written. If that isn't the
+    /// end of a piece, nothing is written: cut off first what is torn
+    /// ([`restore_torn`](crate::Switchboard::restore_torn)). Nor is anything written if the file
+    /// has an entry where the piece begins, as if a new switchboard gets the file of another one.
     ///
-    /// It goes on with this file, also if another one gets its name. So [`compact_with`](crate::Switchboard::compact_with) may write a
-    /// short journal in place of the file's text, but a crash meanwhile loses the text. To rename a new file to the old one's name, use
-    /// a sink that you can give the new one.
+    /// It goes on with this file, also if another one gets its name. So
+    /// [`compact_with`](crate::Switchboard::compact_with) may write a short journal in place of the
+    /// file's text, but a crash meanwhile loses the text. To rename a new file to the old one's
+    /// name, use a sink that you can give the new one.
     ///
-    /// Send no message of 371,000 bytes or more. It may be [`TooLong`](Error::TooLong) to be written: then each call from there on fails
-    /// with [`NotKept`](Error::NotKept). At the end call [`keep`](crate::Switchboard::keep): a switchboard that is dropped writes nothing.
+    /// Send no message of 371,000 bytes or more. It may be [`TooLong`](Error::TooLong) to be
+    /// written: then each call from there on fails with [`NotKept`](Error::NotKept). At the end
+    /// call [`keep`](crate::Switchboard::keep): a switchboard that is dropped writes nothing.
     ///
     /// ```no_run
     /// use seryugo::{Switchboard, WhenFull};
@@ -106,6 +117,7 @@ impl<R: Room> WhenFull<R> {
     /// # Ok(())
     /// # }
     /// ```
+    #[must_use]
     pub fn file(file: File) -> WhenFull<R> {
         let mut file = Appending::to(file);
         WhenFull::call(move |journal| file.append(journal))
@@ -147,11 +159,12 @@ impl<R: Room> Keeper<R> {
         self.kept
     }
 
-    /// Cuts the journal of a room, and does with its entries what is to be done with them. If that fails, it keeps them.
+    /// Cuts the journal of a room, and does with its entries what is to be done with them. If that
+    /// fails, it keeps them.
     pub fn cut(&mut self, room: &mut Handle, start: Start) -> Result<(), Error> {
         self.hand_over()?;
         if let WhenFull::Drop = self.when_full {
-            return done(unsafe { raw::seryugo_cut_open(room) });
+            return done(raw::seryugo_cut_open(room));
         }
         self.kept = Some(taken(room, start, raw::seryugo_take_journal_open)?);
         self.hand_over()
@@ -196,7 +209,7 @@ impl<R: Room> Keeper<R> {
 }
 
 /// A call that writes a handle to entries of a room, and how many they are.
-pub(crate) type Take = unsafe extern "C" fn(*mut Handle, *mut Handle, *mut u64) -> u32;
+pub(crate) type Take = extern "C" fn(&mut Handle, &mut Opening, &mut u64) -> u32;
 
 /// Where the text begins to which a switchboard adds its pieces. A compaction begins it anew.
 #[derive(Clone, Copy, Default)]
@@ -214,31 +227,41 @@ impl Start {
     }
 }
 
-/// Cuts the journal of a room, of which a short journal was made that has so many entries. Returns where the text begins then.
+/// Cuts the journal of a room, of which a short journal was made that has so many entries. Returns
+/// where the text begins then.
 pub(crate) fn cut_behind(room: &mut Handle, short: u64) -> Result<Start, Error> {
-    done(unsafe { raw::seryugo_cut_open(room) })?;
-    let cut = written(|count| unsafe { raw::seryugo_cut_at(room, count) })?;
+    done(raw::seryugo_cut_open(room))?;
+    let cut = written(|count| raw::seryugo_cut_at(room, count))?;
     Ok(Start { cut, short })
 }
 
 /// The entries of a room's journal, which this call cuts.
-pub(crate) fn taken<R: Room>(room: &mut Handle, start: Start, take: Take) -> Result<Journal<R>, Error> {
-    let first = written(|count| unsafe { raw::seryugo_cut_at(room, count) })?;
+pub(crate) fn taken<R: Room>(
+    room: &mut Handle,
+    start: Start,
+    take: Take,
+) -> Result<Journal<R>, Error> {
+    let first = written(|count| raw::seryugo_cut_at(room, count))?;
     journal_by(room, start.place(first), take)
 }
 
-/// The short journal of a room, and where the text begins that it begins. The room's journal is cut then.
+/// The short journal of a room, and where the text begins that it begins. The room's journal is cut
+/// then.
 pub(crate) fn cut_short<R: Room>(room: &mut Handle) -> Result<(Journal<R>, Start), Error> {
     let journal = journal_by(room, 0, raw::seryugo_compact_and_cut)?;
-    let cut = written(|count| unsafe { raw::seryugo_cut_at(room, count) })?;
+    let cut = written(|count| raw::seryugo_cut_at(room, count))?;
     let short = journal.len() as u64;
     Ok((journal, Start { cut, short }))
 }
 
 /// The entries that this call takes, of which the first has this position.
-pub(crate) fn journal_by<R: Room>(room: &mut Handle, first: u64, take: Take) -> Result<Journal<R>, Error> {
+pub(crate) fn journal_by<R: Room>(
+    room: &mut Handle,
+    first: u64,
+    take: Take,
+) -> Result<Journal<R>, Error> {
     let mut count = 0;
-    let handle = Handle::opened(|journal| unsafe { take(room, journal, &mut count) })?;
+    let handle = Handle::opened(|journal| take(room, journal, &mut count))?;
     // The entries are in memory, so that a `usize` counts them.
     Ok(Journal::new(handle, first, count as usize))
 }

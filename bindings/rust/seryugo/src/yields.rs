@@ -6,16 +6,18 @@ use std::sync::OnceLock;
 use std::thread;
 use std::time::{Duration, Instant};
 
-/// A yield that takes longer has let another thread compute for a whole time slice. Threads that only call and look take less, even if
-/// many take their turns.
+/// A yield that takes longer has let another thread compute for a whole time slice. Threads that
+/// only call and look take less, even if many take their turns.
 const LONG: Duration = Duration::from_millis(1);
-/// After a long yield no thread yields for so many times as long. So long yields take a small part of the time.
+/// After a long yield no thread yields for so many times as long. So long yields take a small part
+/// of the time.
 const REST: u32 = 16;
 
 /// What the threads of this process know of yields.
 static YIELDS: Apart<Yields> = Apart(Yields::new());
 
-/// Lets other threads run, if yields are short: whether this one was. If not, the caller is not to yield again in its wait.
+/// Lets other threads run, if yields are short: whether this one was. If not, the caller is not to
+/// yield again in its wait.
 pub(crate) fn pass_by_yielding() -> bool {
     YIELDS.0.are_short_at(now) && {
         let begun = now();
@@ -31,7 +33,8 @@ fn now() -> Duration {
     FIRST.get_or_init(Instant::now).elapsed()
 }
 
-/// On a busy machine a yield gives up the whole time slice. So once a yield was long, no thread yields for a while.
+/// On a busy machine a yield gives up the whole time slice. So once a yield was long, no thread
+/// yields for a while.
 struct Yields {
     /// Until then no thread yields, in nanoseconds. 0 if no yield was long before.
     rest_until: AtomicU64,
@@ -56,7 +59,8 @@ impl Yields {
         let is_short = taken < LONG;
         if !is_short {
             let until = ended.saturating_add(taken.saturating_mul(REST));
-            self.rest_until.store(until.as_nanos().try_into().unwrap_or(u64::MAX), Ordering::Relaxed);
+            self.rest_until
+                .store(until.as_nanos().try_into().unwrap_or(u64::MAX), Ordering::Relaxed);
         }
         is_short
     }

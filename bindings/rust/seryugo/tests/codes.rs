@@ -1,6 +1,7 @@
 //! Each code of the library at each call that can return it to safe code.
 //!
-//! `Gone`, `Unseen` and the codes of wrong handles are for programs in C: here the types keep each rule that they tell of.
+//! `Gone`, `Unseen` and the codes of wrong handles are for programs in C: here the types keep each
+//! rule that they tell of.
 
 mod common;
 
@@ -47,7 +48,8 @@ fn unwritten() -> Vec<Row> {
     lanes.into_iter().chain(readers()).collect()
 }
 
-/// A name belongs to its switchboard, also if another one has an object of the same number and kind.
+/// A name belongs to its switchboard, also if another one has an object of the same number and
+/// kind.
 #[test]
 fn objects_of_other_boards_are_refused() {
     let other = board_of_each(100);
@@ -93,7 +95,11 @@ fn objects_are_found_by_number_and_kind() {
     ];
     for (kind, find) in finds {
         for number in 0..OBJECTS {
-            let expected = if number == kind { Ok(()) } else { Err(Error::WrongKind) };
+            let expected = if number == kind {
+                Ok(())
+            } else {
+                Err(Error::WrongKind)
+            };
             assert_eq!(find(&board, number), expected);
         }
         assert_eq!(find(&board, OBJECTS), Err(Error::NoSuch));
@@ -169,13 +175,28 @@ fn nothing_put_and_closed_are_answers() {
         board.mvar(MVAR).unwrap(),
     );
     assert_eq!((seat.recv_poll(mailbox), seat.recv_poll(port)), (Ok(None), Ok(None)));
-    assert_eq!((seat.get_poll(ivar), seat.get_poll(mvar), seat.take_poll(mvar)), (Ok(None), Ok(None), Ok(None)));
+    assert_eq!(
+        (seat.get_poll(ivar), seat.get_poll(mvar), seat.take_poll(mvar)),
+        (Ok(None), Ok(None), Ok(None))
+    );
     assert_eq!((board.held(ivar), board.held(mvar)), (Ok(None), Ok(None)));
-    assert_eq!((seat.put(ivar, 1), seat.put(ivar, 2), seat.get(ivar)), (Ok(true), Ok(false), Ok(1)));
-    assert_eq!((seat.put(mvar, 3), seat.put(mvar, 4), seat.take(mvar)), (Ok(true), Ok(false), Ok(3)));
+    assert_eq!(
+        (seat.put(ivar, 1), seat.put(ivar, 2), seat.get(ivar)),
+        (Ok(true), Ok(false), Ok(1))
+    );
+    assert_eq!(
+        (seat.put(mvar, 3), seat.put(mvar, 4), seat.take(mvar)),
+        (Ok(true), Ok(false), Ok(3))
+    );
     assert_eq!((seat.close(port), seat.close(port)), (Ok(true), Ok(false)));
-    assert_eq!((seat.recv(port), seat.recv_poll(port), seat.copy(port)), (Ok(None), Ok(None), Ok(None)));
-    assert_eq!((seat.recv_timeout(port, Duration::ZERO), block_on(seat.recv_async(port))), (Ok(None), Ok(None)));
+    assert_eq!(
+        (seat.recv(port), seat.recv_poll(port), seat.copy(port)),
+        (Ok(None), Ok(None), Ok(None))
+    );
+    assert_eq!(
+        (seat.recv_timeout(port, Duration::ZERO), block_on(seat.recv_async(port))),
+        (Ok(None), Ok(None))
+    );
     assert_eq!((board.is_open(port), board.owed(port).err()), (Ok(false), board.owed(port).err()));
 }
 
@@ -183,7 +204,10 @@ fn nothing_put_and_closed_are_answers() {
 fn limits_and_capacities_have_bounds() {
     for limit in [0, (1 << 32) + 1, u64::MAX] {
         assert_eq!(Switchboard::of_numbers(limit).err(), Some(Error::OutOfBounds));
-        assert!(matches!(Board::restore(&b"journal 1\nend 0\n"[..], limit), Err(RestoreError::OutOfBounds)));
+        assert!(matches!(
+            Board::restore(&b"journal 1\nend 0\n"[..], limit),
+            Err(RestoreError::OutOfBounds)
+        ));
     }
     let board = board_of_each(100);
     let (mailbox, channel) = (board.mailbox(MAILBOX).unwrap(), board.channel(CHANNEL).unwrap());
@@ -201,7 +225,10 @@ fn the_port_of_an_open_feed_is_the_feeds_alone() {
     let channel = board.channel(CHANNEL).unwrap();
     let mut feed = board.feed(channel, 1).unwrap();
     let port = feed.port();
-    assert_eq!((seat.recv(port), seat.recv_poll(port)), (Err(Error::WrongKind), Err(Error::WrongKind)));
+    assert_eq!(
+        (seat.recv(port), seat.recv_poll(port)),
+        (Err(Error::WrongKind), Err(Error::WrongKind))
+    );
     assert_eq!(seat.recv_timeout(port, A_MILLISECOND), Err(Error::WrongKind));
     assert_eq!(seat.close(port), Err(Error::WrongKind));
     assert_eq!((feed.recv(), feed.pump()), (Ok(None), Ok(0)));
@@ -357,7 +384,10 @@ fn runs_out_of_memory() {
     assert_eq!(unclosed.error(), Error::NoMemory);
     drop(taken);
     unclosed.close().unwrap();
-    assert_eq!((seat.send(mailbox, 0), board.sent(mailbox), board.lost()), (Ok(()), Ok(sent + 2), 0));
+    assert_eq!(
+        (seat.send(mailbox, 0), board.sent(mailbox), board.lost()),
+        (Ok(()), Ok(sent + 2), 0)
+    );
 }
 
 #[test]
@@ -387,7 +417,7 @@ fn errors_have_plain_words() {
     texts.sort();
     assert!(texts.windows(2).all(|pair| pair[0] != pair[1]));
     assert!(texts.iter().all(|text| text.len() > 20 && !text.ends_with('.')));
-    let retryable: Vec<Error> = all.into_iter().filter(|error| error.is_retryable()).collect();
+    let retryable: Vec<Error> = all.into_iter().filter(seryugo::Error::is_retryable).collect();
     assert_eq!(
         retryable,
         [

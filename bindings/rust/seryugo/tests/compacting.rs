@@ -37,12 +37,16 @@ fn lawful(text: &[u8]) -> u64 {
     checker.entries()
 }
 
-/// A text leaves what the switchboard has: a short journal of the one is a short journal of the other.
+/// A text leaves what the switchboard has: a short journal of the one is a short journal of the
+/// other.
 fn leaves_the_same(text: &[u8], board: &Board) {
     let mut checker = Checker::of_numbers().unwrap();
     checker.read(text).unwrap();
     let of_text = text_of(&checker.compact().unwrap());
-    assert_eq!(String::from_utf8(of_text).unwrap(), String::from_utf8(text_of(&board.compact().unwrap())).unwrap());
+    assert_eq!(
+        String::from_utf8(of_text).unwrap(),
+        String::from_utf8(text_of(&board.compact().unwrap())).unwrap()
+    );
 }
 
 #[test]
@@ -66,7 +70,10 @@ fn the_journal_stays_or_is_cut() {
     let next = board.take_journal().unwrap();
     assert_eq!((next.first(), next.len()), (2, 1));
     assert_eq!(lawful(&[text_of(&cut), text_of(&next)].concat()), 3);
-    assert_eq!(text_of(&Board::of_numbers(1).unwrap().compact_and_cut().unwrap()), b"journal 1\nend 0\n");
+    assert_eq!(
+        text_of(&Board::of_numbers(1).unwrap().compact_and_cut().unwrap()),
+        b"journal 1\nend 0\n"
+    );
 }
 
 #[test]
@@ -110,7 +117,10 @@ fn rings_stay_open_and_what_is_in_them_comes_later() {
     assert_eq!(restored.owed(restored.port(port.number()).unwrap()), Ok(4));
     lane.close().unwrap();
     while feed.pump().unwrap() > 0 {}
-    assert_eq!(std::iter::from_fn(|| feed.recv().unwrap()).collect::<Vec<u64>>(), (0..8).collect::<Vec<u64>>());
+    assert_eq!(
+        std::iter::from_fn(|| feed.recv().unwrap()).collect::<Vec<u64>>(),
+        (0..8).collect::<Vec<u64>>()
+    );
     drop(feed);
     text.extend(text_of(&board.take_journal().unwrap()));
     lawful(&text);
@@ -140,9 +150,11 @@ fn it_stands_for_entries_that_no_sink_took() {
     let fills = Arc::new(AtomicBool::new(true));
     let (is_full, (sender, pieces)) = (fills.clone(), channel());
     let board =
-        Board::of_numbers(2).unwrap().when_full(WhenFull::give(move |journal| match is_full.load(Ordering::Relaxed) {
-            true => Err(journal),
-            false => sender.send(journal).map_err(|refused| refused.0),
+        Board::of_numbers(2).unwrap().when_full(WhenFull::give(move |journal| {
+            match is_full.load(Ordering::Relaxed) {
+                true => Err(journal),
+                false => sender.send(journal).map_err(|refused| refused.0),
+            }
         }));
     let mut seat = board.seat().unwrap();
     let mailbox = seat.mailbox().unwrap();
@@ -165,7 +177,9 @@ fn a_sink_that_fails_behind_it_loses_nothing() {
     let board = Switchboard::new(2).unwrap().when_full(WhenFull::call(move |journal: &Journal| {
         match calls.fetch_add(1, Ordering::Relaxed) % 2 {
             0 => Err(ErrorKind::StorageFull.into()),
-            _ => sender.send((journal.first(), text_of(journal))).map_err(|_| ErrorKind::BrokenPipe.into()),
+            _ => sender
+                .send((journal.first(), text_of(journal)))
+                .map_err(|_| ErrorKind::BrokenPipe.into()),
         }
     }));
     let mut seat = board.seat().unwrap();
@@ -189,9 +203,11 @@ fn a_sink_that_fails_behind_it_loses_nothing() {
 #[test]
 fn nothing_is_cut_if_the_short_journal_is_not_kept() {
     let (sender, pieces) = channel();
-    let board = Board::of_numbers(LIMIT).unwrap().when_full(WhenFull::give(move |journal| match sender.send(journal) {
-        Ok(()) => Ok(()),
-        Err(refused) => Err(refused.0),
+    let board = Board::of_numbers(LIMIT).unwrap().when_full(WhenFull::give(move |journal| {
+        match sender.send(journal) {
+            Ok(()) => Ok(()),
+            Err(refused) => Err(refused.0),
+        }
     }));
     let mut seat = board.seat().unwrap();
     let mailbox = seat.mailbox().unwrap();
@@ -202,7 +218,9 @@ fn nothing_is_cut_if_the_short_journal_is_not_kept() {
         Err(ErrorKind::StorageFull.into())
     });
     assert_eq!(kept.unwrap_err().kind(), ErrorKind::StorageFull);
-    let panicked = catch_unwind(AssertUnwindSafe(|| board.compact_with(|_| -> io::Result<()> { panic!("a test") })));
+    let panicked = catch_unwind(AssertUnwindSafe(|| {
+        board.compact_with(|_| -> io::Result<()> { panic!("a test") })
+    }));
     assert!(panicked.is_err());
     assert_eq!(board.cut_at(), 0);
     board.keep().unwrap();
@@ -212,11 +230,15 @@ fn nothing_is_cut_if_the_short_journal_is_not_kept() {
     seat.send(mailbox, 7).unwrap();
     board.keep().unwrap();
     let pieces: Vec<Journal<Numbers>> = pieces.try_iter().collect();
-    assert_eq!(pieces.iter().map(|piece| (piece.first(), piece.len())).collect::<Vec<_>>(), [(0, 3), (2, 1)]);
+    assert_eq!(
+        pieces.iter().map(|piece| (piece.first(), piece.len())).collect::<Vec<_>>(),
+        [(0, 3), (2, 1)]
+    );
     leaves_the_same(&[text, text_of(&pieces[1])].concat(), &board);
 }
 
-/// A sink is handed nothing between a short journal and the cut, so that it needs no position to know what a piece follows.
+/// A sink is handed nothing between a short journal and the cut, so that it needs no position to
+/// know what a piece follows.
 #[test]
 fn a_sink_follows_each_short_journal_while_threads_call() {
     type Kept = (Vec<u8>, Option<Sum>);
@@ -229,7 +251,8 @@ fn a_sink_follows_each_short_journal_while_threads_call() {
             Ok(())
         }));
         let mut seats = common::seats(&board, 4);
-        let mailboxes: Vec<Mailbox> = seats.iter_mut().map(|seat| seat.mailbox().unwrap()).collect();
+        let mailboxes: Vec<Mailbox> =
+            seats.iter_mut().map(|seat| seat.mailbox().unwrap()).collect();
         thread::scope(|scope| {
             let mut running = Vec::new();
             for (number, mut seat) in seats.into_iter().enumerate() {
@@ -279,8 +302,9 @@ impl Text {
         }
     }
 
-    /// Begins anew with a short journal, if it is shorter than the text: then the pieces tell by their positions whether they came
-    /// before the cut or after it. Meanwhile no round's calls add more to a short journal than these.
+    /// Begins anew with a short journal, if it is shorter than the text: then the pieces tell by
+    /// their positions whether they came before the cut or after it. Meanwhile no round's calls add
+    /// more to a short journal than these.
     fn shorten(&mut self, board: &Board) {
         self.add_all();
         if self.end < board.compact().unwrap().len() as u64 + 4 * EACH {
@@ -337,7 +361,10 @@ fn several_threads_call_while_one_compacts_in_a_loop() {
             assert_eq!(lawful(&text.text), text.end);
             leaves_the_same(&text.text, &board);
             let restored = Board::restore(&text.text[..], LIMIT).unwrap();
-            assert_eq!(restored.owed(restored.mailbox(mailbox.number()).unwrap()), board.owed(mailbox));
+            assert_eq!(
+                restored.owed(restored.mailbox(mailbox.number()).unwrap()),
+                board.owed(mailbox)
+            );
             assert_eq!(restored.owed(restored.port(port.number()).unwrap()), board.owed(port));
             assert_eq!(restored.held(restored.mvar(mvar.number()).unwrap()), board.held(mvar));
         }
@@ -379,8 +406,11 @@ fn round(board: &Board, seats: &mut [common::Seat<'_>], objects: Objects, text: 
             let sum: u64 = (0..2 * EACH).map(|_| ben.recv(mailbox).unwrap()).sum();
             assert_eq!(sum, EACH * (2 * EACH - 1));
         }));
-        running.push(scope.spawn(move || (0..EACH).for_each(|number| carl.multicast(channel, number).unwrap())));
-        running.push(scope.spawn(move || (LEFT..EACH).for_each(|_| assert!(dan.recv(port).is_ok()))));
+        running.push(scope.spawn(move || {
+            (0..EACH).for_each(|number| carl.multicast(channel, number).unwrap());
+        }));
+        running
+            .push(scope.spawn(move || (LEFT..EACH).for_each(|_| assert!(dan.recv(port).is_ok()))));
         running.push(scope.spawn(move || {
             let mut next = 0;
             while next < EACH {

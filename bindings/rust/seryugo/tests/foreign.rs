@@ -1,5 +1,5 @@
-//! A library that isn't the one of this crate, though it has the same version: its calls return any code. No call of the crate
-//! panics, and each that fails says by which code.
+//! A library that isn't the one of this crate, though it has the same version: its calls return any
+//! code. No call of the crate panics, and each that fails says by which code.
 
 mod common;
 
@@ -10,22 +10,28 @@ use std::fs;
 use std::path::{Path, PathBuf};
 use std::process::Command;
 
-/// The variables of the environment that have what the library returns: from the calls that open or make something, and from others.
+/// The variables of the environment that have what the library returns: from the calls that open or
+/// make something, and from others.
 const OPENING: &str = "SERYUGO_TEST_OPENING";
 const OTHER: &str = "SERYUGO_TEST_OTHER";
 
-/// The head of the library. Its functions read nothing that they are given, so none declares it.
-const HEAD: &str = r#"
+/// The head of the library.
+const HEAD: &str = r"
+#include <stdbool.h>
+#include <stddef.h>
 #include <stdint.h>
 #include <stdlib.h>
 static uint32_t code(const char *of) { return (uint32_t)strtoul(getenv(of), NULL, 10); }
-uint32_t seryugo_kind(void *room, uint64_t object, uint64_t *kind) { (void)room; *kind = object; return 0; }
-"#;
+uint32_t seryugo_kind(void *room, uint64_t object, uint64_t *kind)
+{
+    *kind = object;
+    return 0;
+}
+";
 
 /// The files that declare what the crate calls.
-const DECLARING: [&str; 6] = [
+const DECLARING: [&str; 5] = [
     include_str!("../src/raw.rs"),
-    include_str!("../src/calls.rs"),
     include_str!("../src/numbers.rs"),
     include_str!("../src/bytes.rs"),
     include_str!("../src/received.rs"),
@@ -40,12 +46,35 @@ fn library_in_c() -> String {
         | part(env!("CARGO_PKG_VERSION_PATCH"));
     let mut library = format!("{HEAD}uint32_t seryugo_version(void) {{ return {version}; }}\n");
     let declared = DECLARING.iter().flat_map(|file| file.split("fn seryugo_").skip(1));
-    let names = declared.filter_map(|function| Some(function.split_once('(')?.0));
-    for name in names.filter(|name| !matches!(*name, "version" | "kind")) {
-        let variable = if opens(name) { OPENING } else { OTHER };
-        library += &format!("uint32_t seryugo_{name}(void) {{ return code(\"{variable}\"); }}\n");
+    for function in declared {
+        let (name, rest) = function.split_once('(').unwrap();
+        if !matches!(name, "version" | "kind") {
+            library += &function_in_c(name, rest.split_once(')').unwrap().0);
+        }
     }
     library
+}
+
+/// A function that returns a code. If it opens a handle, it writes one.
+fn function_in_c(name: &str, declared: &str) -> String {
+    let variable = if opens(name) { OPENING } else { OTHER };
+    let types = declared.split(',').filter_map(|parameter| Some(parameter.split_once(": ")?.1));
+    let (mut parameters, mut writes) = (Vec::new(), String::new());
+    for (at, declared) in types.enumerate() {
+        let in_c = match declared {
+            "u64" => "uint64_t",
+            "usize" => "size_t",
+            "bool" => "bool",
+            "&mut Opening" => "void **",
+            _ => "void *",
+        };
+        parameters.push(format!("{in_c} p{at}"));
+        if declared == "&mut Opening" {
+            writes = format!("*p{at} = p{at}; ");
+        }
+    }
+    let parameters = parameters.join(", ");
+    format!("uint32_t seryugo_{name}({parameters}) {{ {writes}return code(\"{variable}\"); }}\n")
 }
 
 /// Whether a call opens or makes something, or is needed for that.
@@ -61,7 +90,9 @@ fn opens(name: &str) -> bool {
 fn built(folder: &Path) -> Option<()> {
     fs::create_dir_all(folder.join("lib")).unwrap();
     fs::write(folder.join("library.c"), library_in_c()).unwrap();
-    let run = |program: &str, words: &[&str]| Command::new(program).args(words).current_dir(folder).status().ok();
+    let run = |program: &str, words: &[&str]| {
+        Command::new(program).args(words).current_dir(folder).status().ok()
+    };
     let compiled = run("cc", &["-c", "library.c", "-o", "library.o"])?;
     let archived = run("ar", &["rcs", "lib/libseryugo.a", "library.o"])?;
     assert!(compiled.success() && archived.success());
@@ -77,7 +108,15 @@ fn a_foreign_library_makes_no_call_panic() {
         return;
     }
     let ended = Command::new(env!("CARGO"))
-        .args(["test", "--quiet", "--offline", "--test", "foreign", "--", "--ignored"])
+        .args([
+            "test",
+            "--quiet",
+            "--offline",
+            "--test",
+            "foreign",
+            "--",
+            "--ignored",
+        ])
         .current_dir(env!("CARGO_MANIFEST_DIR"))
         .env("SERYUGO_PREFIX", &folder)
         .env_remove("SERYUGO_ARCHIVES")
@@ -141,7 +180,8 @@ fn error_of(code: u32) -> Error {
     }
 }
 
-/// The answer of a call. In this library an object's number is that of its kind. The first codes are answers of some calls: then it may be one.
+/// The answer of a call. In this library an object's number is that of its kind. The first codes
+/// are answers of some calls: then it may be one.
 fn see<T>(call: &str, answer: Result<T, impl Into<Error>>, code: u32) {
     match answer.map_err(Into::into) {
         Ok(_) => assert!(code < 5, "{call} with the code {code}"),

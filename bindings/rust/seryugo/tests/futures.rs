@@ -1,4 +1,5 @@
-//! Calls as futures, on executors that are written here. If a turn or a wake is lost, a test here doesn't end.
+//! Calls as futures, on executors that are written here. If a turn or a wake is lost, a test here
+//! doesn't end.
 
 mod common;
 
@@ -83,7 +84,9 @@ fn run_all(tasks: Vec<Task<'_>>) {
             task,
             ready: Arc::clone(&ready),
         }));
-        let Some(future) = &mut tasks[task] else { continue };
+        let Some(future) = &mut tasks[task] else {
+            continue;
+        };
         if future.as_mut().poll(&mut Context::from_waker(&again)).is_ready() {
             tasks[task] = None;
             left -= 1;
@@ -110,7 +113,7 @@ fn each_call_is_a_future() {
                     assert_eq!(seat.take_async(often).await, Ok(5));
                     assert_eq!(seat.recv_async(port).await, Ok(None));
                     assert_eq!(seat.recv_async(mailbox).await, Err(Error::Stalled));
-                })
+                });
             });
             other.send(mailbox, 1).unwrap();
             let_them_wait();
@@ -176,7 +179,10 @@ fn each_task_that_is_due_is_woken() {
     type Event = fn(&Board, Seat<'_>);
     let events: [(Event, Result<u64, Error>); 3] = [
         (|board, mut seat| assert_eq!(seat.put(board.ivar(0).unwrap(), 5), Ok(true)), Ok(5)),
-        (|board, mut seat| while seat.send(board.mailbox(1).unwrap(), 5).is_ok() {}, Err(Error::JournalFull)),
+        (
+            |board, mut seat| while seat.send(board.mailbox(1).unwrap(), 5).is_ok() {},
+            Err(Error::JournalFull),
+        ),
         (|_, seat| drop(seat), Err(Error::Stalled)),
     ];
     for (event, expected) in events {
@@ -186,7 +192,8 @@ fn each_task_that_is_due_is_woken() {
         first.mailbox().unwrap();
         let counts = [(); 4].map(|()| Arc::new(Count::default()));
         let mut seats = seats(&board, 4);
-        let mut futures: Vec<_> = seats.iter_mut().map(|seat| Box::pin(seat.get_async(variable))).collect();
+        let mut futures: Vec<_> =
+            seats.iter_mut().map(|seat| Box::pin(seat.get_async(variable))).collect();
         for (future, count) in futures.iter_mut().zip(&counts) {
             let waker = Waker::from(Arc::clone(count));
             assert!(future.as_mut().poll(&mut Context::from_waker(&waker)).is_pending());
@@ -194,7 +201,11 @@ fn each_task_that_is_due_is_woken() {
         event(&board, first);
         assert!(counts.iter().all(|count| count.get() == 1));
         // Once the first is refused as stalled, its seat is free, and could answer the others.
-        let answered = if expected == Err(Error::Stalled) { 1 } else { 4 };
+        let answered = if expected == Err(Error::Stalled) {
+            1
+        } else {
+            4
+        };
         for (at, future) in futures.iter_mut().enumerate() {
             let polled = poll_once(future.as_mut());
             assert_eq!(
@@ -209,7 +220,8 @@ fn each_task_that_is_due_is_woken() {
     }
 }
 
-/// A thread that waits behind tasks is woken, and so is a task behind it, though the first tasks aren't polled.
+/// A thread that waits behind tasks is woken, and so is a task behind it, though the first tasks
+/// aren't polled.
 #[test]
 fn tasks_that_sleep_on_hold_up_no_thread() {
     within_a_minute(|| {
@@ -258,7 +270,8 @@ fn a_dropped_future_does_nothing() {
     assert_eq!(count.get(), 0);
 }
 
-/// A future that is due and is never polled again hands its turn on as it is dropped: to a thread, and to another future.
+/// A future that is due and is never polled again hands its turn on as it is dropped: to a thread,
+/// and to another future.
 #[test]
 fn a_dropped_future_hands_its_turn_on() {
     within_a_minute(|| {
@@ -293,7 +306,8 @@ fn a_dropped_future_hands_its_turn_on() {
     });
 }
 
-/// What a forgotten future waited for is withdrawn by the next call of its seat, or as the seat leaves.
+/// What a forgotten future waited for is withdrawn by the next call of its seat, or as the seat
+/// leaves.
 #[test]
 fn a_future_may_be_forgotten() {
     within_a_minute(|| {
@@ -389,8 +403,15 @@ fn a_token_goes_round_tasks_and_threads() {
     });
 }
 
-/// Receives until all were received by someone. Futures that aren't ready at once are dropped as often as not.
-fn receive_all(seat: &mut Seat<'_>, mailbox: Mailbox, received: &AtomicU64, all: u64, seed: u64) -> u64 {
+/// Receives until all were received by someone. Futures that aren't ready at once are dropped as
+/// often as not.
+fn receive_all(
+    seat: &mut Seat<'_>,
+    mailbox: Mailbox,
+    received: &AtomicU64,
+    all: u64,
+    seed: u64,
+) -> u64 {
     let (mut random, mut sum) = (Random::new(seed), 0);
     while received.load(Ordering::Relaxed) < all {
         let message = match random.below(3) {
@@ -416,8 +437,8 @@ fn receive_all(seat: &mut Seat<'_>, mailbox: Mailbox, received: &AtomicU64, all:
     sum
 }
 
-/// Some send at random times. Of those that receive some drop their futures, some have short limits, and one blocks on a future
-/// for each message. Nothing is lost, and each ends.
+/// Some send at random times. Of those that receive some drop their futures, some have short
+/// limits, and one blocks on a future for each message. Nothing is lost, and each ends.
 #[test]
 fn futures_are_dropped_while_messages_are_sent() {
     const EACH: u64 = 4_000;
@@ -428,15 +449,20 @@ fn futures_are_dropped_while_messages_are_sent() {
         let mut first = board.seat().unwrap();
         let mailbox = first.mailbox().unwrap();
         let received = &AtomicU64::new(0);
-        let (senders, receivers, mut blocks) = (seats(board, 3), seats(board, 3), board.seat().unwrap());
+        let (senders, receivers, mut blocks) =
+            (seats(board, 3), seats(board, 3), board.seat().unwrap());
         let sum: u64 = thread::scope(|scope| {
             let mut receiving: Vec<_> = (10..)
                 .zip(receivers)
                 .map(|(seed, mut seat)| {
-                    scope.spawn(move || receive_all(&mut seat, mailbox, received, 3 * EACH - BLOCKS, seed))
+                    scope.spawn(move || {
+                        receive_all(&mut seat, mailbox, received, 3 * EACH - BLOCKS, seed)
+                    })
                 })
                 .collect();
-            receiving.push(scope.spawn(move || (0..BLOCKS).map(|_| block_on(blocks.recv_async(mailbox)).unwrap()).sum()));
+            receiving.push(scope.spawn(move || {
+                (0..BLOCKS).map(|_| block_on(blocks.recv_async(mailbox)).unwrap()).sum()
+            }));
             for (sender, mut seat) in (0..).zip(senders) {
                 scope.spawn(move || {
                     let mut random = Random::new(sender);

@@ -51,9 +51,14 @@ fn a_board_goes_on_where_another_ended() {
     let mut text = three_pieces();
     let board = Board::restore(&text[..], LIMIT).unwrap();
     assert_eq!((board.entries(), board.cut_at()), (16, 16));
-    let (mailbox, channel, port) = (board.mailbox(0).unwrap(), board.channel(1).unwrap(), board.port(2).unwrap());
-    let (ivar, mvar, copy) = (board.ivar(3).unwrap(), board.mvar(4).unwrap(), board.port(5).unwrap());
-    assert_eq!((board.sent(mailbox), board.got(mailbox), board.owed(mailbox)), (Ok(3), Ok(1), Ok(2)));
+    let (mailbox, channel, port) =
+        (board.mailbox(0).unwrap(), board.channel(1).unwrap(), board.port(2).unwrap());
+    let (ivar, mvar, copy) =
+        (board.ivar(3).unwrap(), board.mvar(4).unwrap(), board.port(5).unwrap());
+    assert_eq!(
+        (board.sent(mailbox), board.got(mailbox), board.owed(mailbox)),
+        (Ok(3), Ok(1), Ok(2))
+    );
     assert_eq!((board.sent(channel), board.got(port), board.owed(port)), (Ok(1), Ok(1), Ok(0)));
     assert_eq!((board.held(ivar), board.held(mvar)), (Ok(Some(u64::MAX)), Ok(Some(8))));
     assert_eq!((board.is_open(port), board.is_open(copy)), (Ok(true), Ok(false)));
@@ -68,7 +73,10 @@ fn a_board_goes_on_where_another_ended() {
     assert_eq!((seat.number(), lane.number(), feed.number()), (2, 1, 1));
     lane.send(11).unwrap();
     lane.drain().unwrap();
-    assert_eq!((seat.recv(mailbox), seat.recv(mailbox), seat.recv(mailbox)), (Ok(6), Ok(10), Ok(11)));
+    assert_eq!(
+        (seat.recv(mailbox), seat.recv(mailbox), seat.recv(mailbox)),
+        (Ok(6), Ok(10), Ok(11))
+    );
     lane.close().unwrap();
     drop(feed);
 
@@ -83,20 +91,37 @@ fn a_board_goes_on_where_another_ended() {
 
 /// What a board has that a later call sees, of each object of `three_pieces`.
 fn left(board: &Board) -> String {
-    let (mailbox, channel, port) = (board.mailbox(0).unwrap(), board.channel(1).unwrap(), board.port(2).unwrap());
-    let (ivar, mvar, copy) = (board.ivar(3).unwrap(), board.mvar(4).unwrap(), board.port(5).unwrap());
+    let (mailbox, channel, port) =
+        (board.mailbox(0).unwrap(), board.channel(1).unwrap(), board.port(2).unwrap());
+    let (ivar, mvar, copy) =
+        (board.ivar(3).unwrap(), board.mvar(4).unwrap(), board.port(5).unwrap());
     let fed = board.port(6).unwrap();
-    let owed = [board.owed(mailbox), board.owed(port), board.owed(fed), board.owed(copy)];
+    let owed = [
+        board.owed(mailbox),
+        board.owed(port),
+        board.owed(fed),
+        board.owed(copy),
+    ];
     let open = [board.is_open(port), board.is_open(fed), board.is_open(copy)];
-    let channels = [board.channel_of(port), board.channel_of(fed), board.channel_of(copy)];
+    let channels = [
+        board.channel_of(port),
+        board.channel_of(fed),
+        board.channel_of(copy),
+    ];
     assert!(channels.iter().all(|of| *of == Ok(channel)));
     assert_eq!(board.mailbox(7), Err(Error::NoSuch));
     let mut seat = board.seat().unwrap();
     let waiting: Vec<u64> = seat.try_iter(mailbox).collect();
-    format!("{owed:?} {open:?} {:?} {:?} {waiting:?} {}", board.held(ivar), board.held(mvar), seat.number())
+    format!(
+        "{owed:?} {open:?} {:?} {:?} {waiting:?} {}",
+        board.held(ivar),
+        board.held(mvar),
+        seat.number()
+    )
 }
 
-/// A short journal leaves what the long one leaves, and the piece that goes on behind the long one follows it.
+/// A short journal leaves what the long one leaves, and the piece that goes on behind the long one
+/// follows it.
 #[test]
 fn a_short_journal_stands_for_a_long_one() {
     let long = three_pieces();
@@ -105,13 +130,15 @@ fn a_short_journal_stands_for_a_long_one() {
     assert!(journal.iter().all(|entry| entry.who == Who::Seat(1)));
     let mut short = Vec::new();
     journal.write_to(&mut short).unwrap();
-    let (short_board, long_board) = (Board::restore(&short[..], LIMIT).unwrap(), Board::restore(&long[..], LIMIT).unwrap());
+    let (short_board, long_board) =
+        (Board::restore(&short[..], LIMIT).unwrap(), Board::restore(&long[..], LIMIT).unwrap());
     assert_eq!(short_board.entries(), journal.len() as u64);
     assert_eq!(left(&short_board), left(&long_board));
 
     // Both boards made the same calls since. Only the positions of their entries differ.
     let (mut after_short, mut after_long) = (short.clone(), long.clone());
-    let (since_short, since_long) = (short_board.take_journal().unwrap(), long_board.take_journal().unwrap());
+    let (since_short, since_long) =
+        (short_board.take_journal().unwrap(), long_board.take_journal().unwrap());
     assert!(since_short.iter().eq(since_long.iter()));
     since_short.write_to(&mut after_short).unwrap();
     since_long.write_to(&mut after_long).unwrap();
@@ -141,17 +168,24 @@ fn a_reading_that_has_stopped_is_not_compacted() {
 fn kept_of(torn: &[u8]) -> usize {
     let whole = torn.iter().rposition(|byte| *byte == b'\n').map_or(0, |at| at + 1);
     let last = torn[..whole].split_inclusive(|byte| *byte == b'\n').next_back().unwrap_or_default();
-    whole - if last.starts_with(b"journal") { last.len() } else { 0 }
+    whole
+        - if last.starts_with(b"journal") {
+            last.len()
+        } else {
+            0
+        }
 }
 
-/// Each text that ends early is taken up to its last whole line. With its ending behind these it is a whole journal.
+/// Each text that ends early is taken up to its last whole line. With its ending behind these it is
+/// a whole journal.
 #[test]
 fn a_text_may_end_anywhere() {
     let text = three_pieces();
     for end in 0..=text.len() {
         let torn = &text[..end];
         // The parts that are read end at other places each time.
-        let (board, kept) = Board::restore_torn(BufReader::with_capacity(1 + end % 40, torn), LIMIT).unwrap();
+        let (board, kept) =
+            Board::restore_torn(BufReader::with_capacity(1 + end % 40, torn), LIMIT).unwrap();
         let whole = kept_of(torn);
         assert_eq!(kept.bytes, whole as u64);
         let lines = torn[..whole].split(|byte| *byte == b'\n');
@@ -163,7 +197,11 @@ fn a_text_may_end_anywhere() {
         board.seat().unwrap().mailbox().unwrap();
         board.take_journal().unwrap().write_to(&mut mended).unwrap();
         let checker = checked(&mended).unwrap();
-        assert_eq!((checker.entries(), checker.is_whole()), (kept.entries + 1, true), "the first {end} bytes");
+        assert_eq!(
+            (checker.entries(), checker.is_whole()),
+            (kept.entries + 1, true),
+            "the first {end} bytes"
+        );
         match Board::restore(torn, LIMIT) {
             Ok(_) => assert!(kept.ending.is_empty() && whole == end),
             Err(RestoreError::Torn(told)) => assert_eq!(told, kept),
@@ -256,7 +294,8 @@ fn readers_and_writers_may_fail() {
     assert_eq!(&room, b"journ");
 }
 
-/// A journal with a line that no reader takes isn't written. A message of three bytes a byte may have 371,000.
+/// A journal with a line that no reader takes isn't written. A message of three bytes a byte may
+/// have 371,000.
 #[test]
 fn no_journal_is_written_that_is_not_read() {
     for (length, is_short) in [(371_000, true), (371_400, false)] {
@@ -268,7 +307,10 @@ fn no_journal_is_written_that_is_not_read() {
         match board.take_journal().unwrap().write_to(&mut text) {
             Ok(()) => assert!(is_short),
             Err(error) => {
-                assert_eq!((is_short, error.kind(), text.len()), (false, io::ErrorKind::InvalidData, 0));
+                assert_eq!(
+                    (is_short, error.kind(), text.len()),
+                    (false, io::ErrorKind::InvalidData, 0)
+                );
                 assert_eq!(error.into_inner().unwrap().downcast_ref(), Some(&Error::TooLong));
                 continue;
             }
@@ -287,15 +329,26 @@ fn a_huge_number_costs_nothing() {
         let text = format!("journal 1\n{who} {last} mailbox: made 0\nend 1\n");
         let board = Board::restore(text.as_bytes(), LIMIT).unwrap();
         let seat = board.seat().map(|seat| seat.number());
-        assert_eq!(seat, if who == "seat" { Err(Error::NoMemory) } else { Ok(0) });
+        assert_eq!(
+            seat,
+            if who == "seat" {
+                Err(Error::NoMemory)
+            } else {
+                Ok(0)
+            }
+        );
     }
 }
 
-/// The threads of a restored board wait and are woken, by the numbers that follow those of the journal.
+/// The threads of a restored board wait and are woken, by the numbers that follow those of the
+/// journal.
 #[test]
 fn threads_wait_on_a_restored_board() {
-    let board =
-        Board::restore(&b"journal 1\nseat 40 mailbox: made 0\nseat 7 mailbox: made 1\nend 2\n"[..], 1 << 32).unwrap();
+    let board = Board::restore(
+        &b"journal 1\nseat 40 mailbox: made 0\nseat 7 mailbox: made 1\nend 2\n"[..],
+        1 << 32,
+    )
+    .unwrap();
     let (there, back) = (board.mailbox(0).unwrap(), board.mailbox(1).unwrap());
     let (mut ann, mut ben) = (board.seat().unwrap(), board.seat().unwrap());
     assert_eq!((ann.number(), ben.number()), (41, 42));

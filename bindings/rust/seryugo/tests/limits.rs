@@ -90,8 +90,8 @@ fn a_call_with_a_limit_is_answered_and_refused_as_any_other() {
     });
 }
 
-/// One waits up to a limit and one without, and as the limit passes a message is sent. If the first gives up although it was
-/// due, the other receives the message.
+/// One waits up to a limit and one without, and as the limit passes a message is sent. If the first
+/// gives up although it was due, the other receives the message.
 #[test]
 fn a_seat_that_gives_up_hands_its_turn_on() {
     within_a_minute(|| {
@@ -128,7 +128,13 @@ fn a_seat_that_gives_up_hands_its_turn_on() {
 }
 
 /// Receives with short limits until all of this many messages were received by someone.
-fn receive_all(seat: &mut Seat<'_>, mailbox: Mailbox, received: &AtomicU64, all: u64, seed: u64) -> u64 {
+fn receive_all(
+    seat: &mut Seat<'_>,
+    mailbox: Mailbox,
+    received: &AtomicU64,
+    all: u64,
+    seed: u64,
+) -> u64 {
     let (mut random, mut sum, mut last) = (Random::new(seed), 0, [None; 4]);
     while received.load(Ordering::Relaxed) < all {
         let limit = Duration::from_micros(random.below(60));
@@ -145,7 +151,8 @@ fn receive_all(seat: &mut Seat<'_>, mailbox: Mailbox, received: &AtomicU64, all:
     sum
 }
 
-/// Four send at random times, and four receive with limits that pass as often as not: nothing is lost, and each ends.
+/// Four send at random times, and four receive with limits that pass as often as not: nothing is
+/// lost, and each ends.
 #[test]
 fn limits_pass_while_messages_are_sent() {
     const EACH: u64 = 5_000;
@@ -159,7 +166,9 @@ fn limits_pass_while_messages_are_sent() {
         let sum: u64 = thread::scope(|scope| {
             let receiving: Vec<_> = (10..)
                 .zip(receivers)
-                .map(|(seed, mut seat)| scope.spawn(move || receive_all(&mut seat, mailbox, received, 4 * EACH, seed)))
+                .map(|(seed, mut seat)| {
+                    scope.spawn(move || receive_all(&mut seat, mailbox, received, 4 * EACH, seed))
+                })
                 .collect();
             for (sender, mut seat) in (0..).zip(senders) {
                 scope.spawn(move || {
@@ -189,7 +198,8 @@ fn take_at_last(seat: &mut Seat<'_>, variable: MVar, random: &mut Random) -> u64
     }
 }
 
-/// Variables are locks round counts. Half of the threads take them with limits, and the others without.
+/// Variables are locks round counts. Half of the threads take them with limits, and the others
+/// without.
 #[test]
 fn variables_are_locks_with_limits() {
     const THREADS: u64 = 8;
@@ -220,7 +230,8 @@ fn variables_are_locks_with_limits() {
     });
 }
 
-/// Each of many that wait at a variable or a port gives up or is answered, and all that wait without a limit are answered.
+/// Each of many that wait at a variable or a port gives up or is answered, and all that wait
+/// without a limit are answered.
 #[test]
 fn some_of_many_give_up() {
     within_a_minute(|| {
@@ -237,8 +248,14 @@ fn some_of_many_give_up() {
                     scope.spawn(move || match at {
                         0..=1 => assert_eq!(seat.get(variable), Ok(n)),
                         2..=3 => assert_eq!(seat.recv(port), Ok(None)),
-                        4..=5 => assert!(matches!(seat.get_timeout(variable, limit), Ok(_) | Err(Error::TimedOut))),
-                        _ => assert!(matches!(seat.recv_timeout(port, limit), Ok(None) | Err(Error::TimedOut))),
+                        4..=5 => assert!(matches!(
+                            seat.get_timeout(variable, limit),
+                            Ok(_) | Err(Error::TimedOut)
+                        )),
+                        _ => assert!(matches!(
+                            seat.recv_timeout(port, limit),
+                            Ok(None) | Err(Error::TimedOut)
+                        )),
                     });
                 }
                 thread::sleep(Duration::from_micros(random.below(400)));
@@ -275,7 +292,10 @@ fn iterators_end() {
         let mailbox = seat.mailbox().unwrap();
         seat.send(mailbox, 7).unwrap();
         let mut messages = seat.iter(mailbox);
-        assert_eq!((messages.next(), messages.next(), messages.error()), (Some(7), None, Some(Error::Stalled)));
+        assert_eq!(
+            (messages.next(), messages.next(), messages.error()),
+            (Some(7), None, Some(Error::Stalled))
+        );
         while seat.recv_poll(mailbox).is_ok() {}
         let mut messages = seat.try_iter(mailbox);
         assert_eq!((messages.next(), messages.error()), (None, Some(Error::JournalFull)));

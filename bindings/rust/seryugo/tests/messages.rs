@@ -11,7 +11,8 @@ fn bytes_of(message: &impl Message) -> Vec<u8> {
     bytes.split_off(6)
 }
 
-/// The value is these bytes, and is read back from them: by itself, and by a mailbox, a variable and a port of its type.
+/// The value is these bytes, and is read back from them: by itself, and by a mailbox, a variable
+/// and a port of its type.
 fn is<T: Message + PartialEq + Debug>(message: T, bytes: &[u8]) {
     assert_eq!(bytes_of(&message), bytes, "{message:?}");
     assert_eq!(T::from_bytes(bytes).as_ref(), Some(&message));
@@ -150,7 +151,8 @@ fn what_is_no_such_value_is_not_read() {
     refuses::<(Vec<u8>, ())>(&[128, 128]);
 }
 
-/// Whatever the bytes are, no type panics as it reads them, and what it reads is written to bytes that it reads again.
+/// Whatever the bytes are, no type panics as it reads them, and what it reads is written to bytes
+/// that it reads again.
 #[test]
 fn any_bytes_are_read_or_refused() {
     fn reads<T: Message + PartialEq + Debug>(bytes: &[u8]) {
@@ -161,7 +163,8 @@ fn any_bytes_are_read_or_refused() {
 
     let mut state = 1_u64;
     for _ in 0..20_000 {
-        state = state.wrapping_mul(6_364_136_223_846_793_005).wrapping_add(1_442_695_040_888_963_407);
+        state =
+            state.wrapping_mul(6_364_136_223_846_793_005).wrapping_add(1_442_695_040_888_963_407);
         let bytes: Vec<u8> = state.to_be_bytes().iter().map(|byte| byte & 0x83).collect();
         let bytes = &bytes[..(state >> 60) as usize % 9];
         reads::<bool>(bytes);

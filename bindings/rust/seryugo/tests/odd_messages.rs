@@ -31,7 +31,9 @@ fn a_message_may_panic() {
     let board = Switchboard::new(100).unwrap();
     let mailbox = board.seat().unwrap().mailbox::<Fragile>().unwrap();
     let panics = |call: fn(&mut Seat<'_>, Mailbox<Fragile>)| {
-        thread::scope(|scope| scope.spawn(|| call(&mut board.seat().unwrap(), mailbox)).join().is_err())
+        thread::scope(|scope| {
+            scope.spawn(|| call(&mut board.seat().unwrap(), mailbox)).join().is_err()
+        })
     };
     assert!(panics(|seat, mailbox| seat.send(mailbox, Fragile(1)).unwrap()));
     assert!(!panics(|seat, mailbox| seat.send(mailbox, Fragile(2)).unwrap()));
@@ -65,13 +67,18 @@ impl Message for Calls {
 fn a_message_may_make_calls() {
     within_a_minute(|| {
         let board = Arc::new(Switchboard::new(100).unwrap());
-        BOARD.with(|shared| shared.set(Arc::clone(&board)).unwrap_or_else(|_| panic!("it is set once")));
+        BOARD.with(|shared| {
+            shared.set(Arc::clone(&board)).unwrap_or_else(|_| panic!("it is set once"));
+        });
         let mut seat = board.seat().unwrap();
         let mailbox = seat.mailbox().unwrap();
         seat.send(mailbox, Calls).unwrap();
         assert_eq!(seat.recv(mailbox), Ok(Calls));
         let variable = seat.mvar_init(Calls).unwrap();
-        assert_eq!((seat.swap(variable, Calls), board.held(variable)), (Ok(Calls), Ok(Some(Calls))));
+        assert_eq!(
+            (seat.swap(variable, Calls), board.held(variable)),
+            (Ok(Calls), Ok(Some(Calls)))
+        );
         assert_eq!(block_on(seat.swap_async(variable, Calls)), Ok(Calls));
         let mut lane = board.lane(mailbox, 1).unwrap();
         assert!(lane.send(Calls).is_ok() && lane.close().is_ok());

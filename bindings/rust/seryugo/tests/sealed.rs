@@ -3,7 +3,10 @@
 mod common;
 
 use common::Board;
-use seryugo::{Bytes, CheckError, Checker, Error, Journal, Numbers, RestoreError, Room, Sum, Switchboard, WhenFull};
+use seryugo::{
+    Bytes, CheckError, Checker, Error, Journal, Numbers, RestoreError, Room, Sum, Switchboard,
+    WhenFull,
+};
 use std::fs::{self, File};
 use std::io::{BufReader, ErrorKind, Write};
 use std::path::PathBuf;
@@ -72,16 +75,20 @@ fn a_sealed_text_is_read_back() {
     let line = text.strip_suffix(b"\n").unwrap().rsplit(|byte| *byte == b'\n').next().unwrap();
     assert_eq!(line, format!("end 24 {}", checker.sum().unwrap()).as_bytes());
     let mut plain = Vec::new();
-    pieces().iter().for_each(|piece| piece.write_to(&mut plain).unwrap());
+    for piece in pieces() {
+        piece.write_to(&mut plain).unwrap();
+    }
     assert_eq!(check(&plain).unwrap().sum(), None);
     // All pieces have sums, or none has.
-    assert!(is_fault(&[&texts[0][..], &plain].concat()) && is_fault(&[&plain[..], &texts[0]].concat()));
+    assert!(
+        is_fault(&[&texts[0][..], &plain].concat()) && is_fault(&[&plain[..], &texts[0]].concat())
+    );
 }
 
 #[test]
 fn each_changed_byte_is_seen() {
     let text = texts(&pieces()).concat();
-    assert!(text.iter().filter(|byte| **byte == b'\n').count() >= 35 && is_whole(&text));
+    assert!(text.split(|byte| *byte == b'\n').count() > 35 && is_whole(&text));
     for at in 0..text.len() {
         for changed in [text[at] ^ 1, text[at] ^ 0x20] {
             let mut text = text.clone();
@@ -89,7 +96,10 @@ fn each_changed_byte_is_seen() {
                 let read = check(&text);
                 let is_seen = matches!(read, Err(CheckError::Fault(_) | CheckError::Unlawful(_)));
                 // The last byte ends the text: without it the text is torn.
-                assert!(is_seen || (at + 1 == text.len() && !is_whole(&text)), "byte {at}, {changed}: {read:?}");
+                assert!(
+                    is_seen || (at + 1 == text.len() && !is_whole(&text)),
+                    "byte {at}, {changed}: {read:?}"
+                );
             }
         }
     }
@@ -129,7 +139,11 @@ fn a_sealed_text_may_end_anywhere() {
         let mut mended = torn[..kept.bytes as usize].to_vec();
         mended.write_all(kept.ending.as_bytes()).unwrap();
         let checker = check(&mended).unwrap();
-        assert_eq!((checker.sum(), checker.is_whole()), (kept.sum, !mended.is_empty()), "the first {end} bytes");
+        assert_eq!(
+            (checker.sum(), checker.is_whole()),
+            (kept.sum, !mended.is_empty()),
+            "the first {end} bytes"
+        );
         board.seat().unwrap().mailbox::<u64>().unwrap();
         let sum = board.take_journal().unwrap().write_sealed_to(kept.sum, &mut mended).unwrap();
         let checker = check(&mended).unwrap();
@@ -193,7 +207,8 @@ struct Scratch(PathBuf);
 
 impl Scratch {
     fn new(name: &str) -> Scratch {
-        let path = std::env::temp_dir().join(format!("seryugo_sealed_{}_{name}", std::process::id()));
+        let path =
+            std::env::temp_dir().join(format!("seryugo_sealed_{}_{name}", std::process::id()));
         let _ = fs::remove_file(&path);
         Scratch(path)
     }
@@ -263,7 +278,9 @@ fn a_file_goes_on_behind_a_short_journal() {
     for sealed in [true, false] {
         let scratch = Scratch::new("short");
         let mut file = scratch.open();
-        let board = Switchboard::of_numbers(2).unwrap().when_full(WhenFull::file(file.try_clone().unwrap()));
+        let board = Switchboard::of_numbers(2)
+            .unwrap()
+            .when_full(WhenFull::file(file.try_clone().unwrap()));
         let mut seat = board.seat().unwrap();
         for _ in 0..5 {
             seat.mailbox().unwrap();
@@ -281,7 +298,10 @@ fn a_file_goes_on_behind_a_short_journal() {
         }
         board.keep().unwrap();
         let checker = checked(Checker::of_numbers().unwrap(), &scratch.text()).unwrap();
-        assert_eq!((checker.entries(), checker.is_whole(), checker.sum().is_some()), (10, true, sealed));
+        assert_eq!(
+            (checker.entries(), checker.is_whole(), checker.sum().is_some()),
+            (10, true, sealed)
+        );
     }
 }
 
@@ -290,7 +310,10 @@ fn the_file_of_another_switchboard_gets_no_piece() {
     let scratch = Scratch::new("other");
     write_some(Switchboard::of_numbers(2).unwrap(), scratch.open()).unwrap();
     let before = scratch.text();
-    assert_eq!(write_some(Switchboard::of_numbers(2).unwrap(), scratch.open()), Err(Error::NotKept));
+    assert_eq!(
+        write_some(Switchboard::of_numbers(2).unwrap(), scratch.open()),
+        Err(Error::NotKept)
+    );
     assert_eq!(scratch.text(), before);
 }
 
@@ -309,7 +332,9 @@ fn a_torn_file_gets_no_piece() {
         &format!("x\nend x {sum}\n"),
     ] {
         fs::write(&scratch.0, torn).unwrap();
-        let board = Switchboard::<Numbers>::of_numbers(1).unwrap().when_full(WhenFull::file(scratch.open()));
+        let board = Switchboard::<Numbers>::of_numbers(1)
+            .unwrap()
+            .when_full(WhenFull::file(scratch.open()));
         board.seat().unwrap().mailbox().unwrap();
         assert_eq!(board.keep(), Err(Error::NotKept), "{torn}");
         assert_eq!(board.keeping_error().map(|error| error.kind()), Some(ErrorKind::InvalidData));

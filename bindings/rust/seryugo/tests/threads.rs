@@ -61,7 +61,10 @@ fn four_senders_on_lanes() {
         }
         all_in_order(|| receiver.recv(mailbox).unwrap());
     });
-    assert_eq!(board.entry(1).map(|entry| matches!(entry.who, Who::Lane(_) | Who::Seat(_))), Some(true));
+    assert_eq!(
+        board.entry(1).map(|entry| matches!(entry.who, Who::Lane(_) | Who::Seat(_))),
+        Some(true)
+    );
 }
 
 #[test]
@@ -127,10 +130,14 @@ fn a_journal_is_taken_and_read_by_another_thread() {
     let journal = board.take_journal().unwrap();
     assert_eq!((board.entries(), board.cut_at(), board.entry(1)), (3, 3, None));
     seat.multicast(channel, 6).unwrap();
-    let calls: Vec<Call<u64>> = thread::spawn(move || journal.iter().map(|entry| entry.call).collect()).join().unwrap();
+    let calls: Vec<Call<u64>> =
+        thread::spawn(move || journal.iter().map(|entry| entry.call).collect()).join().unwrap();
     assert_eq!(calls, [Call::NewChannel, Call::Multicast(0, 5), Call::NewPort(0)]);
     let rest = board.take_journal().unwrap();
-    assert_eq!((rest.len(), rest.entry(0).map(|entry| entry.call)), (1, Some(Call::Multicast(0, 6))));
+    assert_eq!(
+        (rest.len(), rest.entry(0).map(|entry| entry.call)),
+        (1, Some(Call::Multicast(0, 6)))
+    );
     assert_eq!(rest.entry(1), None);
     assert!(board.take_journal().unwrap().is_empty());
 }
@@ -146,7 +153,10 @@ fn the_journal_is_read_by_position() {
     assert_eq!(seat.close(port), Ok(true));
     assert_eq!(seat.recv(port), Ok(None));
     let entry = board.entry(2).unwrap();
-    assert_eq!((entry.who, entry.call, entry.reply), (Who::Seat(0), Call::Multicast(0, 5), Reply::Done));
+    assert_eq!(
+        (entry.who, entry.call, entry.reply),
+        (Who::Seat(0), Call::Multicast(0, 5), Reply::Done)
+    );
     assert_eq!(board.entry(5).map(|entry| entry.reply), Some(Reply::Closed));
     assert_eq!(board.entry(6), None);
 }

@@ -3,7 +3,10 @@
 mod common;
 
 use common::{block_on, let_them_wait, within_a_minute};
-use seryugo::{Bytes, Call, Checker, Error, Mailbox, Message, Numbers, Object, Reply, Seat, SendError, Switchboard};
+use seryugo::{
+    Bytes, Call, Checker, Error, Mailbox, Message, Numbers, Object, Reply, Seat, SendError,
+    Switchboard,
+};
 use std::alloc::{alloc_zeroed, Layout};
 use std::collections::HashSet;
 use std::future::Future;
@@ -16,7 +19,8 @@ use std::time::{Duration, Instant};
 const A_MILLISECOND: Duration = Duration::from_millis(1);
 /// It has more bytes than lie in the library's struct.
 const LONG: &str =
-    "a message of more bytes than lie in the struct that the library writes, so that the library keeps it till it is freed";
+    "a message of more bytes than lie in the struct that the library writes, so that the library \
+     keeps it till it is freed";
 
 /// A type of a user.
 #[derive(Clone, Debug, PartialEq)]
@@ -92,7 +96,8 @@ fn unreadable<T>(text: &str) -> Result<T, Error> {
     Err(Error::Unreadable(text.as_bytes().to_vec()))
 }
 
-/// What can't be read is received all the same: its bytes are in the error, and what is behind it is next.
+/// What can't be read is received all the same: its bytes are in the error, and what is behind it
+/// is next.
 #[test]
 fn what_is_of_another_type_comes_as_bytes() {
     let board = Switchboard::new(100).unwrap();
@@ -113,8 +118,12 @@ fn what_is_of_another_type_comes_as_bytes() {
         assert_eq!(seat.recv(numbers), Ok(7));
         assert_eq!(board.owed(numbers), Ok(0));
     }
-    let shown = seat.send(texts, LONG.to_string()).map(|()| seat.recv(numbers).unwrap_err().to_string());
-    assert_eq!(shown.unwrap(), "the message of 117 bytes that was received can't be read as its type");
+    let shown =
+        seat.send(texts, LONG.to_string()).map(|()| seat.recv(numbers).unwrap_err().to_string());
+    assert_eq!(
+        shown.unwrap(),
+        "the message of 117 bytes that was received can't be read as its type"
+    );
 }
 
 #[test]
@@ -124,7 +133,10 @@ fn variables_keep_what_is_of_another_type() {
     let text = seat.mvar_init(LONG.to_string()).unwrap();
     let number = board.mvar::<u64>(0).unwrap();
     assert_eq!((seat.get(number), seat.get_poll(number)), (unreadable(LONG), unreadable(LONG)));
-    assert_eq!((board.held(number), board.held(text)), (unreadable(LONG), Ok(Some(LONG.to_string()))));
+    assert_eq!(
+        (board.held(number), board.held(text)),
+        (unreadable(LONG), Ok(Some(LONG.to_string())))
+    );
     let refused = seat.swap(number, 5).unwrap_err();
     assert_eq!((refused.message, Err(refused.error)), (5, unreadable::<()>(LONG)));
     assert_eq!(board.held(number), Ok(Some(5)), "the swap was done");
@@ -159,7 +171,10 @@ fn lanes_and_feeds_have_types() {
     lane.send(5).unwrap();
     lane.close().unwrap();
     assert_eq!(numbers.pump(), Ok(2));
-    assert_eq!((numbers.recv(), numbers.recv(), numbers.recv()), (unreadable(LONG), Ok(Some(5)), Ok(None)));
+    assert_eq!(
+        (numbers.recv(), numbers.recv(), numbers.recv()),
+        (unreadable(LONG), Ok(Some(5)), Ok(None))
+    );
 }
 
 /// What is left in lanes, feeds, mailboxes and variables is freed with them.
@@ -216,15 +231,22 @@ fn each_refusal_hands_the_message_back() {
     assert_eq!(seat.swap_deadline(often, order(1), Instant::now()), Err(back(Error::TimedOut)));
     let borrowed = order(1);
     let refused = seat.swap_timeout(often, &borrowed, Duration::ZERO).unwrap_err();
-    assert!(std::ptr::eq(refused.message, &borrowed));
+    assert!(std::ptr::eq(refused.message, &raw const borrowed));
     assert_eq!(Error::from(refused), Error::TimedOut);
 }
 
-/// So many zeros, which take no memory before they are read. `None` if the system gives no program so many.
+/// So many zeros, which take no memory before they are read. `None` if the system gives no program
+/// so many.
 fn zeros(length: usize) -> Option<Vec<u8>> {
     let layout = Layout::array::<u8>(length).ok()?;
+    // SAFETY: the layout has bytes.
     let at = unsafe { alloc_zeroed(layout) };
-    (!at.is_null()).then(|| unsafe { Vec::from_raw_parts(at, length, length) })
+    if at.is_null() {
+        return None;
+    }
+    let bytes = std::ptr::slice_from_raw_parts_mut(at, length);
+    // SAFETY: the global allocator has allocated just these bytes, and they are zeros.
+    Some(unsafe { Box::from_raw(bytes) }.into_vec())
 }
 
 /// The library doesn't read a message that is too long.
@@ -240,7 +262,10 @@ fn a_message_may_be_too_long() {
     let mailbox = seat.mailbox::<Vec<u8>>().unwrap();
     let refused = seat.send(mailbox, long).unwrap_err();
     assert_eq!((refused.error, refused.message.len()), (Error::OutOfBounds, 1 << 32));
-    assert_eq!(board.lane(mailbox, 1).unwrap().send(refused.message).unwrap_err().error, Error::OutOfBounds);
+    assert_eq!(
+        board.lane(mailbox, 1).unwrap().send(refused.message).unwrap_err().error,
+        Error::OutOfBounds
+    );
     assert_eq!((board.entries(), board.lost()), (1, 0));
 }
 
@@ -263,7 +288,10 @@ fn errors_of_sends_need_no_message_that_shows_itself() {
     }
 
     let error = send(&Switchboard::new(1).unwrap()).unwrap_err();
-    assert_eq!(error.to_string(), "the message wasn't sent: the journal is full until it is cut or taken");
+    assert_eq!(
+        error.to_string(),
+        "the message wasn't sent: the journal is full until it is cut or taken"
+    );
     assert_eq!(error.source().unwrap().to_string(), Error::JournalFull.to_string());
     assert_eq!(format!("{error:?}"), "SendError { error: JournalFull, .. }");
     assert!(send(&Switchboard::new(2).unwrap()).is_ok());
@@ -292,7 +320,10 @@ fn names_need_nothing_of_their_type() {
     is_shared(seat.mvar::<Local>().unwrap());
     assert_eq!(HashSet::from([one, two, one]).len(), 2);
     assert_eq!((one == board.mailbox(0).unwrap(), one == two), (true, false));
-    assert_eq!(format!("{one:?} {two:?} {:?}", seat.ivar::<Local>().unwrap()), "Mailbox(0) Mailbox(1) IVar(4)");
+    assert_eq!(
+        format!("{one:?} {two:?} {:?}", seat.ivar::<Local>().unwrap()),
+        "Mailbox(0) Mailbox(1) IVar(4)"
+    );
     seat.send(one, Local(Rc::new(()))).unwrap();
     assert_eq!(seat.recv(one).err(), Some(Error::Unreadable(Vec::new())));
 }
@@ -315,14 +346,17 @@ fn threads_send_two_types_on_one_switchboard() {
     within_a_minute(|| {
         let board = Switchboard::new(1 << 32).unwrap();
         let mut first = board.seat().unwrap();
-        let (orders, answers) = (first.mailbox::<Order>().unwrap(), first.mailbox::<(u32, String)>().unwrap());
+        let (orders, answers) =
+            (first.mailbox::<Order>().unwrap(), first.mailbox::<(u32, String)>().unwrap());
         let (clients, servers) = (seats(&board, CLIENTS), seats(&board, 3));
         thread::scope(|scope| {
             for seat in servers {
                 scope.spawn(move || serve(seat, orders, answers));
             }
             for (client, mut seat) in (0..).zip(clients) {
-                scope.spawn(move || (0..EACH).for_each(|n| seat.send(orders, order(client * EACH + n)).unwrap()));
+                scope.spawn(move || {
+                    (0..EACH).for_each(|n| seat.send(orders, order(client * EACH + n)).unwrap());
+                });
             }
             let mut seen = HashSet::new();
             for _ in 0..CLIENTS * EACH {
@@ -369,7 +403,11 @@ fn a_journal_is_written_and_gone_on_from() {
 
     let board: Switchboard = Switchboard::restore(&text[..], 100).unwrap();
     let mut seat = board.seat().unwrap();
-    assert_eq!(seat.send(orders, order(9)).unwrap_err().error, Error::NoSuch, "the name is of the other one");
+    assert_eq!(
+        seat.send(orders, order(9)).unwrap_err().error,
+        Error::NoSuch,
+        "the name is of the other one"
+    );
     let orders = board.mailbox::<Order>(orders.number()).unwrap();
     assert_eq!(seat.try_iter(orders).collect::<Vec<_>>(), [order(1), order(2)]);
     let port = board.port::<(String, Option<u8>)>(port.number()).unwrap();

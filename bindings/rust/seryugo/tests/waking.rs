@@ -1,8 +1,12 @@
-//! Threads that wait, each woken by one of the others: where a wake is lost a test here doesn't end.
+//! Threads that wait, each woken by one of the others: where a wake is lost a test here doesn't
+//! end.
 
 mod common;
 
-use common::{let_them_wait, seats, within_a_minute, Board, Channel, Feed, Lane, MVar, Mailbox, Port, Random, Seat};
+use common::{
+    let_them_wait, seats, within_a_minute, Board, Channel, Feed, Lane, MVar, Mailbox, Port, Random,
+    Seat,
+};
 use seryugo::{Error, Switchboard};
 use std::sync::atomic::{AtomicU64, Ordering};
 use std::sync::Barrier;
@@ -61,7 +65,9 @@ fn variables_are_locks() {
         let out = &AtomicU64::new(0);
         thread::scope(|scope| {
             for (at, mut seat) in seats(&board, THREADS).into_iter().enumerate() {
-                scope.spawn(move || out.fetch_add(count_in(&mut seat, variables, at, TIMES), Ordering::Relaxed));
+                scope.spawn(move || {
+                    out.fetch_add(count_in(&mut seat, variables, at, TIMES), Ordering::Relaxed)
+                });
             }
         });
         let left: u64 = variables.iter().map(|&variable| first.take(variable).unwrap()).sum();
@@ -69,8 +75,9 @@ fn variables_are_locks() {
     });
 }
 
-/// Each message is answered by all before the next one is sent, so that each port is waited at again and again; and none
-/// answers before all have received it. Two threads wait at each port in the end, and both return as it closes.
+/// Each message is answered by all before the next one is sent, so that each port is waited at
+/// again and again; and none answers before all have received it. Two threads wait at each port in
+/// the end, and both return as it closes.
 #[test]
 fn a_channel_has_eight_ports() {
     const PORTS: usize = 8;
@@ -149,7 +156,8 @@ fn with_room<T>(board: &Board, full: &AtomicU64, mut call: impl FnMut() -> Resul
     }
 }
 
-/// Four threads send and four receive, by a journal that takes so many entries between two cuts: how often it was full.
+/// Four threads send and four receive, by a journal that takes so many entries between two cuts:
+/// how often it was full.
 fn four_send_and_four_receive(limit: u64) -> u64 {
     const EACH: u64 = 3_000;
 
@@ -198,8 +206,8 @@ fn the_journal_is_cut_while_others_wait() {
     });
 }
 
-/// A call that makes the journal full, on a board with this channel, and this mailbox that has a message. A feed that it opens
-/// comes back, since its end is a call too.
+/// A call that makes the journal full, on a board with this channel, and this mailbox that has a
+/// message. A feed that it opens comes back, since its end is a call too.
 type Filling = for<'a> fn(&'a Board, &mut Seat<'_>, Channel, Mailbox) -> Option<Feed<'a>>;
 
 const FILLINGS: [Filling; 5] = [
@@ -215,14 +223,16 @@ const FILLINGS: [Filling; 5] = [
     },
 ];
 
-/// Whichever call makes the journal full, each call that waits fails. No seat calls again before all have failed.
+/// Whichever call makes the journal full, each call that waits fails. No seat calls again before
+/// all have failed.
 #[test]
 fn all_that_wait_are_refused_where_the_journal_is_full() {
     within_a_minute(|| {
         for fill in FILLINGS.iter().cycle().take(200) {
             let board = Switchboard::of_numbers(6).unwrap();
             let mut first = board.seat().unwrap();
-            let (channel, full, empty) = (first.channel().unwrap(), first.mailbox().unwrap(), first.mailbox().unwrap());
+            let (channel, full, empty) =
+                (first.channel().unwrap(), first.mailbox().unwrap(), first.mailbox().unwrap());
             let variable = first.mvar().unwrap();
             first.send(full, 1).unwrap();
             let all = &Barrier::new(6);
@@ -270,7 +280,8 @@ fn all_that_wait_are_refused_where_a_pump_fills_the_journal() {
     });
 }
 
-/// What moves the three messages of a lane into the journal. A lane that is still open comes back, since its end is a call too.
+/// What moves the three messages of a lane into the journal. A lane that is still open comes back,
+/// since its end is a call too.
 type Moving = for<'a> fn(Lane<'a>) -> Option<Lane<'a>>;
 
 const MOVINGS: [Moving; 3] = [
@@ -309,7 +320,8 @@ fn messages_of_a_lane_wake_all_that_receive_them() {
     });
 }
 
-/// Several threads wait, each at an object of another kind or with others, and the last that could go on leaves.
+/// Several threads wait, each at an object of another kind or with others, and the last that could
+/// go on leaves.
 #[test]
 fn all_that_wait_are_refused_where_they_are_stalled() {
     within_a_minute(|| {
@@ -355,7 +367,9 @@ fn the_last_lane_leaves_all_stalled() {
             thread::scope(|scope| {
                 for mut seat in waiting {
                     scope.spawn(move || match seat.recv(mailbox) {
-                        Ok(message) => assert_eq!(received.fetch_add(1, Ordering::Relaxed), message),
+                        Ok(message) => {
+                            assert_eq!(received.fetch_add(1, Ordering::Relaxed), message);
+                        }
                         told => assert_eq!(told, Err(Error::Stalled)),
                     });
                 }

@@ -151,7 +151,7 @@ fn a_sink_that_fails_refuses_calls_and_loses_nothing() {
     for number in 0..sent {
         let received = loop {
             match seat.recv_poll(mailbox) {
-                Err(Error::NotKept) => continue,
+                Err(Error::NotKept) => {}
                 received => break received,
             }
         };
@@ -163,7 +163,9 @@ fn a_sink_that_fails_refuses_calls_and_loses_nothing() {
 
 #[test]
 fn a_call_that_waits_is_answered_while_nobody_takes_the_entries() {
-    let board = Switchboard::of_numbers(2).unwrap().when_full(WhenFull::call(|_| Err(ErrorKind::StorageFull.into())));
+    let board = Switchboard::of_numbers(2)
+        .unwrap()
+        .when_full(WhenFull::call(|_| Err(ErrorKind::StorageFull.into())));
     let (mut ann, mut ben) = (board.seat().unwrap(), board.seat().unwrap());
     let mailbox = ann.mailbox::<u64>().unwrap();
     let mut context = Context::from_waker(Waker::noop());
@@ -177,7 +179,9 @@ fn a_call_that_waits_is_answered_while_nobody_takes_the_entries() {
 
 #[test]
 fn what_one_sink_refused_goes_to_the_next() {
-    let board = Switchboard::of_numbers(5).unwrap().when_full(WhenFull::call(|_| Err(ErrorKind::StorageFull.into())));
+    let board = Switchboard::of_numbers(5)
+        .unwrap()
+        .when_full(WhenFull::call(|_| Err(ErrorKind::StorageFull.into())));
     board.seat().unwrap().mailbox::<u64>().unwrap();
     assert_eq!(board.keep(), Err(Error::NotKept));
     let (sink, text) = text_sink();
@@ -191,8 +195,10 @@ fn what_one_sink_refused_goes_to_the_next() {
 fn a_call_that_waits_fails_with_not_kept_once_the_journal_has_no_room() {
     let fills = Arc::new(AtomicBool::new(false));
     let is_full = fills.clone();
-    let board = Switchboard::of_numbers(1).unwrap().when_full(WhenFull::call(move |_| disk(&is_full)));
-    let (mut ann, mut ben, mut carl) = (board.seat().unwrap(), board.seat().unwrap(), board.seat().unwrap());
+    let board =
+        Switchboard::of_numbers(1).unwrap().when_full(WhenFull::call(move |_| disk(&is_full)));
+    let (mut ann, mut ben, mut carl) =
+        (board.seat().unwrap(), board.seat().unwrap(), board.seat().unwrap());
     let (mailbox, other) = (ann.mailbox::<u64>().unwrap(), ann.mailbox::<u64>().unwrap());
     board.keep().unwrap();
     fills.store(true, Ordering::Relaxed);
@@ -242,7 +248,8 @@ fn a_sink_that_panics_in_a_call_that_waits_hands_on_its_wake() {
         assert_ne!(thread::current().name(), Some("ben"), "the sink panics in one thread");
         Err(ErrorKind::StorageFull.into())
     }));
-    let (mut ann, mut ben, mut carl) = (board.seat().unwrap(), board.seat().unwrap(), board.seat().unwrap());
+    let (mut ann, mut ben, mut carl) =
+        (board.seat().unwrap(), board.seat().unwrap(), board.seat().unwrap());
     let mailbox = ann.mailbox::<u64>().unwrap();
     assert_eq!(board.keep(), Err(Error::NotKept));
     let mut context = Context::from_waker(Waker::noop());
@@ -309,7 +316,8 @@ fn a_thread_takes_the_entries() {
 #[test]
 fn a_journal_is_written_to_a_file_and_goes_on_from_it() {
     let path = std::env::temp_dir().join(format!("seryugo_when_full_{}", std::process::id()));
-    let file = File::options().create(true).truncate(true).read(true).write(true).open(&path).unwrap();
+    let file =
+        File::options().create(true).truncate(true).read(true).write(true).open(&path).unwrap();
     let mut read = file.try_clone().unwrap();
     let board = Switchboard::of_numbers(3).unwrap().when_full(WhenFull::file(file));
     let mut seat = board.seat().unwrap();
@@ -338,7 +346,8 @@ fn a_full_disk_is_told_as_such() {
 
 #[test]
 fn a_switchboard_refuses_again_if_it_is_to() {
-    let board = Switchboard::of_numbers(1).unwrap().when_full(WhenFull::Drop).when_full(WhenFull::Refuse);
+    let board =
+        Switchboard::of_numbers(1).unwrap().when_full(WhenFull::Drop).when_full(WhenFull::Refuse);
     let mut seat = board.seat().unwrap();
     let mailbox = seat.mailbox::<u64>().unwrap();
     assert_eq!(seat.send(mailbox, 5).unwrap_err().error, Error::JournalFull);

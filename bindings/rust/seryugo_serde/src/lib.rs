@@ -1,6 +1,7 @@
 //! Whatever serde takes is a message of a switchboard.
 //!
-//! [`serde_message!`] makes messages of your own types, and [`Serde`] wraps a type of another crate:
+//! [`serde_message!`] makes messages of your own types, and [`Serde`] wraps a type of another
+//! crate:
 //!
 //! ```
 //! use serde::{Deserialize, Serialize};
@@ -33,16 +34,18 @@
 //!
 //! # The bytes
 //!
-//! A message has the byte 1, and then the bytes that `bincode` 1.3 writes with its `DefaultOptions`. `bincode` can't read back a type
-//! that describes itself, as one with `#[serde(untagged)]`. The call that receives such a message fails with
+//! A message has the byte 1, and then the bytes that `bincode` 1.3 writes with its
+//! `DefaultOptions`. `bincode` can't read back a type that describes itself, as one with
+//! `#[serde(untagged)]`. The call that receives such a message fails with
 //! [`Error::Unreadable`](seryugo::Error::Unreadable).
 //!
 //! # If serde refuses a value
 //!
-//! serde refuses few values: a map of unknown length, as `#[serde(flatten)]` makes one, a path that isn't UTF-8, and what your
-//! `Serialize` refuses. [`Message`] can't refuse a value, so the send succeeds, and the message has the reason. No
-//! type reads it: the call that receives it fails with [`Error::Unreadable`](seryugo::Error::Unreadable), and [`refusal`] reads the
-//! reason from its bytes. If serde may refuse your type, call [`check`] before you send a value.
+//! serde refuses few values: a map of unknown length, as `#[serde(flatten)]` makes one, a path that
+//! isn't UTF-8, and what your `Serialize` refuses. [`Message`] can't refuse a value, so the send
+//! succeeds, and the message has the reason. No type reads it: the call that receives it fails with
+//! [`Error::Unreadable`](seryugo::Error::Unreadable), and [`refusal`] reads the reason from its
+//! bytes. If serde may refuse your type, call [`check`] before you send a value.
 
 #![forbid(unsafe_code)]
 

@@ -86,6 +86,7 @@ pub(crate) fn write(reason: &bincode::Error, bytes: &mut Vec<u8>) {
 /// # Ok(())
 /// # }
 /// ```
+#[must_use]
 pub fn refusal(bytes: &[u8]) -> Option<Refused> {
     let (&REFUSED, reason) = bytes.split_first()? else {
         return None;

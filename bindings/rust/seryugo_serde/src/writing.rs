@@ -18,8 +18,9 @@ pub(crate) fn size(value: &(impl Serialize + ?Sized)) -> Result<u64, bincode::Er
     options().serialized_size(value)
 }
 
-/// Writes a value behind what the list has. If serde refuses the value, this writes bytes that [`read`] refuses and
-/// [`refusal`](crate::refusal) reads. A `Message` that you implement by hand may call it.
+/// Writes a value behind what the list has. If serde refuses the value, this writes bytes that
+/// [`read`] refuses and [`refusal`](crate::refusal) reads. A `Message` that you implement by hand
+/// may call it.
 ///
 /// ```
 /// let mut bytes = Vec::new();
@@ -42,6 +43,7 @@ pub fn write<T: Serialize + ?Sized>(value: &T, bytes: &mut Vec<u8>) {
 /// assert_eq!(seryugo_serde::read::<u8>(&[1, 5]), Some(5));
 /// assert_eq!(seryugo_serde::read::<u8>(&[1, 5, 6]), None);
 /// ```
+#[must_use]
 pub fn read<T: DeserializeOwned>(bytes: &[u8]) -> Option<T> {
     let (VALUE, value) = bytes.split_first().map(|(first, rest)| (*first, rest))? else {
         return None;

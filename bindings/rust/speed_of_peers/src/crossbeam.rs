@@ -24,7 +24,10 @@ pub fn senders<const SENDERS: u64>(messages: u64) -> Duration {
     thread::scope(|scope| {
         for number in 0..SENDERS {
             let sender = &sender;
-            scope.spawn(move || messages_of::<SENDERS>(number, messages).for_each(|message| sender.send(message).unwrap()));
+            scope.spawn(move || {
+                messages_of::<SENDERS>(number, messages)
+                    .for_each(|message| sender.send(message).unwrap());
+            });
         }
         receive_all::<SENDERS>(messages, || receiver.recv().unwrap());
     });
@@ -58,7 +61,9 @@ pub fn server<const CLIENTS: usize>(messages: u64) -> Duration {
     let mut jobs: Vec<Job> = Vec::new();
     for _ in 0..WORKERS {
         let requests = requests.clone();
-        jobs.push(Box::new(move || requests.iter().for_each(|client| answers[client].send(client).unwrap())));
+        jobs.push(Box::new(move || {
+            requests.iter().for_each(|client| answers[client].send(client).unwrap());
+        }));
     }
     for (client, answered) in answered.into_iter().enumerate() {
         let asks = asks.clone();

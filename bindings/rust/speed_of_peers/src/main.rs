@@ -1,5 +1,6 @@
-//! What the example `speed` of the crate seryugo measures, with the same words, and beside it the same workloads by the channels
-//! of crossbeam and of tokio. None of these keeps a journal. Under tokio a task takes the place of a thread.
+//! What the example `speed` of the crate seryugo measures, with the same words, and beside it the
+//! same workloads by the channels of crossbeam and of tokio. None of these keeps a journal. Under
+//! tokio a task takes the place of a thread.
 
 mod crossbeam;
 mod seats_on_tokio;
@@ -17,7 +18,10 @@ fn main() {
 /// How the peers do a workload.
 fn peers(workload: &str) -> Vec<Way> {
     let ways: &[Way] = match workload {
-        "one thread" => &[("crossbeam", crossbeam::one_thread), ("tokio", tokio_tasks::one_task)],
+        "one thread" => &[
+            ("crossbeam", crossbeam::one_thread),
+            ("tokio", tokio_tasks::one_task),
+        ],
         "pipe2" => &senders::<1>(),
         "fanin4" => &senders::<4>(),
         "token8" => &tokens::<8>(),

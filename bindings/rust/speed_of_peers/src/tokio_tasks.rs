@@ -1,4 +1,5 @@
-//! By tokio's `mpsc` without a limit, and a task for each thread of the other ways. Its runtime has a thread for each processor.
+//! By tokio's `mpsc` without a limit, and a task for each thread of the other ways. Its runtime has
+//! a thread for each processor.
 
 use crate::speed::senders::{messages_of, Orders};
 use crate::speed::server::{each, WORKERS};
@@ -49,7 +50,8 @@ pub fn senders<const SENDERS: u64>(messages: u64) -> Duration {
         for number in 0..SENDERS {
             let sender = sender.clone();
             tasks.spawn(async move {
-                messages_of::<SENDERS>(number, messages).for_each(|message| sender.send(message).unwrap());
+                messages_of::<SENDERS>(number, messages)
+                    .for_each(|message| sender.send(message).unwrap());
             });
         }
         tasks.spawn(async move {
@@ -85,7 +87,8 @@ pub fn token<const THREADS: usize>(messages: u64) -> Duration {
     })
 }
 
-/// The workers share the receiver by a lock of tokio's. They end as no client is left that could send.
+/// The workers share the receiver by a lock of tokio's. They end as no client is left that could
+/// send.
 pub fn server<const CLIENTS: usize>(messages: u64) -> Duration {
     let (asks, requests) = unbounded_channel::<usize>();
     let requests = Arc::new(Mutex::new(requests));

@@ -13,7 +13,8 @@ use tokio::time::timeout;
 /// More calls than a test here makes.
 const MANY: u64 = 1_000_000;
 
-/// Runs a scenario on tokio's runtime of one thread, and then on that of four. Fails if one hasn't ended within a minute.
+/// Runs a scenario on tokio's runtime of one thread, and then on that of four. Fails if one hasn't
+/// ended within a minute.
 pub fn on_each_runtime<F: Future<Output = ()>>(scenario: impl Fn() -> F) {
     let mut builders = [Builder::new_current_thread(), Builder::new_multi_thread()];
     builders[1].worker_threads(4);

@@ -1,5 +1,6 @@
-//! One thread multicasts a message, and receives it by each of eight ports, again and again, with neither a lock nor a cut.
-//! `cml_bench` does the same on a board as `cast8` and `cast8_bytes64`. It prints nanoseconds a call: a message takes nine.
+//! One thread multicasts a message, and receives it by each of eight ports, again and again, with
+//! neither a lock nor a cut. `cml_bench` does the same on a board as `cast8` and `cast8_bytes64`.
+//! It prints nanoseconds a call: a message takes nine.
 
 use super::no_lock::{copies, with_ends, with_number};
 use super::Way;
@@ -18,7 +19,8 @@ const WHO: Who = Who::Seat(0);
 /// The number under which the journal names the channel. Its ports have the next ones.
 const CHANNEL: u64 = 0;
 
-/// One list of messages, from the first that a port still has to receive, and the place of each port after that.
+/// One list of messages, from the first that a port still has to receive, and the place of each
+/// port after that.
 struct Channel<M> {
     messages: VecDeque<M>,
     places: [usize; PORTS],
@@ -68,13 +70,21 @@ impl<M: Clone> Channel<M> {
         if self.journal.len() >= self.limit {
             return Err(Error::JournalFull);
         }
-        self.journal.push(Entry { who: WHO, call, reply });
+        self.journal.push(Entry {
+            who: WHO,
+            call,
+            reply,
+        });
         Ok(())
     }
 }
 
 /// Multicasts each number's message, and adds up what is received.
-fn pass<M: Clone>(messages: u64, message: impl Fn(u64) -> M, add: impl Fn(u64, M) -> u64) -> Duration {
+fn pass<M: Clone>(
+    messages: u64,
+    message: impl Fn(u64) -> M,
+    add: impl Fn(u64, M) -> u64,
+) -> Duration {
     let mut channel = Channel::new(1 << 32);
     let mut sum = 0;
     let start = Instant::now();

@@ -1,11 +1,12 @@
-//! What one writes by hand with care where several mailboxes have threads that wait: a lock round deques and a journal of every
-//! call, and a condition variable for each mailbox.
+//! What one writes by hand with care where several mailboxes have threads that wait: a lock round
+//! deques and a journal of every call, and a condition variable for each mailbox.
 
 use seryugo::{Call, Entry, Error, Numbers, Reply, Who};
 use std::collections::VecDeque;
 use std::sync::{Condvar, Mutex, MutexGuard, PoisonError};
 
-/// Mailboxes by number, with a journal that takes so many entries. Its entries say what those of a switchboard say.
+/// Mailboxes by number, with a journal that takes so many entries. Its entries say what those of a
+/// switchboard say.
 pub struct Mailboxes {
     inside: Mutex<Inside>,
     changed: Vec<Condvar>,
@@ -63,7 +64,13 @@ impl Mailboxes {
         Ok(message)
     }
 
-    fn note(&self, inside: &mut Inside, seat: u64, call: Call<u64>, reply: Reply<u64>) -> Result<(), Error> {
+    fn note(
+        &self,
+        inside: &mut Inside,
+        seat: u64,
+        call: Call<u64>,
+        reply: Reply<u64>,
+    ) -> Result<(), Error> {
         if inside.journal.len() >= self.limit {
             return Err(Error::JournalFull);
         }

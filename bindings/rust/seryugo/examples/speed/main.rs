@@ -1,15 +1,19 @@
-//! What a message costs through the library, beside what one writes by hand and beside `std::sync::mpsc`, which keeps no
-//! journal: `cargo run --release --example speed`. Three words may follow `--`:
+//! What a message costs through the library, beside what one writes by hand and beside
+//! `std::sync::mpsc`, which keeps no journal: `cargo run --release --example speed`. Three words
+//! may follow `--`:
 //!
 //! - how many messages are passed, 200,000 without the word;
-//! - only workloads and ways whose names have this in them are measured, and all with an empty word;
+//! - only workloads and ways whose names have this in them are measured, and all with an empty
+//!   word;
 //! - how many rounds there are, eleven without the word. All ways come in turn in each round.
 //!
-//! A line has a workload, a way, and the median of the rounds in nanoseconds a message, two spaces apart at least. In `one thread`
-//! a thread sends and receives in turn; `typed` does that with values of types. `pairs1` does it without a lock, by hand
-//! alone, as `cml_bench` does it on a board. So does `cast8`, where eight readers receive each message of one thread. In `pipe2` one thread sends to another, and in `fanin4` four to one. In `token8`
-//! and `token63` a token goes round so many threads, and in `server32` and `server128` eight workers serve so many clients. These
-//! four take a tenth of the messages, since a thread sleeps and is woken for each.
+//! A line has a workload, a way, and the median of the rounds in nanoseconds a message, two spaces
+//! apart at least. In `one thread` a thread sends and receives in turn; `typed` does that with
+//! values of types. `pairs1` does it without a lock, by hand alone, as `cml_bench` does it on a
+//! board. So does `cast8`, where eight readers receive each message of one thread. In `pipe2` one
+//! thread sends to another, and in `fanin4` four to one. In `token8` and `token63` a token goes
+//! round so many threads, and in `server32` and `server128` eight workers serve so many clients.
+//! These four take a tenth of the messages, since a thread sleeps and is woken for each.
 //!
 //! The crate `speed_of_peers` beside this one measures crossbeam-channel and tokio too.
 
@@ -32,12 +36,15 @@ fn main() {
     measure_all(|_| Vec::new());
 }
 
-/// Measures each workload, with more ways of it after those of the library and of the standard library.
+/// Measures each workload, with more ways of it after those of the library and of the standard
+/// library.
 pub fn measure_all(more: fn(&str) -> Vec<Way>) {
     let asked = measure::Asked::by_words();
     let many = asked.messages;
     let few = many.div_ceil(10);
-    let measure = |workload, messages, ways: &[Way]| asked.measure(workload, messages, &[ways, &more(workload)].concat());
+    let measure = |workload, messages, ways: &[Way]| {
+        asked.measure(workload, messages, &[ways, &more(workload)].concat());
+    };
     measure("one thread", many, &one_thread::WAYS);
     measure("typed: a u64", many, &typed::NUMBERS);
     measure("typed: a String of 32 bytes", many, &typed::STRINGS);

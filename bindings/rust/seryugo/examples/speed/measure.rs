@@ -16,16 +16,19 @@ impl Asked {
     pub fn by_words() -> Asked {
         let mut words = std::env::args().skip(1);
         Asked {
-            messages: words.next().map_or(200_000, |word| word.parse().expect("a number of messages")),
+            messages: words
+                .next()
+                .map_or(200_000, |word| word.parse().expect("a number of messages")),
             only: words.next().unwrap_or_default(),
             rounds: words.next().map_or(11, |word| word.parse().expect("a number of rounds")),
         }
     }
 
-    /// Prints the nanoseconds that a message takes, a hop of the token, or a request with its answer: for each way whose name
-    /// has the word in it, and for all if the workload's has.
+    /// Prints the nanoseconds that a message takes, a hop of the token, or a request with its
+    /// answer: for each way whose name has the word in it, and for all if the workload's has.
     pub fn measure(&self, workload: &str, messages: u64, ways: &[Way]) {
-        let is_asked = |(name, _): &&Way| workload.contains(&self.only) || name.contains(&self.only);
+        let is_asked =
+            |(name, _): &&Way| workload.contains(&self.only) || name.contains(&self.only);
         let ways: Vec<&Way> = ways.iter().filter(is_asked).collect();
         let mut times = vec![Vec::with_capacity(self.rounds); ways.len()];
         for _ in 0..self.rounds {
@@ -34,7 +37,10 @@ impl Asked {
             }
         }
         for ((name, _), times) in ways.iter().zip(times) {
-            println!("{workload:<28}  {name:<26}  {:>9.1}", median(times).as_nanos() as f64 / messages as f64);
+            println!(
+                "{workload:<28}  {name:<26}  {:>9.1}",
+                median(times).as_nanos() as f64 / messages as f64
+            );
         }
     }
 }

@@ -1,5 +1,6 @@
-//! One thread sends a message and receives it, again and again, with neither a lock nor a cut. `cml_bench` does the same on a
-//! board as `pairs1` and `pairs1_bytes64`. It prints nanoseconds a call: a message takes two.
+//! One thread sends a message and receives it, again and again, with neither a lock nor a cut.
+//! `cml_bench` does the same on a board as `pairs1` and `pairs1_bytes64`. It prints nanoseconds a
+//! call: a message takes two.
 
 use super::Way;
 use seryugo::{Error, Who};
@@ -70,7 +71,11 @@ impl<M: Clone> Mailbox<M> {
         if self.journal.len() >= self.limit {
             return Err(Error::JournalFull);
         }
-        self.journal.push(Entry { who: WHO, call, reply });
+        self.journal.push(Entry {
+            who: WHO,
+            call,
+            reply,
+        });
         Ok(())
     }
 }
@@ -81,14 +86,20 @@ fn passes<M: PartialEq>(entries: &[Entry<M>]) -> bool {
         return false;
     };
     let got_what_was_sent = match (&sent.call, &sent.reply, &received.call, &received.reply) {
-        (Call::Send(MAILBOX, sent), Reply::Done, Call::Recv(MAILBOX), Reply::Got(got)) => sent == got,
+        (Call::Send(MAILBOX, sent), Reply::Done, Call::Recv(MAILBOX), Reply::Got(got)) => {
+            sent == got
+        }
         _ => false,
     };
     got_what_was_sent && sent.who == received.who
 }
 
 /// Sends each number's message, and adds up what is received.
-fn pass<M: Clone + PartialEq>(messages: u64, message: impl Fn(u64) -> M, add: impl Fn(u64, M) -> u64) -> Duration {
+fn pass<M: Clone + PartialEq>(
+    messages: u64,
+    message: impl Fn(u64) -> M,
+    add: impl Fn(u64, M) -> u64,
+) -> Duration {
     let mut mailbox = Mailbox::new(1 << 32);
     let mut sum = 0;
     let start = Instant::now();

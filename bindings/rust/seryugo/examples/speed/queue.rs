@@ -1,10 +1,12 @@
-//! What one writes by hand in place of a switchboard: a lock round a deque and a journal of every call.
+//! What one writes by hand in place of a switchboard: a lock round a deque and a journal of every
+//! call.
 
 use seryugo::{Call, Error, Reply, Who};
 use std::collections::VecDeque;
 use std::sync::{Condvar, Mutex, MutexGuard, PoisonError};
 
-/// One queue, with a journal that takes so many entries. Its entries say what those of a switchboard say.
+/// One queue, with a journal that takes so many entries. Its entries say what those of a
+/// switchboard say.
 pub struct Queue<M> {
     inside: Mutex<Inside<M>>,
     changed: Condvar,
@@ -82,7 +84,13 @@ impl<M: Clone> Queue<M> {
         Ok(message)
     }
 
-    fn note(&self, inside: &mut Inside<M>, seat: u64, call: Call<M>, reply: Reply<M>) -> Result<(), Error> {
+    fn note(
+        &self,
+        inside: &mut Inside<M>,
+        seat: u64,
+        call: Call<M>,
+        reply: Reply<M>,
+    ) -> Result<(), Error> {
         if inside.journal.len() >= self.limit {
             return Err(Error::JournalFull);
         }

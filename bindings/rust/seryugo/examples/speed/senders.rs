@@ -7,6 +7,7 @@ use std::sync::mpsc;
 use std::thread;
 use std::time::{Duration, Instant};
 
+#[must_use]
 pub fn ways<const SENDERS: u64>() -> [Way; 5] {
     [
         ("seats", by_seats::<SENDERS>),
@@ -31,6 +32,7 @@ pub struct Orders<const SENDERS: u64> {
 }
 
 impl<const SENDERS: u64> Orders<SENDERS> {
+    #[must_use]
     pub fn of(messages: u64) -> Orders<SENDERS> {
         Orders {
             expected: vec![0; SENDERS as usize],
@@ -38,6 +40,7 @@ impl<const SENDERS: u64> Orders<SENDERS> {
         }
     }
 
+    #[must_use]
     pub fn are_all_here(&self) -> bool {
         self.left == 0
     }
@@ -72,7 +75,8 @@ fn by_lock<const SENDERS: u64>(messages: u64, waking: Waking) -> Duration {
     thread::scope(|scope| {
         for sender in 0..SENDERS {
             scope.spawn(move || {
-                messages_of::<SENDERS>(sender, messages).for_each(|message| queue.send(sender, message).unwrap())
+                messages_of::<SENDERS>(sender, messages)
+                    .for_each(|message| queue.send(sender, message).unwrap());
             });
         }
         receive_all::<SENDERS>(messages, || queue.recv(SENDERS).unwrap());
@@ -89,7 +93,8 @@ fn by_seats<const SENDERS: u64>(messages: u64) -> Duration {
     thread::scope(|scope| {
         for (sender, mut seat) in (0..).zip(seats) {
             scope.spawn(move || {
-                messages_of::<SENDERS>(sender, messages).for_each(|message| seat.send(mailbox, message).unwrap())
+                messages_of::<SENDERS>(sender, messages)
+                    .for_each(|message| seat.send(mailbox, message).unwrap());
             });
         }
         receive_from::<SENDERS>(&mut receiver, mailbox, messages);
@@ -101,7 +106,8 @@ fn by_lanes<const SENDERS: u64>(messages: u64) -> Duration {
     let board = Switchboard::of_numbers(1 << 32).unwrap();
     let mut receiver = board.seat().unwrap();
     let mailbox = receiver.mailbox().unwrap();
-    let lanes: Vec<Lane<'_, Numbers, u64>> = (0..SENDERS).map(|_| board.lane(mailbox, CAPACITY).unwrap()).collect();
+    let lanes: Vec<Lane<'_, Numbers, u64>> =
+        (0..SENDERS).map(|_| board.lane(mailbox, CAPACITY).unwrap()).collect();
     let start = Instant::now();
     thread::scope(|scope| {
         for (sender, lane) in (0..).zip(lanes) {
@@ -123,7 +129,11 @@ fn send_on<const SENDERS: u64>(mut lane: Lane<'_, Numbers, u64>, sender: u64, me
     lane.close().unwrap();
 }
 
-fn receive_from<const SENDERS: u64>(receiver: &mut Seat<'_, Numbers>, mailbox: Mailbox<u64>, messages: u64) {
+fn receive_from<const SENDERS: u64>(
+    receiver: &mut Seat<'_, Numbers>,
+    mailbox: Mailbox<u64>,
+    messages: u64,
+) {
     receive_all::<SENDERS>(messages, || receiver.recv(mailbox).unwrap());
 }
 
@@ -133,7 +143,10 @@ fn by_mpsc<const SENDERS: u64>(messages: u64) -> Duration {
     thread::scope(|scope| {
         for number in 0..SENDERS {
             let sender = sender.clone();
-            scope.spawn(move || messages_of::<SENDERS>(number, messages).for_each(|message| sender.send(message).unwrap()));
+            scope.spawn(move || {
+                messages_of::<SENDERS>(number, messages)
+                    .for_each(|message| sender.send(message).unwrap());
+            });
         }
         receive_all::<SENDERS>(messages, || receiver.recv().unwrap());
     });

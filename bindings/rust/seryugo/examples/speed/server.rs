@@ -1,5 +1,5 @@
-//! Eight threads serve requests that arrive in one mailbox. So many clients ask, and each waits at its mailbox for the answer
-//! before it asks again.
+//! Eight threads serve requests that arrive in one mailbox. So many clients ask, and each waits at
+//! its mailbox for the answer before it asks again.
 
 use super::mailboxes::Mailboxes;
 use super::together::{timed, Job};
@@ -9,6 +9,7 @@ use std::sync::atomic::{AtomicUsize, Ordering};
 use std::sync::{mpsc, Mutex};
 use std::time::Duration;
 
+#[must_use]
 pub fn ways<const CLIENTS: usize>() -> [Way; 3] {
     [
         ("seats", by_seats::<CLIENTS>),
@@ -20,11 +21,13 @@ pub fn ways<const CLIENTS: usize>() -> [Way; 3] {
 pub const WORKERS: usize = 8;
 
 /// How often each client asks.
+#[must_use]
 pub fn each<const CLIENTS: usize>(messages: u64) -> u64 {
     messages.div_ceil(CLIENTS as u64)
 }
 
-/// A request is its client's number, and so is the answer. As the last client has left, each worker is refused.
+/// A request is its client's number, and so is the answer. As the last client has left, each worker
+/// is refused.
 fn by_seats<const CLIENTS: usize>(messages: u64) -> Duration {
     let board = Switchboard::of_numbers(1 << 32).unwrap();
     let mut first = board.seat().unwrap();

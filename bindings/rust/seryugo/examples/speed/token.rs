@@ -1,4 +1,5 @@
-//! A token goes round so many threads: each receives it at its own mailbox, and sends it to the next. All others wait.
+//! A token goes round so many threads: each receives it at its own mailbox, and sends it to the
+//! next. All others wait.
 
 use super::mailboxes::Mailboxes;
 use super::together::{timed, Job};
@@ -7,6 +8,7 @@ use seryugo::Switchboard;
 use std::sync::mpsc;
 use std::time::Duration;
 
+#[must_use]
 pub fn ways<const THREADS: usize>() -> [Way; 3] {
     [
         ("seats", by_seats::<THREADS>),
@@ -15,12 +17,14 @@ pub fn ways<const THREADS: usize>() -> [Way; 3] {
     ]
 }
 
-/// The token says how many hops are left, and a hop gives what it said. Each thread ends as it sees the token for the last time.
+/// The token says how many hops are left, and a hop gives what it said. Each thread ends as it sees
+/// the token for the last time.
 pub fn pass_on<const THREADS: usize>(mut hop: impl FnMut() -> u64) {
     while hop() >= THREADS as u64 {}
 }
 
 /// How many hops it makes: enough for each thread to receive it.
+#[must_use]
 pub fn hops<const THREADS: usize>(messages: u64) -> u64 {
     messages.max(THREADS as u64)
 }

@@ -1,4 +1,5 @@
-//! One thread sends a value of a type and receives it, again and again: numbers and strings, on switchboards of numbers and of bytes.
+//! One thread sends a value of a type and receives it, again and again: numbers and strings, on
+//! switchboards of numbers and of bytes.
 
 use super::queue::{Queue, Waking};
 use super::Way;
@@ -25,11 +26,21 @@ const CUT: u64 = 10_000;
 const TEXT: &str = "a string that has 32 bytes of it";
 
 fn u64_on_numbers(messages: u64) -> Duration {
-    pass(&Switchboard::of_numbers(1 << 32).unwrap(), messages, |n| n, |n, received| assert_eq!(received, n))
+    pass(
+        &Switchboard::of_numbers(1 << 32).unwrap(),
+        messages,
+        |n| n,
+        |n, received| assert_eq!(received, n),
+    )
 }
 
 fn u64_on_bytes(messages: u64) -> Duration {
-    pass(&Switchboard::new(1 << 32).unwrap(), messages, |n| n, |n, received| assert_eq!(received, n))
+    pass(
+        &Switchboard::new(1 << 32).unwrap(),
+        messages,
+        |n| n,
+        |n, received| assert_eq!(received, n),
+    )
 }
 
 fn string(messages: u64) -> Duration {

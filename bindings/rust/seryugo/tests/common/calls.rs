@@ -1,4 +1,5 @@
-//! The calls of a seat that are on objects, and the readers, by tables. A switchboard here has an object of each kind.
+//! The calls of a seat that are on objects, and the readers, by tables. A switchboard here has an
+//! object of each kind.
 
 use super::block_on;
 use seryugo::{Carries, Channel, Error, IVar, MVar, Mailbox, Port, Seat, SendError, Switchboard};
@@ -71,7 +72,9 @@ pub fn at_once<R: Carries<u64>>() -> Vec<Row<R>> {
 /// The calls that block no longer than a time.
 pub fn timed<R: Carries<u64>>() -> Vec<Row<R>> {
     vec![
-        ("recv_timeout", |_, seat, names| seat.recv_timeout(names.mailbox, A_MILLISECOND).map(drop)),
+        ("recv_timeout", |_, seat, names| {
+            seat.recv_timeout(names.mailbox, A_MILLISECOND).map(drop)
+        }),
         ("recv_deadline", |_, seat, names| seat.recv_deadline(names.port, past()).map(drop)),
         ("get_timeout", |_, seat, names| seat.get_timeout(names.mvar, A_MILLISECOND).map(drop)),
         ("get_deadline", |_, seat, names| seat.get_deadline(names.ivar, past()).map(drop)),

@@ -166,7 +166,8 @@ fn the_last_sender_wakes_the_receivers() {
     let channel = sender.channel::<()>().unwrap();
     let mut recv = [one, other].map(|mut receiver| {
         let port = sender.port(channel).unwrap();
-        // The seat leaves as its task ends. A free seat could still send, so that the other receiver would wait on.
+        // The seat leaves as its task ends. A free seat could still send, so that the other
+        // receiver would wait on.
         Task::new(async move { receiver.recv_async(port).await })
     });
     assert!(recv.iter_mut().all(|task| task.poll() == Poll::Pending));

@@ -1,4 +1,5 @@
-//! Where tokio's broadcast channels overwrite messages: a channel keeps what a port hasn't received.
+//! Where tokio's broadcast channels overwrite messages: a channel keeps what a port hasn't
+//! received.
 
 use crate::{seats, MANY};
 use seryugo::{Error, Switchboard};

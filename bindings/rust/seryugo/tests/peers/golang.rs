@@ -105,7 +105,8 @@ fn filter(seat: &mut Seat<'_>, from: Mailbox<i32>, to: Mailbox<i32>, prime: i32)
 #[test]
 fn sieve() {
     const PRIMES: [i32; 25] = [
-        2, 3, 5, 7, 11, 13, 17, 19, 23, 29, 31, 37, 41, 43, 47, 53, 59, 61, 67, 71, 73, 79, 83, 89, 97,
+        2, 3, 5, 7, 11, 13, 17, 19, 23, 29, 31, 37, 41, 43, 47, 53, 59, 61, 67, 71, 73, 79, 83, 89,
+        97,
     ];
     within_a_minute(|| {
         let board = Switchboard::new(MANY).unwrap();
@@ -195,7 +196,9 @@ fn multi_consumer() {
                 });
             }
             let sent: Vec<_> = NUMBERS.into_iter().cycle().take(COUNT).collect();
-            sent.iter().for_each(|number| main.send(work, number).unwrap());
+            for number in &sent {
+                main.send(work, number).unwrap();
+            }
             let received: Vec<_> = main.iter(done).take(COUNT).collect();
             assert_eq!(received.iter().sum::<u64>(), sent.iter().sum());
             // Once this seat has left, each worker's call fails with `Stalled`.
@@ -219,7 +222,8 @@ fn ten_receivers() {
                 .collect();
             (0..COUNT as u64).for_each(|number| sender.send(mailbox, number).unwrap());
             drop(sender);
-            let mut received: Vec<_> = receivers.into_iter().flat_map(|thread| thread.join().unwrap()).collect();
+            let mut received: Vec<_> =
+                receivers.into_iter().flat_map(|thread| thread.join().unwrap()).collect();
             received.sort_unstable();
             assert!(received.into_iter().eq(0..COUNT as u64));
         });

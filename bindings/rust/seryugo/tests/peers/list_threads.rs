@@ -84,7 +84,9 @@ fn spsc() {
         let [mut sender, mut receiver] = seats(&board);
         let mailbox = sender.mailbox::<u64>().unwrap();
         thread::scope(|scope| {
-            scope.spawn(move || (0..COUNT).for_each(|message| sender.send(mailbox, message).unwrap()));
+            scope.spawn(move || {
+                (0..COUNT).for_each(|message| sender.send(mailbox, message).unwrap());
+            });
             for message in 0..COUNT {
                 assert_eq!(receiver.recv(mailbox), Ok(message));
             }
@@ -99,7 +101,8 @@ fn mpmc() {
     const THREADS: u64 = 4;
     within_a_minute(|| {
         let board = Switchboard::new(MANY).unwrap();
-        let (senders, receivers): ([_; THREADS as usize], [_; THREADS as usize]) = (seats(&board), seats(&board));
+        let (senders, receivers): ([_; THREADS as usize], [_; THREADS as usize]) =
+            (seats(&board), seats(&board));
         let mailbox = board.seat().unwrap().mailbox::<u64>().unwrap();
         let times: Vec<_> = (0..COUNT).map(|_| AtomicU64::new(0)).collect();
         thread::scope(|scope| {
@@ -113,7 +116,9 @@ fn mpmc() {
                 });
             }
             for mut sender in senders {
-                scope.spawn(move || (0..COUNT).for_each(|message| sender.send(mailbox, message).unwrap()));
+                scope.spawn(move || {
+                    (0..COUNT).for_each(|message| sender.send(mailbox, message).unwrap());
+                });
             }
         });
         assert_eq!(board.owed(mailbox), Ok(0));

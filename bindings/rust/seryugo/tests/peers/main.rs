@@ -1,5 +1,5 @@
-//! Cases that the tests of other channels try, on mailboxes, channels, variables and lanes. `docs/PEERS.md` has each case of
-//! those tests, and says what became of it.
+//! Cases that the tests of other channels try, on mailboxes, channels, variables and lanes.
+//! `docs/PEERS.md` has each case of those tests, and says what became of it.
 
 #[path = "../common/mod.rs"]
 mod common;

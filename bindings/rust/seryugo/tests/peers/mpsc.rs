@@ -122,7 +122,9 @@ fn stress() {
         let [mut sender, mut receiver] = seats(&board);
         let mailbox = sender.mailbox::<i32>().unwrap();
         thread::scope(|scope| {
-            scope.spawn(move || (0..10_000).for_each(|message| sender.send(mailbox, message).unwrap()));
+            scope.spawn(move || {
+                (0..10_000).for_each(|message| sender.send(mailbox, message).unwrap());
+            });
             (0..10_000).for_each(|message| assert_eq!(receiver.recv(mailbox), Ok(message)));
         });
     });
@@ -257,7 +259,7 @@ fn count_within(receiver: &mut Seat<'_>, mailbox: seryugo::Mailbox<i32>, limit: 
     std::iter::repeat_with(|| receiver.recv_timeout(mailbox, limit))
         .take_while(|told| *told != Err(Error::Stalled))
         .inspect(|told| assert!(matches!(told, Ok(1) | Err(Error::TimedOut))))
-        .filter(Result::is_ok)
+        .flatten()
         .count()
 }
 

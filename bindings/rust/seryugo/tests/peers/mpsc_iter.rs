@@ -1,4 +1,5 @@
-//! Iterators and states of std's `mpsc`, on mailboxes. `iter.rs` has what crossbeam-channel tries of iterators.
+//! Iterators and states of std's `mpsc`, on mailboxes. `iter.rs` has what crossbeam-channel tries
+//! of iterators.
 
 use crate::common::{let_them_wait, within_a_minute};
 use crate::{seats, MANY};

@@ -7,7 +7,12 @@ use std::thread;
 use std::time::Duration;
 
 /// Sends these numbers on a lane of this capacity, and closes it.
-fn send_on_lane(board: &Switchboard<Numbers>, mailbox: Mailbox<u64>, capacity: usize, messages: impl Iterator<Item = u64>) {
+fn send_on_lane(
+    board: &Switchboard<Numbers>,
+    mailbox: Mailbox<u64>,
+    capacity: usize,
+    messages: impl Iterator<Item = u64>,
+) {
     let mut lane = board.lane(mailbox, capacity).unwrap();
     for message in messages {
         if lane.send(message).is_err() {
@@ -160,7 +165,7 @@ fn stress_shared() {
 fn count_within(receiver: &mut Seat<'_, Numbers>, mailbox: Mailbox<u64>, limit: Duration) -> usize {
     std::iter::repeat_with(|| receiver.recv_timeout(mailbox, limit))
         .take_while(|told| *told != Err(Error::Stalled))
-        .filter(Result::is_ok)
+        .flatten()
         .count()
 }
 

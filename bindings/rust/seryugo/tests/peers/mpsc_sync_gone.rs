@@ -1,4 +1,5 @@
-//! Bounded channels of std's `mpsc` whose receiver is gone: what was sent on a lane waits in the mailbox for the next seat.
+//! Bounded channels of std's `mpsc` whose receiver is gone: what was sent on a lane waits in the
+//! mailbox for the next seat.
 
 use crate::common::within_a_minute;
 use crate::mpsc_sync::assert_full;
@@ -26,7 +27,7 @@ fn a_receiver_that_leaves_loses_nothing() {
         let board = Switchboard::of_numbers(MANY).unwrap();
         let [mut receiver] = seats(&board);
         let mailbox = receiver.mailbox().unwrap();
-        let lanes = [(); 2].map(|_| board.lane(mailbox, 4).unwrap());
+        let lanes = [(); 2].map(|()| board.lane(mailbox, 4).unwrap());
         thread::scope(|scope| {
             scope.spawn(move || assert_eq!(receiver.recv(mailbox), Ok(1)));
             for mut lane in lanes {
@@ -46,7 +47,8 @@ fn lanes_close_while_a_receiver_leaves() {
             let board = Switchboard::of_numbers(MANY).unwrap();
             let [mut receiver, free] = seats(&board);
             let mailbox = receiver.mailbox().unwrap();
-            let (mut one, other) = (board.lane(mailbox, 1).unwrap(), board.lane(mailbox, 1).unwrap());
+            let (mut one, other) =
+                (board.lane(mailbox, 1).unwrap(), board.lane(mailbox, 1).unwrap());
             thread::scope(|scope| {
                 scope.spawn(move || drop(free));
                 scope.spawn(move || one.send(1).unwrap());

@@ -1,0 +1,107 @@
+//! How a thread calls under a switchboard's lock, and wakes the next seat that is due.
+
+use crate::backoff;
+use crate::inside::Inside;
+use crate::parker::{Parker, Woken};
+use crate::raw::{code, Handle};
+use crate::room::Room;
+use crate::switchboard::Switchboard;
+use crate::yields::pass_by_yielding;
+use std::sync::{MutexGuard, PoisonError, TryLockError};
+
+/// Before a thread waits for the lock, it spins and tries it: for so many pauses, and then for
+/// twice as many each time. Then it yields and tries it. With a quarter of the pauses, four threads
+/// that send took up to 1.4 times as long: too many looked at the lock.
+const PAUSES: u32 = 64;
+const SPINS: u32 = 4;
+const YIELDS: u32 = 4;
+
+impl<R: Room> Switchboard<R> {
+    /// Makes a call under the lock, unlocks the room, and then wakes the next seat that is due. If
+    /// the call is that of a seat, `by` is the seat's parker.
+    #[inline]
+    pub(crate) fn change<T>(
+        &self,
+        by: Option<&Parker>,
+        call: impl FnOnce(&mut Inside<R>) -> T,
+    ) -> T {
+        let mut inside = self.lock();
+        let answer = inside.call(call);
+        let due = inside.next_due();
+        drop(inside);
+        self.wake_at(due, by);
+        answer
+    }
+
+    /// The same for a call that may park the seat, or that of a parked seat again.
+    #[inline]
+    pub(crate) fn ask(
+        &self,
+        by: &Parker,
+        is_again: bool,
+        call: impl FnOnce(&mut Handle) -> u32,
+    ) -> u32 {
+        let mut inside = self.lock();
+        let code = inside.ask(is_again, call);
+        by.note_ask(is_again, code == code::PARKED, inside.calls());
+        // A call that parks a free seat makes no seat due. If others were due before, a call that
+        // wakes them is on its way.
+        let may_be_due = is_again || code != code::PARKED;
+        let due = may_be_due.then(|| inside.next_due()).flatten();
+        drop(inside);
+        self.wake_at(due, Some(by));
+        code
+    }
+
+    /// The room, for a call that makes no seat due. A thread that panicked left it between two
+    /// calls, where it is whole.
+    #[inline]
+    pub(crate) fn lock(&self) -> MutexGuard<'_, Inside<R>> {
+        self.try_lock().unwrap_or_else(|| self.lock_late())
+    }
+
+    /// The same, if no thread has the lock.
+    #[inline]
+    fn try_lock(&self) -> Option<MutexGuard<'_, Inside<R>>> {
+        match self.inside.0.try_lock() {
+            Ok(inside) => Some(inside),
+            Err(TryLockError::Poisoned(inside)) => Some(inside.into_inner()),
+            Err(TryLockError::WouldBlock) => None,
+        }
+    }
+
+    /// The same, if another thread had the lock just now. To sleep there and to be woken takes far
+    /// longer than a call.
+    #[cold]
+    fn lock_late(&self) -> MutexGuard<'_, Inside<R>> {
+        backoff::look(PAUSES, SPINS, pass_by_yielding, YIELDS, || self.try_lock())
+            .unwrap_or_else(|| self.inside.0.lock().unwrap_or_else(PoisonError::into_inner))
+    }
+
+    /// Wakes the seat at this place, if a seat is due.
+    #[inline]
+    fn wake_at(&self, due: Option<u64>, by: Option<&Parker>) {
+        if let Some(due) = due.and_then(|place| self.parkers.get(place)) {
+            self.wake(due, by);
+        }
+    }
+
+    /// Wakes a seat that is due, for a call of that seat or of none. A thread that is woken makes a
+    /// call, which wakes the seat after. A task may be polled late. So behind a task this wakes the
+    /// next seat too, up to the first thread.
+    fn wake(&self, due: &Parker, by: Option<&Parker>) {
+        let mut next = Some(due);
+        while let Some(due) = next {
+            let woken = due.unpark(by);
+            if let Some(by) = by {
+                by.note_woken(due, woken);
+            }
+            next = (woken == Woken::Task).then(|| self.next_due()).flatten();
+        }
+    }
+
+    fn next_due(&self) -> Option<&Parker> {
+        let due = self.lock().next_due();
+        due.and_then(|place| self.parkers.get(place))
+    }
+}
