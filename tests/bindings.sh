@@ -2,7 +2,7 @@
 # The libraries for C, from C and from Rust: `sh tests/bindings.sh ROOMS REPLAY`, with the archives of cml_c and cml_script_c.
 # The programs of bindings/c are built with them: one that replays a script is to write the report beside each example, and five
 # try rooms, two of them with threads. They run under valgrind and the sanitizers too. Then the tests of the crate of bindings/rust
-# run, four files of them under valgrind, and its documented examples. What isn't there is named as left out, and counts for
+# run, five files of them under valgrind, and its documented examples. What isn't there is named as left out, and counts for
 # nothing. The last line is `N passed, M failed`.
 . "$(dirname "$0")/lib/cases.sh"
 rooms=$(absolute "$1")
@@ -153,7 +153,7 @@ letters_from_rust() {
 # clean_in_rust TEST: a file of tests in Rust runs without a fault of memory.
 clean_in_rust() {
     binary=$(cargo_does test --test "$1" --no-run --message-format=json | sed -n 's/.*"executable":"\([^"]*\)".*/\1/p')
-    [ -x "$binary" ] && is_clean "$binary" --test-threads=1 --skip too_long
+    [ -x "$binary" ] && is_clean "$binary" --test-threads=1 --skip too_long --skip forgotten
 }
 
 from_rust() {
@@ -161,7 +161,7 @@ from_rust() {
     ln -s "$PWD/examples" "$work/examples"
     check 'the crate in Rust' cargo_does test --all-features
     if has valgrind 'the crate in Rust without a fault of memory'; then
-        for tests in codes keeping typed odd_messages; do
+        for tests in codes keeping typed odd_messages owned; do
             check "without a fault of memory in Rust: $tests" clean_in_rust $tests
         done
     fi

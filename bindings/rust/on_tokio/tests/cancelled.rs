@@ -13,7 +13,7 @@ fn a_timeout_loses_no_message() {
     const COUNT: u64 = 100;
     on_each_runtime(|| async {
         let board = board();
-        let (mut sender, mut receiver) = (board.seat().unwrap(), board.seat().unwrap());
+        let (mut sender, mut receiver) = (board.seat_owned().unwrap(), board.seat_owned().unwrap());
         let mailbox = sender.mailbox::<u64>().unwrap();
         let sending = tokio::spawn(async move {
             for number in 0..COUNT {
@@ -39,7 +39,7 @@ fn a_timeout_loses_no_message() {
 fn a_timeout_of_each_call() {
     on_each_runtime(|| async {
         let board = board();
-        let (mut seat, mut free) = (board.seat().unwrap(), board.seat().unwrap());
+        let (mut seat, mut free) = (board.seat_owned().unwrap(), board.seat_owned().unwrap());
         let channel = seat.channel::<u64>().unwrap();
         let port = seat.port(channel).unwrap();
         let (once, often) = (seat.ivar::<u64>().unwrap(), seat.mvar::<u64>().unwrap());
@@ -63,8 +63,8 @@ fn select_over_two() {
     const COUNT: u64 = 200;
     on_each_runtime(|| async {
         let board = board_of_numbers();
-        let mut senders = [board.seat().unwrap(), board.seat().unwrap()];
-        let (mut one, mut other) = (board.seat().unwrap(), board.seat().unwrap());
+        let mut senders = [board.seat_owned().unwrap(), board.seat_owned().unwrap()];
+        let (mut one, mut other) = (board.seat_owned().unwrap(), board.seat_owned().unwrap());
         let (odd, even) = (one.mailbox().unwrap(), one.mailbox().unwrap());
         let sending = tokio::spawn(async move {
             for number in 0..COUNT {
@@ -90,11 +90,11 @@ fn select_over_two() {
 fn aborted_tasks_leave() {
     on_each_runtime(|| async {
         let board = board();
-        let mut seat = board.seat().unwrap();
+        let mut seat = board.seat_owned().unwrap();
         let (mailbox, begun) = (seat.mailbox::<u64>().unwrap(), seat.mailbox::<()>().unwrap());
         let mut tasks = JoinSet::new();
         for _ in 0..20 {
-            let mut own = board.seat().unwrap();
+            let mut own = board.seat_owned().unwrap();
             tasks.spawn(async move {
                 own.send(begun, ()).unwrap();
                 own.recv_async(mailbox).await

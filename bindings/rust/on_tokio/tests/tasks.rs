@@ -21,12 +21,12 @@ fn a_mailbox() {
     const COUNT: u64 = 100;
     on_each_runtime(|| async {
         let board = board();
-        let mailbox = board.seat().unwrap().mailbox::<String>().unwrap();
+        let mailbox = board.seat_owned().unwrap().mailbox::<String>().unwrap();
         let (mut senders, mut receivers) = (JoinSet::new(), JoinSet::new());
         // While one of these is free, no receiver's call fails with `Stalled`.
-        let sending: Vec<_> = (0..SENDERS).map(|_| board.seat().unwrap()).collect();
+        let sending: Vec<_> = (0..SENDERS).map(|_| board.seat_owned().unwrap()).collect();
         for _ in 0..20 {
-            let mut seat = board.seat().unwrap();
+            let mut seat = board.seat_owned().unwrap();
             receivers.spawn(async move {
                 let mut received = Vec::new();
                 while let Ok(message) = seat.recv_async(mailbox).await {
@@ -57,12 +57,12 @@ fn ports() {
     const COUNT: u64 = 200;
     on_each_runtime(|| async {
         let board = board();
-        let mut seat = board.seat().unwrap();
+        let mut seat = board.seat_owned().unwrap();
         let (channel, counts) = (seat.channel::<u64>().unwrap(), seat.mailbox::<u64>().unwrap());
         let mut receivers = JoinSet::new();
         let mut ports = Vec::new();
         for _ in 0..10 {
-            let (mut own, port) = (board.seat().unwrap(), seat.port(channel).unwrap());
+            let (mut own, port) = (board.seat_owned().unwrap(), seat.port(channel).unwrap());
             ports.push(port);
             receivers.spawn(async move {
                 for number in 0..COUNT {
@@ -92,11 +92,11 @@ fn ports() {
 fn an_i_variable() {
     on_each_runtime(|| async {
         let board = board();
-        let mut seat = board.seat().unwrap();
+        let mut seat = board.seat_owned().unwrap();
         let variable = seat.ivar::<(u32, String)>().unwrap();
         let mut readers = JoinSet::new();
         for _ in 0..50 {
-            let mut own = board.seat().unwrap();
+            let mut own = board.seat_owned().unwrap();
             readers.spawn(async move { own.get_async(variable).await });
         }
         yield_now().await;
@@ -112,11 +112,11 @@ fn an_i_variable() {
 fn an_m_variable_as_a_lock() {
     on_each_runtime(|| async {
         let board = board();
-        let mut seat = board.seat().unwrap();
+        let mut seat = board.seat_owned().unwrap();
         let variable = seat.mvar_init(0_u64).unwrap();
         let mut tasks = JoinSet::new();
         for _ in 0..20 {
-            let mut own = board.seat().unwrap();
+            let mut own = board.seat_owned().unwrap();
             tasks.spawn(async move {
                 for _ in 0..50 {
                     let count = own.take_async(variable).await.unwrap();
@@ -135,11 +135,11 @@ fn swapped_tokens() {
     const TASKS: u64 = 20;
     on_each_runtime(|| async {
         let board = board_of_numbers();
-        let mut seat = board.seat().unwrap();
+        let mut seat = board.seat_owned().unwrap();
         let variable = seat.mvar().unwrap();
         let mut tasks = JoinSet::new();
         for token in 1..=TASKS {
-            let mut own = board.seat().unwrap();
+            let mut own = board.seat_owned().unwrap();
             tasks.spawn(async move {
                 let mut token = token;
                 for _ in 0..50 {
@@ -162,7 +162,7 @@ fn swapped_tokens() {
 fn blocking_threads_beside_tasks() {
     on_each_runtime(|| async {
         let board = board();
-        let (mut there, mut back) = (board.seat().unwrap(), board.seat().unwrap());
+        let (mut there, mut back) = (board.seat_owned().unwrap(), board.seat_owned().unwrap());
         let questions = there.mailbox::<u64>().unwrap();
         let answers = there.mailbox::<u64>().unwrap();
         let server = spawn_blocking(move || {

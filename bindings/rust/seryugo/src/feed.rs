@@ -2,11 +2,13 @@
 
 use crate::calls::received;
 use crate::error::Error;
-use crate::names::Port;
-use crate::raw::{self, code, Handle};
+use crate::names::{Channel, Port};
+use crate::owned::Holds;
+use crate::raw::{self, code, written, Handle};
 use crate::room::{Carries, Room};
 use crate::switchboard::Switchboard;
 use std::fmt;
+use std::marker::PhantomData;
 
 /// A feed of what is multicast on a channel, from which one thread takes without the lock what was
 /// pumped. It may go to another thread, and two can't share it. It ends when it is dropped.
@@ -33,26 +35,33 @@ use std::fmt;
 /// fn shared<T: Sync>() {}
 /// shared::<seryugo::Feed<seryugo::Numbers, u64>>();
 /// ```
-pub struct Feed<'a, R: Room, T> {
-    board: &'a Switchboard<R>,
+pub struct Feed<'a, R: Room, T, H: Holds<R> = &'a Switchboard<R>> {
+    board: H,
     handle: Handle,
     number: u64,
     port: Port<T>,
+    kind: PhantomData<&'a R>,
 }
 
-impl<'a, R: Room, T> Feed<'a, R, T> {
-    pub(crate) fn new(
-        board: &'a Switchboard<R>,
-        handle: Handle,
-        number: u64,
-        port: Port<T>,
-    ) -> Feed<'a, R, T> {
-        Feed {
+impl<R: Room, T, H: Holds<R>> Feed<'_, R, T, H> {
+    /// Opens a feed at a switchboard.
+    pub(crate) fn at(board: H, channel: Channel<T>, capacity: usize) -> Result<Self, Error> {
+        let channel = board.here(channel)?;
+        let mut number = 0;
+        let open = |room: &mut Handle| {
+            Handle::opened(|feed| {
+                raw::seryugo_feed_open(room, channel, capacity, feed, &mut number)
+            })
+        };
+        let mut handle = board.change(None, |inside| inside.enter(open))?;
+        let port = written(|port| raw::seryugo_feed_port(&mut handle, port))?;
+        Ok(Feed {
+            port: board.name(port),
             board,
             handle,
             number,
-            port,
-        }
+            kind: PhantomData,
+        })
     }
 
     /// The feed's number, by which the journal tells what it receives.
@@ -141,14 +150,14 @@ impl<'a, R: Room, T> Feed<'a, R, T> {
     }
 }
 
-impl<R: Room, T> Drop for Feed<'_, R, T> {
+impl<R: Room, T, H: Holds<R>> Drop for Feed<'_, R, T, H> {
     fn drop(&mut self) {
         let number = self.number;
         self.board.change(None, |inside| raw::seryugo_feed_end(&mut inside.handle, number));
     }
 }
 
-impl<R: Room, T> fmt::Debug for Feed<'_, R, T> {
+impl<R: Room, T, H: Holds<R>> fmt::Debug for Feed<'_, R, T, H> {
     fn fmt(&self, f: &mut fmt::Formatter<'_>) -> fmt::Result {
         f.debug_struct("Feed")
             .field("number", &self.number)

@@ -2,8 +2,10 @@
 
 use crate::error::Error;
 use crate::names::Source;
+use crate::owned::Holds;
 use crate::room::{Carries, Room};
 use crate::seat::Seat;
+use crate::switchboard::Switchboard;
 use std::fmt;
 use std::iter::FusedIterator;
 
@@ -30,8 +32,8 @@ use std::iter::FusedIterator;
 /// # }
 /// ```
 #[must_use = "an iterator receives nothing before it is asked"]
-pub struct Iter<'s, 'a, R: Room, S> {
-    seat: &'s mut Seat<'a, R>,
+pub struct Iter<'s, 'a, R: Room, S, H: Holds<R> = &'a Switchboard<R>> {
+    seat: &'s mut Seat<'a, R, H>,
     source: S,
     is_over: bool,
     error: Option<Error>,
@@ -52,13 +54,13 @@ pub struct Iter<'s, 'a, R: Room, S> {
 /// # Ok::<(), seryugo::Error>(())
 /// ```
 #[must_use = "an iterator receives nothing before it is asked"]
-pub struct TryIter<'s, 'a, R: Room, S> {
-    seat: &'s mut Seat<'a, R>,
+pub struct TryIter<'s, 'a, R: Room, S, H: Holds<R> = &'a Switchboard<R>> {
+    seat: &'s mut Seat<'a, R, H>,
     source: S,
     error: Option<Error>,
 }
 
-impl<'a, R: Room> Seat<'a, R> {
+impl<'a, R: Room, H: Holds<R>> Seat<'a, R, H> {
     /// Receives the messages of a mailbox or a port in a loop, which ends if the port is closed or
     /// a call fails: see [`Iter`].
     ///
@@ -73,7 +75,7 @@ impl<'a, R: Room> Seat<'a, R> {
     /// }
     /// # Ok::<(), seryugo::Error>(())
     /// ```
-    pub fn iter<S: Source>(&mut self, source: S) -> Iter<'_, 'a, R, S>
+    pub fn iter<S: Source>(&mut self, source: S) -> Iter<'_, 'a, R, S, H>
     where
         R: Carries<S::Message>,
     {
@@ -94,7 +96,7 @@ impl<'a, R: Room> Seat<'a, R> {
     /// assert_eq!(seat.try_iter(mailbox).count(), 0);
     /// # Ok::<(), seryugo::Error>(())
     /// ```
-    pub fn try_iter<S: Source>(&mut self, source: S) -> TryIter<'_, 'a, R, S>
+    pub fn try_iter<S: Source>(&mut self, source: S) -> TryIter<'_, 'a, R, S, H>
     where
         R: Carries<S::Message>,
     {
@@ -106,7 +108,7 @@ impl<'a, R: Room> Seat<'a, R> {
     }
 }
 
-impl<R: Room, S> Iter<'_, '_, R, S> {
+impl<R: Room, S, H: Holds<R>> Iter<'_, '_, R, S, H> {
     /// The error that ended it, if one did.
     ///
     /// ```
@@ -123,7 +125,7 @@ impl<R: Room, S> Iter<'_, '_, R, S> {
     }
 }
 
-impl<R: Room, S> TryIter<'_, '_, R, S> {
+impl<R: Room, S, H: Holds<R>> TryIter<'_, '_, R, S, H> {
     /// The error that ended it the last time, if one did.
     ///
     /// ```
@@ -139,7 +141,7 @@ impl<R: Room, S> TryIter<'_, '_, R, S> {
     }
 }
 
-impl<R: Carries<S::Message>, S: Source> Iterator for Iter<'_, '_, R, S> {
+impl<R: Carries<S::Message>, S: Source, H: Holds<R>> Iterator for Iter<'_, '_, R, S, H> {
     type Item = S::Message;
 
     fn next(&mut self) -> Option<S::Message> {
@@ -158,9 +160,9 @@ impl<R: Carries<S::Message>, S: Source> Iterator for Iter<'_, '_, R, S> {
     }
 }
 
-impl<R: Carries<S::Message>, S: Source> FusedIterator for Iter<'_, '_, R, S> {}
+impl<R: Carries<S::Message>, S: Source, H: Holds<R>> FusedIterator for Iter<'_, '_, R, S, H> {}
 
-impl<R: Carries<S::Message>, S: Source> Iterator for TryIter<'_, '_, R, S> {
+impl<R: Carries<S::Message>, S: Source, H: Holds<R>> Iterator for TryIter<'_, '_, R, S, H> {
     type Item = S::Message;
 
     fn next(&mut self) -> Option<S::Message> {
@@ -177,7 +179,7 @@ impl<R: Carries<S::Message>, S: Source> Iterator for TryIter<'_, '_, R, S> {
     }
 }
 
-impl<R: Room, S> fmt::Debug for Iter<'_, '_, R, S> {
+impl<R: Room, S, H: Holds<R>> fmt::Debug for Iter<'_, '_, R, S, H> {
     fn fmt(&self, f: &mut fmt::Formatter<'_>) -> fmt::Result {
         f.debug_struct("Iter")
             .field("seat", &self.seat)
@@ -186,7 +188,7 @@ impl<R: Room, S> fmt::Debug for Iter<'_, '_, R, S> {
     }
 }
 
-impl<R: Room, S> fmt::Debug for TryIter<'_, '_, R, S> {
+impl<R: Room, S, H: Holds<R>> fmt::Debug for TryIter<'_, '_, R, S, H> {
     fn fmt(&self, f: &mut fmt::Formatter<'_>) -> fmt::Result {
         f.debug_struct("TryIter")
             .field("seat", &self.seat)

@@ -1,6 +1,8 @@
 //! Lanes.
 
 use crate::error::{handing_back, Error, SendError};
+use crate::names::Named;
+use crate::owned::Holds;
 use crate::raw::{self, done, Handle};
 use crate::room::{Carries, Room};
 use crate::switchboard::Switchboard;
@@ -41,26 +43,31 @@ use std::marker::PhantomData;
 /// fn shared<T: Sync>() {}
 /// shared::<seryugo::Lane<seryugo::Numbers, u64>>();
 /// ```
-pub struct Lane<'a, R: Room, T> {
-    board: &'a Switchboard<R>,
+pub struct Lane<'a, R: Room, T, H: Holds<R> = &'a Switchboard<R>> {
+    board: H,
     handle: Handle,
     number: u64,
     /// How many messages were sent on it.
     sent: u64,
     is_closed: bool,
     message: PhantomData<fn(T)>,
+    kind: PhantomData<&'a R>,
 }
 
-impl<'a, R: Room, T> Lane<'a, R, T> {
-    pub(crate) fn new(board: &'a Switchboard<R>, handle: Handle, number: u64) -> Lane<'a, R, T> {
-        Lane {
+impl<'a, R: Room, T, H: Holds<R>> Lane<'a, R, T, H> {
+    /// Opens a lane at a switchboard.
+    pub(crate) fn at(board: H, target: impl Named, capacity: usize) -> Result<Self, Error> {
+        let target = board.here(target)?;
+        let (handle, number) = board.lock().open_lane(target, capacity)?;
+        Ok(Lane {
             board,
             handle,
             number,
             sent: 0,
             is_closed: false,
             message: PhantomData,
-        }
+            kind: PhantomData,
+        })
     }
 
     /// The lane's number, by which the journal tells its messages, and [`Switchboard::drain`] finds
@@ -154,13 +161,13 @@ impl<'a, R: Room, T> Lane<'a, R, T> {
     /// `NoMemory`, `NotKept`, or `JournalFull`. Cut a full journal by
     /// [`cut_open`](Switchboard::cut_open), and close the lane again.
     #[must_use = "a lane that wasn't closed loses messages when it is dropped"]
-    pub fn close(mut self) -> Result<(), UnclosedLane<'a, R, T>> {
+    pub fn close(mut self) -> Result<(), UnclosedLane<'a, R, T, H>> {
         // A lane that is open on both sides can be ended.
         raw::seryugo_lane_finish(&mut self.handle);
         self.close_finished()
     }
 
-    fn close_finished(mut self) -> Result<(), UnclosedLane<'a, R, T>> {
+    fn close_finished(mut self) -> Result<(), UnclosedLane<'a, R, T, H>> {
         match self.board.close_lane(self.number, &mut self.handle) {
             Ok(()) => {
                 self.is_closed = true;
@@ -176,7 +183,7 @@ impl<'a, R: Room, T> Lane<'a, R, T> {
     }
 }
 
-impl<R: Room, T> Drop for Lane<'_, R, T> {
+impl<R: Room, T, H: Holds<R>> Drop for Lane<'_, R, T, H> {
     fn drop(&mut self) {
         if !self.is_closed {
             self.end();
@@ -212,12 +219,12 @@ impl<R: Room, T> Drop for Lane<'_, R, T> {
 /// # }
 /// ```
 #[must_use = "a lane that wasn't closed loses messages when it is dropped"]
-pub struct UnclosedLane<'a, R: Room, T> {
-    lane: Lane<'a, R, T>,
+pub struct UnclosedLane<'a, R: Room, T, H: Holds<R> = &'a Switchboard<R>> {
+    lane: Lane<'a, R, T, H>,
     error: Error,
 }
 
-impl<'a, R: Room, T> UnclosedLane<'a, R, T> {
+impl<'a, R: Room, T, H: Holds<R>> UnclosedLane<'a, R, T, H> {
     /// Why the lane could not be closed.
     ///
     /// ```
@@ -267,7 +274,7 @@ impl<'a, R: Room, T> UnclosedLane<'a, R, T> {
     ///
     /// As [`Lane::close`].
     #[must_use = "a lane that wasn't closed loses messages when it is dropped"]
-    pub fn close(self) -> Result<(), UnclosedLane<'a, R, T>> {
+    pub fn close(self) -> Result<(), UnclosedLane<'a, R, T, H>> {
         self.lane.close_finished()
     }
 
@@ -289,7 +296,7 @@ impl<'a, R: Room, T> UnclosedLane<'a, R, T> {
     }
 }
 
-impl<R: Room, T> fmt::Debug for UnclosedLane<'_, R, T> {
+impl<R: Room, T, H: Holds<R>> fmt::Debug for UnclosedLane<'_, R, T, H> {
     fn fmt(&self, f: &mut fmt::Formatter<'_>) -> fmt::Result {
         f.debug_struct("UnclosedLane")
             .field("number", &self.lane.number)
@@ -298,25 +305,25 @@ impl<R: Room, T> fmt::Debug for UnclosedLane<'_, R, T> {
     }
 }
 
-impl<R: Room, T> fmt::Display for UnclosedLane<'_, R, T> {
+impl<R: Room, T, H: Holds<R>> fmt::Display for UnclosedLane<'_, R, T, H> {
     fn fmt(&self, f: &mut fmt::Formatter<'_>) -> fmt::Result {
         write!(f, "lane {} isn't closed: {}", self.lane.number, self.error)
     }
 }
 
-impl<R: Room, T> std::error::Error for UnclosedLane<'_, R, T> {
+impl<R: Room, T, H: Holds<R>> std::error::Error for UnclosedLane<'_, R, T, H> {
     fn source(&self) -> Option<&(dyn std::error::Error + 'static)> {
         Some(&self.error)
     }
 }
 
-impl<R: Room, T> From<UnclosedLane<'_, R, T>> for Error {
-    fn from(unclosed: UnclosedLane<'_, R, T>) -> Error {
+impl<R: Room, T, H: Holds<R>> From<UnclosedLane<'_, R, T, H>> for Error {
+    fn from(unclosed: UnclosedLane<'_, R, T, H>) -> Error {
         unclosed.error
     }
 }
 
-impl<R: Room, T> fmt::Debug for Lane<'_, R, T> {
+impl<R: Room, T, H: Holds<R>> fmt::Debug for Lane<'_, R, T, H> {
     fn fmt(&self, f: &mut fmt::Formatter<'_>) -> fmt::Result {
         f.debug_struct("Lane")
             .field("number", &self.number)

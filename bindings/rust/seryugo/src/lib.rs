@@ -6,6 +6,25 @@
 //!
 //! ```
 //! use seryugo::{Error, Switchboard};
+//! use std::sync::Arc;
+//! use std::thread;
+//!
+//! # fn main() -> Result<(), Error> {
+//! let board = Arc::new(Switchboard::new(1_000)?);
+//! let (mut ann, mut ben) = (board.seat_owned()?, board.seat_owned()?);
+//! let letters = ben.mailbox::<String>()?;
+//! let sender = thread::spawn(move || ann.send(letters, "Dear Ben".to_string()));
+//! assert_eq!(ben.recv(letters)?, "Dear Ben");
+//! sender.join().unwrap()?;
+//! # Ok(())
+//! # }
+//! ```
+//!
+//! Such a seat has a share of the switchboard. Store it, or move it into a thread or a task. A seat
+//! that [`Switchboard::seat`] makes borrows the switchboard, as scoped threads do:
+//!
+//! ```
+//! use seryugo::{Error, Switchboard};
 //!
 //! # fn main() -> Result<(), Error> {
 //! let board = Switchboard::new(1_000)?;
@@ -65,6 +84,7 @@
 //! | [`seat.take(mvar)`](Seat::take), [`seat.take_poll(mvar)`](Seat::take_poll) | - | `SyncVar.mTake`, `mTakePoll` |
 //! | [`seat.get(mvar)`](Seat::get), [`seat.get_poll(mvar)`](Seat::get_poll) | - | `SyncVar.mGet`, `mGetPoll` |
 //! | [`seat.swap(mvar, message)`](Seat::swap) | - | `SyncVar.mSwap` |
+//! | [`board.seat_owned()`](Switchboard::seat_owned) | `sender.clone()`, `receiver.clone()` | - |
 //! | `==` on names | `same_channel` | `sameMailbox`, `sameIVar`, `sameMVar` |
 //! | [`board.take_journal()`](Switchboard::take_journal), [`Switchboard::restore`] | - | - |
 //! | - | `select!` | `choose`, `wrap`, `guard` and the other events |
@@ -104,6 +124,7 @@ mod message;
 mod names;
 mod numbers;
 mod objects;
+mod owned;
 mod parker;
 mod parkers;
 mod raw;
@@ -131,6 +152,7 @@ pub use kept::Kept;
 pub use lane::{Lane, UnclosedLane};
 pub use message::Message;
 pub use names::{Channel, IVar, MVar, Mailbox, Object, Port, Source, Target, Variable};
+pub use owned::{Holds, OwnedFeed, OwnedLane, OwnedSeat};
 pub use restore::RestoreError;
 pub use room::{Bytes, Carries, Numbers, Room};
 #[cfg(feature = "scripts")]

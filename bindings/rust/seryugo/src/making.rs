@@ -2,12 +2,13 @@
 
 use crate::error::{handing_back, Error, SendError};
 use crate::names::{Channel, IVar, MVar, Mailbox, Named, Port};
+use crate::owned::Holds;
 use crate::raw::{self, code, done, done_or, Handle};
 use crate::room::{Carries, Room};
 use crate::seat::Seat;
 
 /// # Calls that make objects
-impl<R: Room> Seat<'_, R> {
+impl<R: Room, H: Holds<R>> Seat<'_, R, H> {
     /// Makes a mailbox of messages of a type.
     ///
     /// ```

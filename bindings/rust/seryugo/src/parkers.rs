@@ -2,6 +2,8 @@
 
 use crate::apart::Apart;
 use crate::parker::Parker;
+use std::ops::Deref;
+use std::ptr::NonNull;
 use std::sync::OnceLock;
 
 /// The first part has so many parkers, and each later part twice as many as the one before.
@@ -38,6 +40,37 @@ impl Parkers {
         let parkers =
             self.parts.get(part)?.get_or_init(|| (first..).take(FIRST << part).map(new).collect());
         parkers.get(at).map(|parker| &parker.0)
+    }
+}
+
+/// A parker that its user keeps.
+pub(crate) struct ParkerAt(NonNull<Parker>);
+
+// SAFETY: it is a reference, and a parker may be shared by threads.
+unsafe impl Send for ParkerAt {}
+// SAFETY: as above.
+unsafe impl Sync for ParkerAt {}
+const _: fn() = || {
+    fn is_shared<T: Sync>() {}
+    is_shared::<Parker>();
+};
+
+impl ParkerAt {
+    /// # Safety
+    ///
+    /// While this is used the parker is there, and doesn't move.
+    pub unsafe fn new(parker: &Parker) -> ParkerAt {
+        ParkerAt(NonNull::from(parker))
+    }
+}
+
+impl Deref for ParkerAt {
+    type Target = Parker;
+
+    #[inline]
+    fn deref(&self) -> &Parker {
+        // SAFETY: whoever made it keeps the parker.
+        unsafe { self.0.as_ref() }
     }
 }
 

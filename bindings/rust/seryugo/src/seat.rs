@@ -3,14 +3,17 @@
 use crate::calls::{received, Give, Read};
 use crate::error::{handing_back, Error, SendError};
 use crate::names::{Channel, MVar, Mailbox, Named, Source, Variable};
-use crate::parker::Parker;
+use crate::owned::Holds;
+use crate::parkers::ParkerAt;
 use crate::raw::{self, code, done, done_or, Handle};
 use crate::room::{Bytes, Carries, Room};
 use crate::switchboard::Switchboard;
 use std::borrow::Borrow;
 use std::fmt;
+use std::marker::PhantomData;
 
-/// A seat at a switchboard, for one thread at a time. It leaves when it is dropped.
+/// A seat at a switchboard, for one thread at a time. It leaves when it is dropped. It borrows the
+/// switchboard, or has a share of it ([`OwnedSeat`](crate::OwnedSeat)).
 ///
 /// A call that would wait blocks. If all other seats wait, and no lane is open, it fails with
 /// [`Error::Stalled`]: nothing could answer it. Drop the seat as soon as its thread has no more to
@@ -59,23 +62,32 @@ use std::fmt;
 /// - `NoMemory`.
 ///
 /// If a sink panics ([`WhenFull`](crate::WhenFull)), so does the call that found the journal full.
-pub struct Seat<'a, R: Room = Bytes> {
-    pub(crate) board: &'a Switchboard<R>,
+pub struct Seat<'a, R: Room = Bytes, H: Holds<R> = &'a Switchboard<R>> {
+    pub(crate) board: H,
     number: u64,
-    pub(crate) parker: &'a Parker,
+    pub(crate) parker: ParkerAt,
     /// Whether a future waits by it, or was forgotten while it waited. Or a call that waited is
     /// made again, or a sink panicked in it.
     pub(crate) is_parked: bool,
+    kind: PhantomData<&'a R>,
 }
 
-impl<'a, R: Room> Seat<'a, R> {
-    pub(crate) fn new(board: &'a Switchboard<R>, number: u64, parker: &'a Parker) -> Seat<'a, R> {
-        Seat {
+impl<R: Room, H: Holds<R>> Seat<'_, R, H> {
+    /// Makes a seat at a switchboard.
+    pub(crate) fn at(board: H) -> Result<Self, Error> {
+        let mut inside = board.lock();
+        let parker = board.parkers.make(inside.seats()).ok_or(Error::NoMemory)?;
+        let number = inside.new_seat()?;
+        // SAFETY: no parker moves, and the seat uses it while it has `board`, which keeps it.
+        let parker = unsafe { ParkerAt::new(parker) };
+        drop(inside);
+        Ok(Seat {
             board,
             number,
             parker,
             is_parked: false,
-        }
+            kind: PhantomData,
+        })
     }
 
     /// The seat's number, by which the journal tells its calls.
@@ -294,7 +306,7 @@ impl<'a, R: Room> Seat<'a, R> {
     #[inline]
     pub(crate) fn call(&mut self, call: impl FnOnce(&mut Handle, u64) -> u32) -> u32 {
         let seat = self.ready();
-        self.board.change(Some(self.parker), |inside| inside.enter(|room| call(room, seat)))
+        self.board.change(Some(&self.parker), |inside| inside.enter(|room| call(room, seat)))
     }
 
     /// The seat's number, once it may call: a future that was forgotten left it waiting, or a call
@@ -312,12 +324,12 @@ impl<'a, R: Room> Seat<'a, R> {
     pub(crate) fn withdraw(&mut self) {
         self.is_parked = false;
         let seat = self.number;
-        self.board.change(Some(self.parker), |inside| inside.withdraw(seat));
+        self.board.change(Some(&self.parker), |inside| inside.withdraw(seat));
         self.parker.forget_waker();
     }
 }
 
-impl<R: Room> Drop for Seat<'_, R> {
+impl<R: Room, H: Holds<R>> Drop for Seat<'_, R, H> {
     fn drop(&mut self) {
         let seat = self.ready();
         // The seat isn't parked, so that it may leave.
@@ -325,7 +337,7 @@ impl<R: Room> Drop for Seat<'_, R> {
     }
 }
 
-impl<R: Room> fmt::Debug for Seat<'_, R> {
+impl<R: Room, H: Holds<R>> fmt::Debug for Seat<'_, R, H> {
     fn fmt(&self, f: &mut fmt::Formatter<'_>) -> fmt::Result {
         f.debug_struct("Seat").field("number", &self.number).finish_non_exhaustive()
     }

@@ -7,7 +7,7 @@ use crate::inside::Inside;
 use crate::lane::Lane;
 use crate::names::{Channel, Name, Named, Target};
 use crate::parkers::Parkers;
-use crate::raw::{self, written, Handle};
+use crate::raw::Handle;
 use crate::room::{Bytes, Carries, Numbers, Room};
 use crate::seat::Seat;
 use crate::version;
@@ -142,9 +142,7 @@ impl<R: Room> Switchboard<R> {
     ///
     /// `NoMemory`.
     pub fn seat(&self) -> Result<Seat<'_, R>, Error> {
-        let mut inside = self.lock();
-        let parker = self.parkers.make(inside.seats()).ok_or(Error::NoMemory)?;
-        Ok(Seat::new(self, inside.new_seat()?, parker))
+        Seat::at(self)
     }
 
     /// Opens a lane to a mailbox or a channel, whose ring has room for `capacity` messages, from 1
@@ -173,9 +171,7 @@ impl<R: Room> Switchboard<R> {
     where
         R: Carries<G::Message>,
     {
-        let target = self.here(target)?;
-        let (handle, number) = self.lock().open_lane(target, capacity)?;
-        Ok(Lane::new(self, handle, number))
+        Lane::at(self, target, capacity)
     }
 
     /// Moves what was sent on the lane of this number into the journal, for a thread that has not
@@ -252,17 +248,7 @@ impl<R: Room> Switchboard<R> {
     where
         R: Carries<T>,
     {
-        let channel = self.here(channel)?;
-        let mut number = 0;
-        let mut handle = self.change(None, |inside| {
-            inside.enter(|room| {
-                Handle::opened(|feed| {
-                    raw::seryugo_feed_open(room, channel, capacity, feed, &mut number)
-                })
-            })
-        })?;
-        let port = written(|port| raw::seryugo_feed_port(&mut handle, port))?;
-        Ok(Feed::new(self, handle, number, self.name(port)))
+        Feed::at(self, channel, capacity)
     }
 
     /// The room, before any thread has the switchboard.

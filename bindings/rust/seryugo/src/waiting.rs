@@ -3,6 +3,7 @@
 use crate::calls::Read;
 use crate::error::{handing_back, Error, SendError};
 use crate::names::{MVar, Source, Variable};
+use crate::owned::Holds;
 use crate::room::{Carries, Room};
 use crate::seat::Seat;
 use crate::want::{held, received, Want};
@@ -18,7 +19,7 @@ use std::time::{Duration, Instant};
 ///
 /// A call that fails and a future that is dropped have done nothing. If the seat was about to be
 /// answered, the next seat that waits for the same goes on in its place.
-impl<R: Room> Seat<'_, R> {
+impl<R: Room, H: Holds<R>> Seat<'_, R, H> {
     /// Receives the next message of a mailbox or a port. Blocks while there is none. A mailbox
     /// gives the message. A port gives `Some` message, or `None` once it is closed.
     ///

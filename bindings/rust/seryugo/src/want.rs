@@ -3,6 +3,7 @@
 use crate::calls::{Calls, Read};
 use crate::error::Error;
 use crate::names::Source;
+use crate::owned::Holds;
 use crate::raw::{self, code, Handle};
 use crate::room::{Carries, Room};
 use crate::seat::Seat;
@@ -78,7 +79,7 @@ pub(crate) fn held<R: Carries<T>, T>(answer: Answer<R>) -> Result<T, Error> {
     R::read(answer?)
 }
 
-impl<'a, R: Room> Seat<'a, R> {
+impl<'a, R: Room, H: Holds<R>> Seat<'a, R, H> {
     /// Makes a call that may block. If its seat is parked, this waits until the seat is woken, and
     /// makes the call again.
     #[inline]
@@ -86,13 +87,14 @@ impl<'a, R: Room> Seat<'a, R> {
         let seat = self.ready();
         let mut received = R::nothing();
         let mut code =
-            self.board.ask(self.parker, false, |room| want.ask(room, seat, false, &mut received));
+            self.board.ask(&self.parker, false, |room| want.ask(room, seat, false, &mut received));
         while code == code::PARKED {
             self.parker.park();
             // If a sink panics in this call, the seat's next one withdraws it, or the seat's end.
             self.is_parked = true;
-            code =
-                self.board.ask(self.parker, true, |room| want.ask(room, seat, true, &mut received));
+            code = self
+                .board
+                .ask(&self.parker, true, |room| want.ask(room, seat, true, &mut received));
             self.is_parked = false;
         }
         answer::<R>(code, received)
@@ -119,9 +121,9 @@ impl<'a, R: Room> Seat<'a, R> {
             self.is_parked = is_again;
             let code = if is_last {
                 self.board
-                    .change(Some(self.parker), |inside| inside.ask_at_last(seat, is_again, ask))
+                    .change(Some(&self.parker), |inside| inside.ask_at_last(seat, is_again, ask))
             } else {
-                self.board.ask(self.parker, is_again, ask)
+                self.board.ask(&self.parker, is_again, ask)
             };
             self.is_parked = false;
             if code != code::PARKED {
@@ -136,7 +138,7 @@ impl<'a, R: Room> Seat<'a, R> {
     }
 
     /// The same as a future.
-    pub(crate) fn waiting<'m>(&mut self, want: Want<'m, R>) -> Waiting<'_, 'a, 'm, R> {
+    pub(crate) fn waiting<'m>(&mut self, want: Want<'m, R>) -> Waiting<'_, 'a, 'm, R, H> {
         self.ready();
         Waiting { seat: self, want }
     }
@@ -144,12 +146,12 @@ impl<'a, R: Room> Seat<'a, R> {
 
 /// A call that waits for its future's task to be woken. If it is dropped before it is answered, it
 /// is withdrawn.
-pub(crate) struct Waiting<'s, 'a, 'm, R: Room> {
-    seat: &'s mut Seat<'a, R>,
+pub(crate) struct Waiting<'s, 'a, 'm, R: Room, H: Holds<R>> {
+    seat: &'s mut Seat<'a, R, H>,
     want: Want<'m, R>,
 }
 
-impl<R: Room> Waiting<'_, '_, '_, R> {
+impl<R: Room, H: Holds<R>> Waiting<'_, '_, '_, R, H> {
     /// Makes the call, for the first time or again. `None` if its seat is parked.
     fn ask(&mut self, is_again: bool) -> Option<Answer<R>> {
         let (seat, want) = (self.seat.number(), self.want);
@@ -157,13 +159,13 @@ impl<R: Room> Waiting<'_, '_, '_, R> {
         let code = self
             .seat
             .board
-            .ask(self.seat.parker, is_again, |room| want.ask(room, seat, is_again, &mut received));
+            .ask(&self.seat.parker, is_again, |room| want.ask(room, seat, is_again, &mut received));
         self.seat.is_parked = code == code::PARKED;
         (!self.seat.is_parked).then(|| answer::<R>(code, received))
     }
 }
 
-impl<R: Room> Future for Waiting<'_, '_, '_, R> {
+impl<R: Room, H: Holds<R>> Future for Waiting<'_, '_, '_, R, H> {
     type Output = Answer<R>;
 
     fn poll(mut self: Pin<&mut Self>, context: &mut Context<'_>) -> Poll<Answer<R>> {
@@ -180,7 +182,7 @@ impl<R: Room> Future for Waiting<'_, '_, '_, R> {
     }
 }
 
-impl<R: Room> Drop for Waiting<'_, '_, '_, R> {
+impl<R: Room, H: Holds<R>> Drop for Waiting<'_, '_, '_, R, H> {
     fn drop(&mut self) {
         self.seat.ready();
     }

@@ -5,7 +5,7 @@
 
 use seryugo::{Numbers, Switchboard};
 use std::future::Future;
-use std::sync::Mutex;
+use std::sync::Arc;
 use std::time::Duration;
 use tokio::runtime::Builder;
 use tokio::time::timeout;
@@ -25,23 +25,14 @@ pub fn on_each_runtime<F: Future<Output = ()>>(scenario: impl Fn() -> F) {
     }
 }
 
-/// A switchboard that tasks share: it lives as long as the process does.
-pub fn board() -> &'static Switchboard {
-    static BOARDS: Mutex<Vec<&Switchboard>> = Mutex::new(Vec::new());
-    kept(Switchboard::new(MANY).unwrap(), &BOARDS)
+/// A switchboard that tasks share. It goes with the last of them.
+pub fn board() -> Arc<Switchboard> {
+    Arc::new(Switchboard::new(MANY).unwrap())
 }
 
 /// The same for numbers alone.
-pub fn board_of_numbers() -> &'static Switchboard<Numbers> {
-    static BOARDS: Mutex<Vec<&Switchboard<Numbers>>> = Mutex::new(Vec::new());
-    kept(Switchboard::of_numbers(MANY).unwrap(), &BOARDS)
-}
-
-/// Keeps a value in a list, so that a program that looks for lost memory finds none.
-fn kept<T>(value: T, list: &Mutex<Vec<&'static T>>) -> &'static T {
-    let value: &T = Box::leak(Box::new(value));
-    list.lock().unwrap().push(value);
-    value
+pub fn board_of_numbers() -> Arc<Switchboard<Numbers>> {
+    Arc::new(Switchboard::of_numbers(MANY).unwrap())
 }
 
 pub fn ms(count: u64) -> Duration {
