@@ -126,9 +126,9 @@ impl<R: Room> Switchboard<R> {
     /// messages still to be received. Whatever may follow these calls may follow it, with the same
     /// replies. Its length depends only on what is left. The journal stays as it is.
     ///
-    /// The last seat that was made makes all its entries. Its positions and counts begin at 0. The
-    /// messages in the rings of lanes aren't in it, and those in the rings of feeds count as
-    /// received. Other threads wait for the lock meanwhile.
+    /// The last seat that was made makes all its entries, or the guest that came after it. Its
+    /// positions and counts begin at 0. The messages in the rings of lanes aren't in it, and those
+    /// in the rings of feeds count as received. Other threads wait for the lock meanwhile.
     ///
     /// ```
     /// # let board = seryugo::Switchboard::of_numbers(1_000)?;

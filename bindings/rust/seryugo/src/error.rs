@@ -46,7 +46,9 @@ pub enum Error {
     /// [`Switchboard::keeping_error`](crate::Switchboard::keeping_error) says why. The switchboard
     /// keeps them.
     NotKept,
-    /// The call would wait, and no present seat or open lane could ever answer it: a deadlock.
+    /// The call would wait, and no present seat or open lane could ever answer it: a deadlock. No
+    /// call fails so while a [`Guest`](crate::Guest) is there, or a seat is
+    /// [expected](crate::Switchboard::expect).
     Stalled,
     /// There was no memory for it.
     NoMemory,

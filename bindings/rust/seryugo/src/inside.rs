@@ -1,5 +1,6 @@
 //! What a switchboard's lock guards: the room, and what is counted beside it.
 
+use crate::awaited::Awaited;
 use crate::error::Error;
 use crate::journal::Journal;
 use crate::raw::{self, code, done, written, Handle};
@@ -43,8 +44,10 @@ pub(crate) struct Inside<R: Room> {
     /// The number of the first seat that was made here. Those of a journal from which the
     /// switchboard goes on have lesser ones.
     first_seat: u64,
-    /// How many seats were made here.
+    /// How many seats were made here, hosts included.
     seats: u64,
+    /// Who will come.
+    pub awaited: Awaited,
     /// How many seats are parked.
     parked: u64,
     /// How many calls were made that may park a seat or make one due.
@@ -67,6 +70,7 @@ impl<R: Room> Inside<R> {
             start: Start::default(),
             first_seat: 0,
             seats: 0,
+            awaited: Awaited::default(),
             parked: 0,
             calls: 0,
             moved: BTreeMap::new(),
@@ -185,18 +189,18 @@ impl<R: Room> Inside<R> {
         self.keeper.as_mut().and_then(Keeper::error)
     }
 
-    /// How many seats were made here.
-    pub fn seats(&self) -> u64 {
-        self.seats
-    }
-
     /// How many messages were lost with their lanes.
     pub fn lost(&self) -> u64 {
         self.lost
     }
 
-    /// Makes a seat, and returns its number.
-    pub fn new_seat(&mut self) -> Result<u64, Error> {
+    /// The place of the next seat among those that were made here, hosts included.
+    pub fn next_place(&self) -> u64 {
+        self.awaited.host().map_or(self.seats, |host| host.wrapping_sub(self.first_seat))
+    }
+
+    /// Makes a free seat of the library, and returns its number.
+    pub fn make_seat(&mut self) -> Result<u64, Error> {
         let number = written(|seat| raw::seryugo_new_seat(&mut self.handle, seat))?;
         if self.seats == 0 {
             self.first_seat = number;

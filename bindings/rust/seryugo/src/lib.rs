@@ -20,7 +20,25 @@
 //! # }
 //! ```
 //!
-//! Such a seat has a share of the switchboard. Store it, or move it into a thread or a task. A seat
+//! # When a receive ends
+//!
+//! A call that waits ends as it is answered. If nobody is left who could answer it, it fails with
+//! [`Error::Stalled`]: all other seats wait too or have left, and no lane is open. So when the last
+//! sender drops its seat, those that receive get what was sent, and then `Stalled`.
+//!
+//! - **A seat that isn't made yet is none.** Make all seats before the first thread waits, or say
+//!   how many will come: until they are made, [`board.expect(n)`](Switchboard::expect) keeps calls
+//!   from `Stalled`.
+//! - **A seat that waits with a time limit, or as a future, waits.** So `recv_timeout` on a seat
+//!   that waits alone fails at once. While a guest is there, which
+//!   [`board.hold()`](Switchboard::hold) returns, the call waits for its time, and no call fails
+//!   with `Stalled`.
+//! - **A seat that is free keeps the others waiting.** Drop it as soon as its thread has no more to
+//!   do.
+//!
+//! # Seats
+//!
+//! A seat as above has a share of the switchboard. Store it, or move it into a thread or a task. A seat
 //! that [`Switchboard::seat`] makes borrows the switchboard, as scoped threads do:
 //!
 //! ```
@@ -69,6 +87,7 @@
 //! | [`board.owed(mailbox)`](Switchboard::owed) | `receiver.len()` | - |
 //! | [`SendError`] with the message | `SendError`, once no receiver is left | - |
 //! | [`Error::Stalled`]: nothing could answer the call | `RecvError`, once no sender is left | the thread is blocked for ever |
+//! | [`board.expect(n)`](Switchboard::expect), [`board.hold()`](Switchboard::hold) | a sender that is kept | - |
 //! | [`board.lane(mailbox, capacity)`](Switchboard::lane) | `bounded(capacity)` and `try_send` | - |
 //! | [`seat.channel::<T>()`](Seat::channel) | - | `Multicast.mChannel` |
 //! | [`seat.port(channel)`](Seat::port) | - | `Multicast.port` |
@@ -105,6 +124,7 @@
 
 mod apart;
 mod appending;
+mod awaited;
 mod backoff;
 mod bytes;
 mod calls;
@@ -113,6 +133,7 @@ mod cutting;
 mod entry;
 mod error;
 mod feed;
+mod guest;
 mod inside;
 mod iter;
 mod journal;
@@ -146,6 +167,7 @@ pub use checker::{CheckError, Checker};
 pub use entry::{Call, Entry, Reply, Who};
 pub use error::{Error, SendError};
 pub use feed::Feed;
+pub use guest::{Guest, OwnedGuest};
 pub use iter::{Iter, TryIter};
 pub use journal::{Entries, Journal};
 pub use kept::Kept;

@@ -16,7 +16,8 @@ use std::marker::PhantomData;
 /// switchboard, or has a share of it ([`OwnedSeat`](crate::OwnedSeat)).
 ///
 /// A call that would wait blocks. If all other seats wait, and no lane is open, it fails with
-/// [`Error::Stalled`]: nothing could answer it. Drop the seat as soon as its thread has no more to
+/// [`Error::Stalled`]: nothing could answer it. While a [`Guest`](crate::Guest) is there, it blocks
+/// on. Drop the seat as soon as its thread has no more to
 /// do: while the seat is free, no call fails with `Stalled`.
 ///
 /// ```
@@ -49,7 +50,7 @@ use std::marker::PhantomData;
 /// - The journal has polls that found nothing. It has no call that timed out.
 /// - If all seats wait, and no lane is open, each call that waits fails with [`Error::Stalled`]. A
 ///   seat that waits with a time limit or as a future counts as one that waits. If it is to answer
-///   others later, keep another seat free.
+///   others later, hold a [`Guest`](crate::Guest).
 ///
 /// # How a call fails
 ///
@@ -76,7 +77,7 @@ impl<R: Room, H: Holds<R>> Seat<'_, R, H> {
     /// Makes a seat at a switchboard.
     pub(crate) fn at(board: H) -> Result<Self, Error> {
         let mut inside = board.lock();
-        let parker = board.parkers.make(inside.seats()).ok_or(Error::NoMemory)?;
+        let parker = board.parkers.make(inside.next_place()).ok_or(Error::NoMemory)?;
         let number = inside.new_seat()?;
         // SAFETY: no parker moves, and the seat uses it while it has `board`, which keeps it.
         let parker = unsafe { ParkerAt::new(parker) };

@@ -126,8 +126,8 @@ impl<R: Room> Switchboard<R> {
         })
     }
 
-    /// A new seat. Make all seats before the first thread waits: while one is free no call fails
-    /// with `Stalled`.
+    /// A new seat. Make all seats before the first thread waits, or say by
+    /// [`expect`](Switchboard::expect) how many will come: else its call may fail with `Stalled`.
     ///
     /// ```
     /// # let board = seryugo::Switchboard::new(1_000)?;
