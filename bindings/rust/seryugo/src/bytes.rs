@@ -7,6 +7,7 @@ use crate::message::Message;
 use crate::raw::{Handle, Opening};
 use crate::received::{RawEntry, Received};
 use crate::room::{Bytes, Carries, Room, Seal};
+use crate::sent_as::{Form, SentAs};
 
 impl Room for Bytes {
     type Message = Vec<u8>;
@@ -16,12 +17,15 @@ impl<T: Message> Carries<T> for Bytes {
     const SEAL: Seal = Seal;
 
     #[inline]
-    fn with_sent<O>(message: &T, call: impl FnOnce(&[u8]) -> O) -> O {
-        message.with_bytes(call)
+    fn with_sent<M: SentAs<T>, O>(message: &M, call: impl FnOnce(&[u8]) -> O) -> O {
+        match message.form() {
+            Form::Message(message) => message.with_bytes(call),
+            Form::Bytes(bytes) => call(bytes),
+        }
     }
 
-    fn kept(message: &T) -> Vec<u8> {
-        message.with_bytes(<[u8]>::to_vec)
+    fn kept<M: SentAs<T>>(message: &M) -> Vec<u8> {
+        Self::with_sent(message, <[u8]>::to_vec)
     }
 
     #[inline]

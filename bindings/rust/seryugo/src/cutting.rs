@@ -257,7 +257,7 @@ impl<R: Room> Switchboard<R> {
     /// use seryugo::Call;
     ///
     /// let mailbox = seat.mailbox::<String>()?;
-    /// seat.send(mailbox, "hello".to_string())?;
+    /// seat.send(mailbox, "hello")?;
     /// assert_eq!(board.entry(1).map(|entry| entry.call), Some(Call::Send(0, b"hello".to_vec())));
     /// assert_eq!(board.entry(2), None);
     /// # Ok::<(), seryugo::Error>(())

@@ -21,7 +21,7 @@ use std::fmt;
 /// let board = Switchboard::new(1)?;
 /// let mut seat = board.seat()?;
 /// let mailbox = seat.mailbox::<String>()?;
-/// let refused = seat.send(mailbox, "hello".to_string()).unwrap_err();
+/// let refused = seat.send(mailbox, "hello").unwrap_err();
 /// assert_eq!(refused.error, Error::JournalFull);
 /// assert!(refused.error.is_retryable());
 /// board.cut()?;
@@ -182,7 +182,7 @@ impl std::error::Error for Error {}
 /// # fn main() -> Result<(), Error> {
 /// let (board, other) = (Switchboard::new(1_000)?, Switchboard::new(1_000)?);
 /// let mailbox = other.seat()?.mailbox::<String>()?;
-/// let refused: SendError<String> = board.seat()?.send(mailbox, "hello".to_string()).unwrap_err();
+/// let refused: SendError<&str> = board.seat()?.send(mailbox, "hello").unwrap_err();
 /// assert_eq!(refused.error, Error::NoSuch);
 /// let why = "this switchboard has nothing of this name or number";
 /// assert_eq!(refused.to_string(), format!("the message wasn't sent: {why}"));
@@ -197,14 +197,14 @@ impl std::error::Error for Error {}
 /// ```
 /// use seryugo::{Error, Switchboard};
 ///
-/// fn send(text: &String) -> Result<(), Box<dyn std::error::Error>> {
+/// fn send(text: &str) -> Result<(), Box<dyn std::error::Error>> {
 ///     let board = Switchboard::new(1_000)?;
 ///     let mut seat = board.seat()?;
 ///     let mailbox = seat.mailbox::<String>()?;
 ///     seat.send(mailbox, text).map_err(Error::from)?;
 ///     Ok(())
 /// }
-/// assert!(send(&"hello".to_string()).is_ok());
+/// assert!(send("hello").is_ok());
 /// ```
 #[derive(Clone, PartialEq, Eq, Hash)]
 pub struct SendError<M> {
@@ -221,7 +221,7 @@ impl<M> SendError<M> {
     /// # let board = seryugo::Switchboard::new(1)?;
     /// # let mut seat = board.seat()?;
     /// let mailbox = seat.mailbox::<String>()?;
-    /// let refused = seat.send(mailbox, "hello".to_string()).unwrap_err();
+    /// let refused = seat.send(mailbox, "hello").unwrap_err();
     /// assert_eq!(refused.into_message(), "hello");
     /// # Ok::<(), seryugo::Error>(())
     /// ```

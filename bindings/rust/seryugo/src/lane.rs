@@ -5,8 +5,8 @@ use crate::names::Named;
 use crate::owned::Holds;
 use crate::raw::{self, done, Handle};
 use crate::room::{Carries, Room};
+use crate::sent_as::SentAs;
 use crate::switchboard::Switchboard;
-use std::borrow::Borrow;
 use std::fmt;
 use std::marker::PhantomData;
 
@@ -25,8 +25,8 @@ use std::marker::PhantomData;
 /// let mut seat = board.seat()?;
 /// let mailbox = seat.mailbox::<String>()?;
 /// let mut lane = board.lane(mailbox, 1)?;
-/// lane.send("one".to_string())?;
-/// let refused = lane.send("two".to_string()).unwrap_err();
+/// lane.send("one")?;
+/// let refused = lane.send("two").unwrap_err();
 /// assert_eq!(refused.error, Error::Full);
 /// assert_eq!(lane.drain()?, 1);
 /// lane.send(refused.message)?;
@@ -105,12 +105,11 @@ impl<'a, R: Room, T, H: Holds<R>> Lane<'a, R, T, H> {
     /// [`SendError`] hands the message back. `Full`: the lane has no free slot until it is drained.
     /// `NoMemory` and `OutOfBounds`: as of [`Seat::send`](crate::Seat::send).
     #[inline]
-    pub fn send<M: Borrow<T>>(&mut self, message: M) -> Result<(), SendError<M>>
+    pub fn send<M: SentAs<T>>(&mut self, message: M) -> Result<(), SendError<M>>
     where
         R: Carries<T>,
     {
-        let sent =
-            done(R::with_sent(message.borrow(), |sent| R::lane_send(&mut self.handle, sent)));
+        let sent = done(R::with_sent(&message, |sent| R::lane_send(&mut self.handle, sent)));
         self.sent += u64::from(sent.is_ok());
         handing_back(sent, message)
     }

@@ -13,7 +13,7 @@
 //! let board = Arc::new(Switchboard::new(1_000)?);
 //! let (mut ann, mut ben) = (board.seat_owned()?, board.seat_owned()?);
 //! let letters = ben.mailbox::<String>()?;
-//! let sender = thread::spawn(move || ann.send(letters, "Dear Ben".to_string()));
+//! let sender = thread::spawn(move || ann.send(letters, "Dear Ben"));
 //! assert_eq!(ben.recv(letters)?, "Dear Ben");
 //! sender.join().unwrap()?;
 //! # Ok(())
@@ -38,8 +38,8 @@
 //!
 //! # Seats
 //!
-//! A seat as above has a share of the switchboard. Store it, or move it into a thread or a task. A seat
-//! that [`Switchboard::seat`] makes borrows the switchboard, as scoped threads do:
+//! A seat as above has a share of the switchboard. Store it, or move it into a thread or a task. A
+//! seat that [`Switchboard::seat`] makes borrows the switchboard, as scoped threads do:
 //!
 //! ```
 //! use seryugo::{Error, Switchboard};
@@ -49,7 +49,7 @@
 //! let (mut ann, mut ben) = (board.seat()?, board.seat()?);
 //! let letters = ben.mailbox::<String>()?;
 //! std::thread::scope(|scope| {
-//!     scope.spawn(move || ann.send(letters, "Dear Ben".to_string()));
+//!     scope.spawn(move || ann.send(letters, "Dear Ben"));
 //!     assert_eq!(ben.recv(letters)?, "Dear Ben");
 //!     Ok(())
 //! })
@@ -63,8 +63,8 @@
 //! | a switchboard of [`Bytes`] | each type that implements [`Message`], several types on one switchboard | [`Switchboard::new`] |
 //! | a switchboard of [`Numbers`] | `u64`; its calls are the fastest | [`Switchboard::of_numbers`] |
 //!
-//! - A call that sends takes the message or a reference to it. If it fails, [`SendError`] hands the
-//!   message back.
+//! - A call that sends takes the message, a reference to it, or a text for a `String` ([`SentAs`]).
+//!   If it fails, [`SendError`] hands the message back.
 //! - A message that was received and can't be read as the object's type is [`Error::Unreadable`],
 //!   which has its bytes.
 //! - A name such as [`Mailbox`] is `Copy`, and belongs to the switchboard that made it. On another
@@ -139,6 +139,7 @@ mod iter;
 mod journal;
 mod kept;
 mod lane;
+mod lists;
 mod locked;
 mod making;
 mod message;
@@ -155,6 +156,7 @@ mod room;
 #[cfg(feature = "scripts")]
 mod script;
 mod seat;
+mod sent_as;
 mod sum;
 mod switchboard;
 mod version;
@@ -180,6 +182,7 @@ pub use room::{Bytes, Carries, Numbers, Room};
 #[cfg(feature = "scripts")]
 pub use script::{replay, BadLimit, End, Replayed, MOST_ENTRIES};
 pub use seat::Seat;
+pub use sent_as::SentAs;
 pub use sum::{BadSum, Sum};
 pub use switchboard::Switchboard;
 pub use version::Version;

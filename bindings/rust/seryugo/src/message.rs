@@ -1,5 +1,8 @@
 //! What is sent on a switchboard of bytes.
 
+use std::slice;
+use std::sync::Arc;
+
 /// A value that is sent as bytes, and read back from them.
 ///
 /// It is implemented for the numbers, `bool`, `char`, `()`, strings, lists and arrays of bytes,
@@ -54,8 +57,10 @@
 /// | `bool` | one: 0 or 1 |
 /// | `char` | four: its number, the lowest byte first |
 /// | `()` | none |
-/// | `String`, `Box<str>` | its UTF-8 |
+/// | `String`, `Box<str>`, `Arc<str>` | its UTF-8 |
 /// | `Vec<u8>`, `Box<[u8]>`, `[u8; N]` | its bytes |
+/// | `Vec<T>`, `Box<[T]>` | the messages. Before each comes its length, as in a tuple |
+/// | `BTreeMap<K, V>`, `HashMap<K, V>` | those of a list of tuples `(K, V)`, in the map's order |
 /// | `Option<T>` | none, or 1 and then the message |
 /// | tuples | the messages. Before each but the last comes its length: seven bits a byte, the lowest first, and 128 more in each byte but the last |
 #[diagnostic::on_unimplemented(
@@ -103,6 +108,48 @@ pub trait Message: Sized {
     /// assert_eq!(String::from_bytes(&[255]), None);
     /// ```
     fn from_bytes(bytes: &[u8]) -> Option<Self>;
+
+    /// The bytes of a list, if these values are bytes.
+    #[doc(hidden)]
+    #[inline]
+    fn bytes_of(_list: &[Self]) -> Option<&[u8]> {
+        None
+    }
+
+    /// The list of these bytes, if these values are bytes.
+    #[doc(hidden)]
+    #[inline]
+    #[must_use]
+    fn list_of(_bytes: &[u8]) -> Option<Vec<Self>> {
+        None
+    }
+}
+
+impl Message for u8 {
+    #[inline]
+    fn write_to(&self, bytes: &mut Vec<u8>) {
+        bytes.push(*self);
+    }
+
+    #[inline]
+    fn with_bytes<O>(&self, use_bytes: impl FnOnce(&[u8]) -> O) -> O {
+        use_bytes(slice::from_ref(self))
+    }
+
+    #[inline]
+    fn from_bytes(bytes: &[u8]) -> Option<u8> {
+        <[u8; 1]>::try_from(bytes).ok().map(|[byte]| byte)
+    }
+
+    #[inline]
+    fn bytes_of(list: &[u8]) -> Option<&[u8]> {
+        Some(list)
+    }
+
+    #[inline]
+    fn list_of(bytes: &[u8]) -> Option<Vec<u8>> {
+        Some(bytes.to_vec())
+    }
 }
 
 /// Numbers, the lowest byte first.
@@ -127,7 +174,7 @@ macro_rules! numbers {
     )*};
 }
 
-numbers!(u8 u16 u32 u64 u128 i8 i16 i32 i64 i128 f32 f64);
+numbers!(u16 u32 u64 u128 i8 i16 i32 i64 i128 f32 f64);
 
 /// Types that are sent as another type.
 macro_rules! as_others {
@@ -193,8 +240,7 @@ pieces! {
     [] (), |()| &[], |bytes| bytes.is_empty().then_some(());
     [] String, |text| text.as_bytes(), |bytes| std::str::from_utf8(bytes).ok().map(String::from);
     [] Box<str>, |text| text.as_bytes(), |bytes| std::str::from_utf8(bytes).ok().map(Box::from);
-    [] Vec<u8>, |bytes| bytes, |bytes| Some(bytes.to_vec());
-    [] Box<[u8]>, |bytes| bytes, |bytes| Some(Box::from(bytes));
+    [] Arc<str>, |text| text.as_bytes(), |bytes| std::str::from_utf8(bytes).ok().map(Arc::from);
     [<const N: usize>] [u8; N], |bytes| bytes, |bytes| bytes.try_into().ok();
 }
 
@@ -216,14 +262,14 @@ impl<T: Message> Message for Option<T> {
 }
 
 /// Writes a message with its length before it.
-fn write_part(message: &impl Message, bytes: &mut Vec<u8>) {
+pub(crate) fn write_part(message: &impl Message, bytes: &mut Vec<u8>) {
     message.with_bytes(|part| {
         write_length(part.len(), bytes);
         bytes.extend_from_slice(part);
     });
 }
 
-fn write_length(mut length: usize, bytes: &mut Vec<u8>) {
+pub(crate) fn write_length(mut length: usize, bytes: &mut Vec<u8>) {
     while length >= 0x80 {
         bytes.push(length as u8 | 0x80);
         length >>= 7;
@@ -232,7 +278,7 @@ fn write_length(mut length: usize, bytes: &mut Vec<u8>) {
 }
 
 /// Reads a message that has its length before it. The bytes behind it are left.
-fn read_part<T: Message>(bytes: &mut &[u8]) -> Option<T> {
+pub(crate) fn read_part<T: Message>(bytes: &mut &[u8]) -> Option<T> {
     let length = read_length(bytes)?;
     let (part, rest) = bytes.split_at_checked(length)?;
     *bytes = rest;

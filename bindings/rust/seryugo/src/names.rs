@@ -86,8 +86,8 @@ names! {
     /// # let board = seryugo::Switchboard::new(1_000)?;
     /// # let mut seat = board.seat()?;
     /// let mailbox = seat.mailbox::<String>()?;
-    /// seat.send(mailbox, "one".to_string())?;
-    /// seat.send(mailbox, "two".to_string())?;
+    /// seat.send(mailbox, "one")?;
+    /// seat.send(mailbox, "two")?;
     /// assert_eq!(seat.recv(mailbox)?, "one");
     /// # Ok::<(), seryugo::Error>(())
     /// ```
@@ -98,7 +98,7 @@ names! {
     /// # let board = seryugo::Switchboard::new(1_000)?;
     /// # let mut seat = board.seat()?;
     /// let mailbox = seat.mailbox::<u64>()?;
-    /// seat.send(mailbox, "one".to_string())?;
+    /// seat.send(mailbox, "one")?;
     /// # Ok::<(), seryugo::Error>(())
     /// ```
     Mailbox 0

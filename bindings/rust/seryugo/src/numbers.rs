@@ -3,8 +3,10 @@
 use crate::calls::{Calls, Give, Read};
 use crate::entry::{Call, Entry, Reply, Who};
 use crate::error::Error;
+use crate::message::Message;
 use crate::raw::{done, Handle, Opening};
 use crate::room::{Carries, Numbers, Room, Seal};
+use crate::sent_as::{Form, SentAs};
 
 impl Room for Numbers {
     type Message = u64;
@@ -14,12 +16,17 @@ impl Carries<u64> for Numbers {
     const SEAL: Seal = Seal;
 
     #[inline]
-    fn with_sent<O>(message: &u64, call: impl FnOnce(u64) -> O) -> O {
-        call(*message)
+    fn with_sent<M: SentAs<u64>, O>(message: &M, call: impl FnOnce(u64) -> O) -> O {
+        call(Self::kept(message))
     }
 
-    fn kept(message: &u64) -> u64 {
-        *message
+    #[inline]
+    fn kept<M: SentAs<u64>>(message: &M) -> u64 {
+        match message.form() {
+            Form::Message(number) => *number,
+            // No bytes are sent as a number, so that this is never reached.
+            Form::Bytes(bytes) => u64::from_bytes(bytes).unwrap_or_default(),
+        }
     }
 
     #[inline]

@@ -22,7 +22,7 @@ use std::sync::Arc;
 ///     seat: &mut Seat<'_, Bytes, impl Holds<Bytes>>,
 ///     mailbox: Mailbox<String>,
 /// ) -> Result<(), Error> {
-///     Ok(seat.send(mailbox, "hello".to_string())?)
+///     Ok(seat.send(mailbox, "hello")?)
 /// }
 /// # fn main() -> Result<(), Error> {
 /// let board = Arc::new(Switchboard::new(1_000)?);
@@ -84,7 +84,7 @@ impl<R: Room> Switchboard<R> {
     /// # fn main() -> Result<(), Error> {
     /// let mut worker = Worker::new(Arc::new(Switchboard::new(1_000)?))?;
     /// let (mut seat, jobs) = (worker.board.seat_owned()?, worker.jobs);
-    /// let sender = thread::spawn(move || seat.send(jobs, "dig".to_string()));
+    /// let sender = thread::spawn(move || seat.send(jobs, "dig"));
     /// assert_eq!(worker.seat.recv(jobs)?, "dig");
     /// assert!(sender.join().unwrap().is_ok());
     /// # Ok(())

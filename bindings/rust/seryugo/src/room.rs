@@ -2,6 +2,7 @@
 
 use crate::calls::Calls;
 use crate::error::Error;
+use crate::sent_as::SentAs;
 use std::fmt::Debug;
 use std::hash::Hash;
 
@@ -14,7 +15,7 @@ use std::hash::Hash;
 /// let board: Switchboard<Bytes> = Switchboard::new(1_000)?;
 /// let mut seat = board.seat()?;
 /// let (names, ages) = (seat.mailbox::<String>()?, seat.mailbox::<u8>()?);
-/// seat.send(names, "Ann".to_string())?;
+/// seat.send(names, "Ann")?;
 /// seat.send(ages, 41)?;
 /// assert_eq!((seat.recv(names)?, seat.recv(ages)?), ("Ann".to_string(), 41));
 /// # Ok::<(), seryugo::Error>(())
@@ -95,11 +96,11 @@ pub trait Carries<T>: Room {
 
     /// Makes a call with what is sent.
     #[doc(hidden)]
-    fn with_sent<O>(message: &T, call: impl FnOnce(Self::Sent<'_>) -> O) -> O;
+    fn with_sent<M: SentAs<T>, O>(message: &M, call: impl FnOnce(Self::Sent<'_>) -> O) -> O;
 
     /// What is sent, kept for a call that is made again later.
     #[doc(hidden)]
-    fn kept(message: &T) -> Self::Kept;
+    fn kept<M: SentAs<T>>(message: &M) -> Self::Kept;
 
     /// The message that was received.
     #[doc(hidden)]

@@ -7,8 +7,8 @@ use crate::owned::Holds;
 use crate::parkers::ParkerAt;
 use crate::raw::{self, code, done, done_or, Handle};
 use crate::room::{Bytes, Carries, Room};
+use crate::sent_as::SentAs;
 use crate::switchboard::Switchboard;
-use std::borrow::Borrow;
 use std::fmt;
 use std::marker::PhantomData;
 
@@ -104,13 +104,15 @@ impl<R: Room, H: Holds<R>> Seat<'_, R, H> {
         self.number
     }
 
-    /// Sends a message to a mailbox: the message, or a reference to it. It never blocks.
+    /// Sends a message to a mailbox: the message, a reference to it, or what else may be
+    /// [sent as](SentAs) such a message. It never blocks.
     ///
     /// ```
     /// # let board = seryugo::Switchboard::new(1_000)?;
     /// # let mut seat = board.seat()?;
     /// let mailbox = seat.mailbox::<String>()?;
-    /// let letter = "Dear Ben".to_string();
+    /// seat.send(mailbox, "Dear Ben")?;
+    /// let letter = format!("Dear {}", "Ann");
     /// seat.send(mailbox, &letter)?;
     /// seat.send(mailbox, letter)?;
     /// assert_eq!(seat.recv(mailbox)?, "Dear Ben");
@@ -122,7 +124,7 @@ impl<R: Room, H: Holds<R>> Seat<'_, R, H> {
     /// [The usual ones](crate::Seat#how-a-call-fails). [`SendError`] hands the message back.
     /// `OutOfBounds`: the message has more than 2^32 - 1 bytes.
     #[inline]
-    pub fn send<T, M: Borrow<T>>(
+    pub fn send<T, M: SentAs<T>>(
         &mut self,
         mailbox: Mailbox<T>,
         message: M,
@@ -131,7 +133,7 @@ impl<R: Room, H: Holds<R>> Seat<'_, R, H> {
         R: Carries<T>,
     {
         let sent = self.here(mailbox).and_then(|mailbox| {
-            done(R::with_sent(message.borrow(), |sent| {
+            done(R::with_sent(&message, |sent| {
                 self.call(|room, seat| R::give(Give::Send, room, seat, mailbox, sent))
             }))
         });
@@ -155,7 +157,7 @@ impl<R: Room, H: Holds<R>> Seat<'_, R, H> {
     ///
     /// [The usual ones](crate::Seat#how-a-call-fails). As [`send`](Seat::send).
     #[inline]
-    pub fn multicast<T, M: Borrow<T>>(
+    pub fn multicast<T, M: SentAs<T>>(
         &mut self,
         channel: Channel<T>,
         message: M,
@@ -164,7 +166,7 @@ impl<R: Room, H: Holds<R>> Seat<'_, R, H> {
         R: Carries<T>,
     {
         let sent = self.here(channel).and_then(|channel| {
-            done(R::with_sent(message.borrow(), |sent| {
+            done(R::with_sent(&message, |sent| {
                 self.call(|room, seat| R::give(Give::Multicast, room, seat, channel, sent))
             }))
         });
@@ -216,7 +218,7 @@ impl<R: Room, H: Holds<R>> Seat<'_, R, H> {
     ///
     /// [The usual ones](crate::Seat#how-a-call-fails). As [`send`](Seat::send).
     #[inline]
-    pub fn put<V: Variable, M: Borrow<V::Message>>(
+    pub fn put<V: Variable, M: SentAs<V::Message>>(
         &mut self,
         variable: V,
         message: M,
@@ -225,7 +227,7 @@ impl<R: Room, H: Holds<R>> Seat<'_, R, H> {
         R: Carries<V::Message>,
     {
         let put = self.here(variable).and_then(|variable| {
-            let code = R::with_sent(message.borrow(), |sent| {
+            let code = R::with_sent(&message, |sent| {
                 self.call(|room, seat| R::give(Give::Put, room, seat, variable, sent))
             });
             done_or(code, code::PUT)

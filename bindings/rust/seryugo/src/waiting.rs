@@ -6,8 +6,8 @@ use crate::names::{MVar, Source, Variable};
 use crate::owned::Holds;
 use crate::room::{Carries, Room};
 use crate::seat::Seat;
+use crate::sent_as::SentAs;
 use crate::want::{held, received, Want};
-use std::borrow::Borrow;
 use std::time::{Duration, Instant};
 
 /// # Calls that wait
@@ -27,7 +27,7 @@ impl<R: Room, H: Holds<R>> Seat<'_, R, H> {
     /// # let board = seryugo::Switchboard::new(1_000)?;
     /// let mut seat = board.seat()?;
     /// let mailbox = seat.mailbox::<String>()?;
-    /// seat.send(mailbox, "hello".to_string())?;
+    /// seat.send(mailbox, "hello")?;
     /// assert_eq!(seat.recv(mailbox)?, "hello");
     /// let channel = seat.channel::<u64>()?;
     /// let port = seat.port(channel)?;
@@ -348,7 +348,7 @@ impl<R: Room, H: Holds<R>> Seat<'_, R, H> {
     /// [`SendError`] hands the message back. `Unreadable`: the message was stored nevertheless, and
     /// the error has the bytes of the one before.
     #[inline]
-    pub fn swap<T, M: Borrow<T>>(
+    pub fn swap<T, M: SentAs<T>>(
         &mut self,
         variable: MVar<T>,
         message: M,
@@ -357,9 +357,7 @@ impl<R: Room, H: Holds<R>> Seat<'_, R, H> {
         R: Carries<T>,
     {
         let held = self.here(variable).and_then(|variable| {
-            held::<R, _>(R::with_sent(message.borrow(), |sent| {
-                self.wait(Want::Swap(variable, sent))
-            }))
+            held::<R, _>(R::with_sent(&message, |sent| self.wait(Want::Swap(variable, sent))))
         });
         handing_back(held, message)
     }
@@ -381,7 +379,7 @@ impl<R: Room, H: Holds<R>> Seat<'_, R, H> {
     /// # Errors
     ///
     /// As [`swap`](Seat::swap). `TimedOut`: the time has passed.
-    pub fn swap_timeout<T, M: Borrow<T>>(
+    pub fn swap_timeout<T, M: SentAs<T>>(
         &mut self,
         variable: MVar<T>,
         message: M,
@@ -391,7 +389,7 @@ impl<R: Room, H: Holds<R>> Seat<'_, R, H> {
         R: Carries<T>,
     {
         let held = self.here(variable).and_then(|variable| {
-            held::<R, _>(R::with_sent(message.borrow(), |sent| {
+            held::<R, _>(R::with_sent(&message, |sent| {
                 self.wait_for(Want::Swap(variable, sent), timeout)
             }))
         });
@@ -413,7 +411,7 @@ impl<R: Room, H: Holds<R>> Seat<'_, R, H> {
     /// # Errors
     ///
     /// As [`swap_timeout`](Seat::swap_timeout).
-    pub fn swap_deadline<T, M: Borrow<T>>(
+    pub fn swap_deadline<T, M: SentAs<T>>(
         &mut self,
         variable: MVar<T>,
         message: M,
@@ -423,7 +421,7 @@ impl<R: Room, H: Holds<R>> Seat<'_, R, H> {
         R: Carries<T>,
     {
         let held = self.here(variable).and_then(|variable| {
-            held::<R, _>(R::with_sent(message.borrow(), |sent| {
+            held::<R, _>(R::with_sent(&message, |sent| {
                 self.wait_until(Want::Swap(variable, sent), deadline)
             }))
         });
@@ -445,7 +443,7 @@ impl<R: Room, H: Holds<R>> Seat<'_, R, H> {
     /// # Errors
     ///
     /// As [`swap`](Seat::swap).
-    pub async fn swap_async<T, M: Borrow<T>>(
+    pub async fn swap_async<T, M: SentAs<T>>(
         &mut self,
         variable: MVar<T>,
         message: M,
@@ -455,7 +453,7 @@ impl<R: Room, H: Holds<R>> Seat<'_, R, H> {
     {
         let held = match self.here(variable) {
             Ok(variable) => {
-                let kept = R::kept(message.borrow());
+                let kept = R::kept(&message);
                 held::<R, _>(self.waiting(Want::Swap(variable, R::sent(&kept))).await)
             }
             Err(error) => Err(error),

@@ -1,7 +1,9 @@
 //! Values of each type as bytes, and back.
 
 use seryugo::{Message, Switchboard};
+use std::collections::{BTreeMap, HashMap};
 use std::fmt::Debug;
+use std::sync::Arc;
 
 fn bytes_of(message: &impl Message) -> Vec<u8> {
     let mut bytes = b"before".to_vec();
@@ -70,8 +72,9 @@ fn texts_and_bytes_are_themselves() {
     is("fünf".to_string(), "fünf".as_bytes());
     is(Box::<str>::from("five"), b"five");
     is(Vec::<u8>::new(), &[]);
-    is(vec![0, 255, 10], &[0, 255, 10]);
+    is(vec![0_u8, 255, 10], &[0, 255, 10]);
     is(Box::<[u8]>::from([1, 2]), &[1, 2]);
+    is(Arc::<str>::from("five"), b"five");
     is([7; 3], &[7, 7, 7]);
     is([0_u8; 0], &[]);
     // Around the length up to which the library allocates no memory.
@@ -100,8 +103,34 @@ fn parts_have_their_lengths() {
     is(Some((vec![1_u8], vec![2_u8])), &[1, 1, 1, 2]);
     let long = "y".repeat(300);
     is((long.clone(), 4_u8), &[&[0b1010_1100, 2], long.as_bytes(), &[4]].concat());
-    is((vec![3; 127], 4_u8), &[&[127][..], &[3; 127], &[4]].concat());
-    is((vec![3; 128], 4_u8), &[&[128, 1][..], &[3; 128], &[4]].concat());
+    is((vec![3_u8; 127], 4_u8), &[&[127][..], &[3; 127], &[4]].concat());
+    is((vec![3_u8; 128], 4_u8), &[&[128, 1][..], &[3; 128], &[4]].concat());
+}
+
+#[test]
+fn lists_have_the_lengths_of_their_parts() {
+    is(Vec::<u16>::new(), &[]);
+    is(vec![1_u16, 2], &[2, 1, 0, 2, 2, 0]);
+    is(vec![(), ()], &[0, 0]);
+    is(vec!["ab".to_string(), String::new()], &[2, b'a', b'b', 0]);
+    is(vec![vec![1_u8, 2], vec![]], &[2, 1, 2, 0]);
+    is(vec![vec![1_i8], vec![-1, 0]], &[2, 1, 1, 4, 1, 255, 1, 0]);
+    is(Box::<[bool]>::from([true, false]), &[1, 1, 1, 0]);
+    is((vec![true], Some(vec!["a".to_string()])), &[2, 1, 1, 1, 1, b'a']);
+}
+
+#[test]
+fn maps_are_lists_of_pairs() {
+    is(BTreeMap::<u8, u8>::new(), &[]);
+    is(BTreeMap::from([(2_u8, "b".to_string()), (1, String::new())]), &[2, 1, 1, 3, 1, 2, b'b']);
+    is(HashMap::from([("key".to_string(), 5_u16)]), &[6, 3, b'k', b'e', b'y', 5, 0]);
+    let squares: HashMap<u32, u64> =
+        (0..100).map(|number| (number, u64::from(number).pow(2))).collect();
+    let bytes = bytes_of(&squares);
+    is(squares, &bytes);
+    let pairs = vec![(1_u8, vec![7_u32]), (2, vec![])];
+    let map: BTreeMap<u8, Vec<u32>> = pairs.iter().cloned().collect();
+    is(map, &bytes_of(&pairs));
 }
 
 #[test]
@@ -144,6 +173,14 @@ fn what_is_no_such_value_is_not_read() {
     refuses::<(u8, u8)>(&[1, 5, 6, 7]);
     refuses::<(Vec<u8>, ())>(&[3, 5, 6]);
     refuses::<(Vec<u8>, ())>(&[0, 1]);
+    refuses::<Vec<u16>>(&[1, 0]);
+    refuses::<Vec<u16>>(&[2, 0, 0, 2, 0]);
+    refuses::<Vec<bool>>(&[1, 2]);
+    refuses::<Box<[char]>>(&[4, 0, 216, 0, 0]);
+    refuses::<Arc<str>>(&[0x80]);
+    // Two pairs of a map have the same key.
+    refuses::<BTreeMap<u8, u8>>(&[3, 1, 1, 5, 3, 1, 1, 6]);
+    refuses::<HashMap<u8, u8>>(&[3, 1, 1, 5, 3, 1, 1, 5]);
     // A length that no list has, and one that has no end.
     refuses::<(Vec<u8>, ())>(&[255, 255, 255, 255, 255, 255, 255, 255, 255, 1, 0]);
     refuses::<(Vec<u8>, ())>(&[255, 255, 255, 255, 255, 255, 255, 255, 255, 3, 0]);
@@ -170,6 +207,9 @@ fn any_bytes_are_read_or_refused() {
         reads::<bool>(bytes);
         reads::<char>(bytes);
         reads::<(String, Option<Vec<u8>>)>(bytes);
+        reads::<Vec<Vec<bool>>>(bytes);
+        reads::<BTreeMap<u8, Vec<String>>>(bytes);
+        reads::<HashMap<Vec<()>, Option<u8>>>(bytes);
         reads::<Option<(u8, (), Option<bool>)>>(bytes);
         reads::<((u8, u8), [u8; 2], Box<str>, Option<()>)>(bytes);
     }
