@@ -66,9 +66,9 @@ impl<R: Room, H: Holds<R>> fmt::Debug for Guest<'_, R, H> {
 /// A call that waits fails with [`Error::Stalled`] if nobody is left who could answer it. These say
 /// that somebody will come.
 impl<R: Room> Switchboard<R> {
-    /// Returns a [`Guest`]. While one is there, no call fails with [`Error::Stalled`], and each call
-    /// with a time limit waits for its time. If the last one is dropped while all seats wait, one of
-    /// their calls fails with `Stalled`, and the next once that seat has left.
+    /// Returns a [`Guest`]. While one is there, no call fails with [`Error::Stalled`], and each
+    /// call with a time limit waits for its time. If the last one is dropped while all seats wait,
+    /// one of their calls fails with `Stalled`, and the next once that seat has left.
     ///
     /// A guest has no entry in the journal. One that comes while nobody is awaited takes as much
     /// memory as a seat, until the switchboard goes.
@@ -130,8 +130,8 @@ impl<R: Room> Switchboard<R> {
     }
 
     /// From now on so many seats are still to be made. Each [`seat`](Switchboard::seat) and
-    /// [`seat_owned`](Switchboard::seat_owned) uses one up. Until all are made, no call fails with
-    /// [`Error::Stalled`], as while a [`Guest`] is there.
+    /// [`seat_owned`](Switchboard::seat_owned) uses one up, and so does each new half of a mailbox.
+    /// Until all are made, no call fails with [`Error::Stalled`], as while a [`Guest`] is there.
     ///
     /// It puts this number in place of the one before. If fewer seats come, say `expect(0)`.
     ///

@@ -56,6 +56,9 @@
 //! # }
 //! ```
 //!
+//! [`Switchboard::unbounded`] returns the two halves of a mailbox as other crates do: a [`Sender`]
+//! and a [`Receiver`], each with a seat.
+//!
 //! # What is sent
 //!
 //! | | messages | made by |
@@ -79,6 +82,7 @@
 //! | here | crossbeam-channel | Concurrent ML |
 //! |---|---|---|
 //! | [`seat.mailbox::<T>()`](Seat::mailbox) | `unbounded::<T>()` | `Mailbox.mailbox` |
+//! | [`board.unbounded::<T>()`](Switchboard::unbounded) | `unbounded::<T>()` | - |
 //! | [`seat.send(mailbox, message)`](Seat::send) | `sender.send(message)` | `Mailbox.send` |
 //! | [`seat.recv(mailbox)`](Seat::recv) | `receiver.recv()` | `Mailbox.recv` |
 //! | [`seat.recv_poll(mailbox)`](Seat::recv_poll) | `receiver.try_recv()` | `Mailbox.recvPoll` |
@@ -103,13 +107,13 @@
 //! | [`seat.take(mvar)`](Seat::take), [`seat.take_poll(mvar)`](Seat::take_poll) | - | `SyncVar.mTake`, `mTakePoll` |
 //! | [`seat.get(mvar)`](Seat::get), [`seat.get_poll(mvar)`](Seat::get_poll) | - | `SyncVar.mGet`, `mGetPoll` |
 //! | [`seat.swap(mvar, message)`](Seat::swap) | - | `SyncVar.mSwap` |
-//! | [`board.seat_owned()`](Switchboard::seat_owned) | `sender.clone()`, `receiver.clone()` | - |
+//! | [`board.seat_owned()`](Switchboard::seat_owned); a half is cloned | `sender.clone()`, `receiver.clone()` | - |
 //! | `==` on names | `same_channel` | `sameMailbox`, `sameIVar`, `sameMVar` |
 //! | [`board.take_journal()`](Switchboard::take_journal), [`Switchboard::restore`] | - | - |
 //! | - | `select!` | `choose`, `wrap`, `guard` and the other events |
 //!
-//! Nothing is cloned here: give each thread a seat. A mailbox has no end. To end those that
-//! receive, send a last message, or let them receive from a port and close it.
+//! A name is `Copy`: give each thread a seat, or a clone of a half. A mailbox has no end. To end
+//! those that receive, send a last message, or let them receive from a port and close it.
 //!
 //! # What else there is
 //!
@@ -134,6 +138,7 @@ mod entry;
 mod error;
 mod feed;
 mod guest;
+mod halves;
 mod inside;
 mod iter;
 mod journal;
@@ -170,6 +175,7 @@ pub use entry::{Call, Entry, Reply, Who};
 pub use error::{Error, SendError};
 pub use feed::Feed;
 pub use guest::{Guest, OwnedGuest};
+pub use halves::{Messages, Receiver, Sender};
 pub use iter::{Iter, TryIter};
 pub use journal::{Entries, Journal};
 pub use kept::Kept;
