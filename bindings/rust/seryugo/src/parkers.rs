@@ -69,7 +69,7 @@ impl Deref for ParkerAt {
 
     #[inline]
     fn deref(&self) -> &Parker {
-        // SAFETY: whoever made it keeps the parker.
+        // SAFETY: who made it keeps the parker there.
         unsafe { self.0.as_ref() }
     }
 }

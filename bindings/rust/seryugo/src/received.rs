@@ -167,7 +167,7 @@ impl RawEntry {
             owner,
         } = raw;
         let owner = owner.opened()?;
-        // SAFETY: the owner is dropped behind the last copy.
+        // SAFETY: the owner is dropped after the last copy.
         let copied = |place: RawPlace| unsafe { place.copied() };
         let entry = Entry {
             who: Who::of(maker.kind, maker.number)?,

@@ -159,7 +159,7 @@ fn the_last_seat_waits_while_all_others_go() {
     });
 }
 
-/// A sink that counts the entries that it was handed. It takes them if it is told to.
+/// A sink that counts the entries that it was handed, and takes them or refuses them.
 fn sink(takes: bool) -> (Arc<Mutex<usize>>, WhenFull) {
     let handed = Arc::new(Mutex::new(0));
     let counted = handed.clone();
