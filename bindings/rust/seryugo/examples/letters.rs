@@ -1,14 +1,14 @@
 //! One thread sends a letter, and another receives it.
 
 use seryugo::{Switchboard, WhenFull};
+use std::sync::Arc;
+use std::thread;
 
 fn main() -> Result<(), seryugo::Error> {
-    let board = Switchboard::new(1_000)?.when_full(WhenFull::Drop);
-    let (mut ann, mut ben) = (board.seat()?, board.seat()?);
+    let board = Arc::new(Switchboard::new(1_000)?.when_full(WhenFull::Drop));
+    let (mut ann, mut ben) = (board.seat_owned()?, board.seat_owned()?);
     let letters = ben.mailbox::<u64>()?;
-    std::thread::scope(|scope| {
-        scope.spawn(move || ann.send(letters, 5));
-        println!("Ben received {:?}", ben.recv(letters)?);
-        Ok(())
-    })
+    thread::spawn(move || ann.send(letters, 5));
+    println!("Ben received {:?}", ben.recv(letters)?);
+    Ok(())
 }
