@@ -178,3 +178,47 @@ fn blocking_threads_beside_tasks() {
         server.await.unwrap();
     });
 }
+
+#[test]
+fn halves_of_a_mailbox() {
+    const COUNT: u64 = 100;
+    on_each_runtime(|| async {
+        let (sender, mut receiver) = board().unbounded::<u64>().unwrap();
+        for _ in 0..10 {
+            let sender = sender.clone();
+            tokio::spawn(async move {
+                for number in 0..COUNT {
+                    sender.send(number).unwrap();
+                    yield_now().await;
+                }
+            });
+        }
+        drop(sender);
+        let mut sum = 0;
+        while let Ok(number) = receiver.recv_async().await {
+            sum += number;
+        }
+        assert_eq!(sum, 10 * COUNT * (COUNT - 1) / 2);
+    });
+}
+
+#[test]
+fn a_guest_of_tasks_that_come_late() {
+    on_each_runtime(|| async {
+        let board = board();
+        let mut seat = board.seat_owned().unwrap();
+        let mailbox = seat.mailbox::<String>().unwrap();
+        let guest = board.hold_owned().unwrap();
+        let coming = tokio::spawn(async move {
+            for _ in 0..10 {
+                yield_now().await;
+            }
+            let mut seat = board.seat_owned().unwrap();
+            drop(guest);
+            seat.send(mailbox, "late").unwrap();
+        });
+        assert_eq!(seat.recv_async(mailbox).await.unwrap(), "late");
+        coming.await.unwrap();
+        assert_eq!(seat.recv_async(mailbox).await, Err(Error::Stalled));
+    });
+}
