@@ -160,6 +160,7 @@ fn each_code_at_each_call() {
         assert!(Switchboard::<seryugo::Bytes>::restore(&b"journal 2\nend 0\n"[..], 9).is_err());
         assert_eq!((bytes.entries(), bytes.cut_at(), bytes.lost()), (0, 0, 0));
         checks(code);
+        guests(code);
     }
 }
 
@@ -244,4 +245,24 @@ fn stopped<T>(told: Result<T, CheckError>, code: u32) {
         11 => assert!(matches!(error, CheckError::NoMemory)),
         code => assert!(matches!(error, CheckError::Library(error) if error == error_of(code))),
     }
+}
+
+/// A seat that isn't made uses up no expected one.
+fn guests(code: u32) {
+    returns(0, code);
+    let board = Switchboard::of_numbers(9).unwrap();
+    returns(code, code);
+    assert_eq!(board.hold().err(), Some(error_of(code)));
+    assert_eq!(board.expect(1), Err(error_of(code)));
+    returns(0, code);
+    let guest = board.hold().unwrap();
+    board.expect(1).unwrap();
+    returns(code, code);
+    assert_eq!(board.seat().err(), Some(error_of(code)));
+    // While somebody is awaited, another guest needs nothing of the library.
+    drop(board.hold().unwrap());
+    drop(guest);
+    // Nor does the last seat that is expected.
+    assert!(board.seat().is_ok());
+    assert_eq!(board.seat().err(), Some(error_of(code)));
 }
