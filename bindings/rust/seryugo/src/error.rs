@@ -64,6 +64,8 @@ pub enum Error {
     TooLong,
     /// The call's time limit passed before there was an answer.
     TimedOut,
+    /// A server has received the question, and [declines](crate::Asker::decline) to answer it.
+    Declined,
     /// The message was received, and it can't be read as the type that its object has. These are
     /// its bytes.
     Unreadable(Vec<u8>),
@@ -115,7 +117,7 @@ impl Error {
             Error::JournalFull | Error::NotKept | Error::Busy | Error::Full => true,
             Error::NoMemory | Error::TimedOut | Error::Unseen => true,
             Error::Gone | Error::NoSuch | Error::WrongKind | Error::Stalled => false,
-            Error::OutOfBounds | Error::TooLong => false,
+            Error::OutOfBounds | Error::TooLong | Error::Declined => false,
             Error::Unreadable(_) | Error::Version { .. } | Error::Unknown(_) => false,
         }
     }
@@ -145,6 +147,7 @@ impl fmt::Display for Error {
                 "a message of the journal is so long that no reader would take its line"
             }
             Error::TimedOut => "the time limit passed before there was an answer",
+            Error::Declined => "a server has declined to answer the question",
             Error::Unreadable(bytes) => {
                 let length = bytes.len();
                 return write!(

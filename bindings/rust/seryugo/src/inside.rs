@@ -1,5 +1,6 @@
 //! What a switchboard's lock guards: the room, and what is counted beside it.
 
+use crate::asking::Answers;
 use crate::awaited::Awaited;
 use crate::error::Error;
 use crate::journal::Journal;
@@ -48,6 +49,8 @@ pub(crate) struct Inside<R: Room> {
     seats: u64,
     /// Who will come.
     pub awaited: Awaited,
+    /// Where seats that have left had their questions answered.
+    pub free_answers: Vec<Answers>,
     /// How many seats are parked.
     parked: u64,
     /// How many calls were made that may park a seat or make one due.
@@ -71,6 +74,7 @@ impl<R: Room> Inside<R> {
             first_seat: 0,
             seats: 0,
             awaited: Awaited::default(),
+            free_answers: Vec::new(),
             parked: 0,
             calls: 0,
             moved: BTreeMap::new(),

@@ -75,6 +75,38 @@
 //! - [`Error::is_retryable`] says whether the same call may succeed later.
 //! - [`Seat`] has a table of how each call waits.
 //!
+//! # Questions and answers
+//!
+//! A client asks by [`seat.request`](Seat::request), and a server answers each [`Request`] once:
+//!
+//! ```
+//! use seryugo::{Error, Request, Switchboard};
+//! use std::sync::Arc;
+//! use std::thread;
+//!
+//! # fn main() -> Result<(), Error> {
+//! let board = Arc::new(Switchboard::new(1_000)?);
+//! let (mut client, mut server) = (board.seat_owned()?, board.seat_owned()?);
+//! let lengths = server.mailbox::<Request<String, u64>>()?;
+//! let served = thread::spawn(move || {
+//!     while let Ok(Request { question, asker }) = server.recv(lengths) {
+//!         asker.answer(&mut server, question.len() as u64)?;
+//!     }
+//!     Ok::<(), Error>(())
+//! });
+//! assert_eq!(client.request(lengths, "Dear Ben")?, 8);
+//! drop(client);
+//! served.join().unwrap()
+//! # }
+//! ```
+//!
+//! - A request leaves no object: a seat has one mailbox for all its answers. An i-variable for each
+//!   answer would take memory for ever.
+//! - If the asker gives up, by [`request_timeout`](Seat::request_timeout) or as a future that is
+//!   dropped, the answer comes late. No later question takes it.
+//! - A server that has no answer calls [`decline`](Asker::decline): the asker's call fails with
+//!   [`Error::Declined`]. To drop a request tells nobody.
+//!
 //! # Beside other channels
 //!
 //! A dash says that there is no such call.
@@ -107,6 +139,7 @@
 //! | [`seat.take(mvar)`](Seat::take), [`seat.take_poll(mvar)`](Seat::take_poll) | - | `SyncVar.mTake`, `mTakePoll` |
 //! | [`seat.get(mvar)`](Seat::get), [`seat.get_poll(mvar)`](Seat::get_poll) | - | `SyncVar.mGet`, `mGetPoll` |
 //! | [`seat.swap(mvar, message)`](Seat::swap) | - | `SyncVar.mSwap` |
+//! | [`seat.request(mailbox, question)`](Seat::request) | a channel for each answer | `SyncVar.iVar` for each answer |
 //! | [`board.seat_owned()`](Switchboard::seat_owned); a half is cloned | `sender.clone()`, `receiver.clone()` | - |
 //! | `==` on names | `same_channel` | `sameMailbox`, `sameIVar`, `sameMVar` |
 //! | [`board.take_journal()`](Switchboard::take_journal), [`Switchboard::restore`] | - | - |
@@ -128,6 +161,7 @@
 
 mod apart;
 mod appending;
+mod asking;
 mod awaited;
 mod backoff;
 mod bytes;
@@ -156,6 +190,7 @@ mod parker;
 mod parkers;
 mod raw;
 mod received;
+mod request;
 mod restore;
 mod room;
 #[cfg(feature = "scripts")]
@@ -170,6 +205,7 @@ mod want;
 mod when_full;
 mod yields;
 
+pub use asking::RequestError;
 pub use checker::{CheckError, Checker};
 pub use entry::{Call, Entry, Reply, Who};
 pub use error::{Error, SendError};
@@ -183,6 +219,7 @@ pub use lane::{Lane, UnclosedLane};
 pub use message::Message;
 pub use names::{Channel, IVar, MVar, Mailbox, Object, Port, Source, Target, Variable};
 pub use owned::{Holds, OwnedFeed, OwnedLane, OwnedSeat};
+pub use request::{Asker, Request};
 pub use restore::RestoreError;
 pub use room::{Bytes, Carries, Numbers, Room};
 #[cfg(feature = "scripts")]

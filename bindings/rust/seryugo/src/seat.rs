@@ -1,5 +1,6 @@
 //! A seat, from which one thread calls.
 
+use crate::asking::Answers;
 use crate::calls::{received, Give, Read};
 use crate::error::{handing_back, Error, SendError};
 use crate::names::{Channel, MVar, Mailbox, Named, Source, Variable};
@@ -45,6 +46,7 @@ use std::marker::PhantomData;
 /// | as a future | [`recv_async`](Seat::recv_async) | [`get_async`](Seat::get_async) | [`take_async`](Seat::take_async), [`swap_async`](Seat::swap_async) |
 /// | not at all | [`recv_poll`](Seat::recv_poll), [`try_iter`](Seat::try_iter) | [`get_poll`](Seat::get_poll) | [`take_poll`](Seat::take_poll) |
 ///
+/// - [`request`](Seat::request) asks a question and waits for the answer. It has the same forms.
 /// - A call whose time passes fails with [`Error::TimedOut`], and has done nothing. Neither has a
 ///   future that is dropped.
 /// - The journal has polls that found nothing. It has no call that timed out.
@@ -70,6 +72,8 @@ pub struct Seat<'a, R: Room = Bytes, H: Holds<R> = &'a Switchboard<R>> {
     /// Whether a future waits by it, or was forgotten while it waited. Or a call that waited is
     /// made again, or a sink panicked in it.
     pub(crate) is_parked: bool,
+    /// Where its questions are answered, once it has asked one.
+    pub(crate) answers: Option<Answers>,
     kind: PhantomData<&'a R>,
 }
 
@@ -87,6 +91,7 @@ impl<R: Room, H: Holds<R>> Seat<'_, R, H> {
             number,
             parker,
             is_parked: false,
+            answers: None,
             kind: PhantomData,
         })
     }
@@ -335,8 +340,12 @@ impl<R: Room, H: Holds<R>> Seat<'_, R, H> {
 impl<R: Room, H: Holds<R>> Drop for Seat<'_, R, H> {
     fn drop(&mut self) {
         let seat = self.ready();
-        // The seat isn't parked, so that it may leave.
-        self.board.change(None, |inside| raw::seryugo_leave(&mut inside.handle, seat));
+        let answers = self.answers.take();
+        self.board.change(None, |inside| {
+            // The seat isn't parked, so that it may leave.
+            raw::seryugo_leave(&mut inside.handle, seat);
+            inside.free_answers.extend(answers);
+        });
     }
 }
 

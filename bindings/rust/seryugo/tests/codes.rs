@@ -406,6 +406,7 @@ fn errors_have_plain_words() {
         Error::OutOfBounds,
         Error::TooLong,
         Error::TimedOut,
+        Error::Declined,
         Error::Unreadable(vec![1, 2]),
         Error::Version {
             library: version(2),
