@@ -43,7 +43,7 @@ use std::time::Duration;
 /// fn shared<T: Sync>() {}
 /// shared::<seryugo::Sender<u64>>();
 /// ```
-pub struct Sender<T, R: Room = Bytes>(Half<T, R>);
+pub struct Sender<T, R: Room = Bytes>(pub(crate) Half<T, R>);
 
 /// Receives from one mailbox, from a seat that nobody else has. A clone has another seat, as that of
 /// a [`Sender`].
@@ -66,12 +66,12 @@ pub struct Sender<T, R: Room = Bytes>(Half<T, R>);
 /// # Ok(())
 /// # }
 /// ```
-pub struct Receiver<T, R: Room = Bytes>(Half<T, R>);
+pub struct Receiver<T, R: Room = Bytes>(pub(crate) Half<T, R>);
 
-struct Half<T, R: Room> {
+pub(crate) struct Half<T, R: Room> {
     // Its calls take the seat by `&mut`. The half isn't shared by threads.
-    seat: RefCell<OwnedSeat<R>>,
-    mailbox: Mailbox<T>,
+    pub(crate) seat: RefCell<OwnedSeat<R>>,
+    pub(crate) mailbox: Mailbox<T>,
 }
 
 impl<T, R: Room> Half<T, R> {

@@ -104,6 +104,7 @@
 //!   answer would take memory for ever.
 //! - If the asker gives up, by [`request_timeout`](Seat::request_timeout) or as a future that is
 //!   dropped, the answer comes late. No later question takes it.
+//! - The halves of a mailbox ask and answer too: [`Sender::request`], [`Receiver::answer`].
 //! - A server that has no answer calls [`decline`](Asker::decline): the asker's call fails with
 //!   [`Error::Declined`]. To drop a request tells nobody.
 //!
@@ -162,6 +163,7 @@
 mod apart;
 mod appending;
 mod asking;
+mod asking_halves;
 mod awaited;
 mod backoff;
 mod bytes;

@@ -450,3 +450,34 @@ fn no_seat_takes_an_answer_of_the_seat_before() {
     assert_eq!(answered(asked), Ok(5));
     assert_eq!(objects(&board), 2);
 }
+
+/// As a thread with other channels has it: the server ends once all senders are dropped.
+#[test]
+fn clones_of_a_sender_ask_and_a_receiver_answers() {
+    within_a_minute(|| {
+        let board = Arc::new(Switchboard::new(10_000).unwrap());
+        let (sender, receiver) = board.unbounded::<Request<String, u64>>().unwrap();
+        let threads: Vec<_> = (0..4)
+            .map(|_| {
+                let sender = sender.clone();
+                thread::spawn(move || {
+                    for length in 1..50 {
+                        assert_eq!(sender.request("x".repeat(length)), Ok(length as u64));
+                    }
+                    sender.request("").unwrap_err().error
+                })
+            })
+            .collect();
+        drop(sender);
+        for Request { question, asker } in &receiver {
+            match question.len() {
+                0 => receiver.decline(asker).unwrap(),
+                length => receiver.answer(asker, length as u64).unwrap(),
+            }
+        }
+        for thread in threads {
+            assert_eq!(thread.join().unwrap(), Error::Declined);
+        }
+        assert_eq!((receiver.recv(), objects(&board)), (Err(Error::Stalled), 5));
+    });
+}
