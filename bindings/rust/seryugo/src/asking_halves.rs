@@ -38,7 +38,7 @@ impl<Q: Message, A: Message> Sender<Request<Q, A>> {
     ///
     /// Those of [`Seat::request`](crate::Seat::request).
     pub fn request<M: SentAs<Q>>(&self, question: M) -> Result<A, RequestError<M>> {
-        self.0.seat.borrow_mut().request(self.0.mailbox, question)
+        self.0.seat().request(self.0.mailbox, question)
     }
 
     /// The same, but it blocks no longer than this.
@@ -62,7 +62,7 @@ impl<Q: Message, A: Message> Sender<Request<Q, A>> {
         question: M,
         timeout: Duration,
     ) -> Result<A, RequestError<M>> {
-        self.0.seat.borrow_mut().request_timeout(self.0.mailbox, question, timeout)
+        self.0.seat().request_timeout(self.0.mailbox, question, timeout)
     }
 
     /// The same as a future. It sends the question when it is first polled.
@@ -117,7 +117,7 @@ impl<Q, A: Message> Receiver<Request<Q, A>> {
         asker: Asker<A>,
         answer: M,
     ) -> Result<(), SendError<(Asker<A>, M)>> {
-        asker.answer(&mut self.0.seat.borrow_mut(), answer)
+        asker.answer(&mut self.0.seat(), answer)
     }
 
     /// Tells an asker that there will be no answer.
@@ -143,6 +143,6 @@ impl<Q, A: Message> Receiver<Request<Q, A>> {
     ///
     /// Those of [`Asker::decline`].
     pub fn decline(&self, asker: Asker<A>) -> Result<(), SendError<Asker<A>>> {
-        asker.decline(&mut self.0.seat.borrow_mut())
+        asker.decline(&mut self.0.seat())
     }
 }

@@ -1,15 +1,19 @@
 //! Why a call failed.
 
+use crate::kind::{Misfit, Missing};
 use crate::raw::code;
 use crate::version::Version;
+use std::any;
 use std::fmt;
 
-/// Why a call failed. A call that failed changed nothing, with two exceptions:
+/// Why a call failed. A call that failed changed nothing, with three exceptions:
 ///
 /// - [`Lane::close`](crate::Lane::close) has ended the lane, and may have moved some of its
 ///   messages.
 /// - If it fails with [`Unreadable`](Error::Unreadable), the message was received, and its bytes
 ///   are in the error.
+/// - [`Seat::request`](crate::Seat::request) may have sent its question, which
+///   [`RequestError::was_sent`](crate::RequestError::was_sent) says.
 ///
 /// A `drain` or a `pump` that failed moved nothing. If a message after the first is refused, it
 /// returns how many moved.
@@ -35,11 +39,12 @@ pub enum Error {
     Gone,
     /// A lane or a feed is open, so that the journal can't be cut.
     Busy,
-    /// There is none of this name or number: the name is of another switchboard. Or a call reads
-    /// what objects of this kind don't have.
-    NoSuch,
-    /// The object can't take this call, or an open feed alone may make it.
-    WrongKind,
+    /// There is none of this name or number: [`Missing`] says which. The name may be of another
+    /// switchboard, or the call reads what objects of this kind don't have.
+    NoSuch(Missing),
+    /// The object can't take this call: [`Misfit`] says why. It is of another kind, or an open feed
+    /// alone may make the call.
+    WrongKind(Misfit),
     /// The journal has as many entries since the last cut as its limit says.
     JournalFull,
     /// Nobody took entries that were cut from the journal:
@@ -66,9 +71,13 @@ pub enum Error {
     TimedOut,
     /// A server has received the question, and [declines](crate::Asker::decline) to answer it.
     Declined,
-    /// The message was received, and it can't be read as the type that its object has. These are
-    /// its bytes.
-    Unreadable(Vec<u8>),
+    /// The message was received, and it can't be read as the type that its object has.
+    Unreadable {
+        /// The type's name, in the words of [`type_name`](std::any::type_name).
+        wanted: &'static str,
+        /// The message's bytes.
+        bytes: Vec<u8>,
+    },
     /// The library that is linked isn't of the version that this crate wants. No call was made.
     Version {
         /// The version of the library.
@@ -81,13 +90,13 @@ pub enum Error {
 }
 
 impl Error {
+    /// The error of a code that the library returned. Two codes need an object to be one: see
+    /// `missing` and `misfit`. No call that names no object returns them.
     #[cold]
     pub(crate) fn of_code(code: u32) -> Error {
         match code {
             5 => Error::Gone,
             6 => Error::Busy,
-            7 => Error::NoSuch,
-            8 => Error::WrongKind,
             code::JOURNAL_FULL => Error::JournalFull,
             10 => Error::Stalled,
             11 => Error::NoMemory,
@@ -100,6 +109,33 @@ impl Error {
         }
     }
 
+    /// The error of a call that may have failed since this isn't there.
+    #[cold]
+    pub(crate) fn missing(self, missing: Missing) -> Error {
+        match self {
+            Error::Unknown(code::NO_SUCH) => Error::NoSuch(missing),
+            other => other,
+        }
+    }
+
+    /// The error of a call that may have failed since the object is so.
+    #[cold]
+    pub(crate) fn misfit(self, misfit: Misfit) -> Error {
+        match self {
+            Error::Unknown(code::WRONG_KIND) => Error::WrongKind(misfit),
+            other => other,
+        }
+    }
+
+    /// What was received and isn't a message of this type.
+    #[cold]
+    pub(crate) fn unreadable<T>(bytes: &[u8]) -> Error {
+        Error::Unreadable {
+            wanted: any::type_name::<T>(),
+            bytes: bytes.to_vec(),
+        }
+    }
+
     /// Whether the same call may succeed later, once something else has changed: the journal was
     /// cut (`JournalFull`), its entries were taken (`NotKept`), the lanes and feeds were closed
     /// (`Busy`), the lane was drained (`Full`), memory was freed (`NoMemory`), or more time has
@@ -109,16 +145,16 @@ impl Error {
     /// use seryugo::Error;
     ///
     /// assert!(Error::TimedOut.is_retryable());
-    /// assert!(!Error::WrongKind.is_retryable());
+    /// assert!(!Error::Stalled.is_retryable());
     /// ```
     #[must_use]
     pub fn is_retryable(&self) -> bool {
         match self {
             Error::JournalFull | Error::NotKept | Error::Busy | Error::Full => true,
             Error::NoMemory | Error::TimedOut | Error::Unseen => true,
-            Error::Gone | Error::NoSuch | Error::WrongKind | Error::Stalled => false,
+            Error::Gone | Error::NoSuch(_) | Error::WrongKind(_) | Error::Stalled => false,
             Error::OutOfBounds | Error::TooLong | Error::Declined => false,
-            Error::Unreadable(_) | Error::Version { .. } | Error::Unknown(_) => false,
+            Error::Unreadable { .. } | Error::Version { .. } | Error::Unknown(_) => false,
         }
     }
 }
@@ -128,11 +164,8 @@ impl fmt::Display for Error {
         f.write_str(match self {
             Error::Gone => "the seat can't make this call: it waits, or has left",
             Error::Busy => "the journal can't be cut while a lane or a feed is open",
-            Error::NoSuch => "this switchboard has nothing of this name or number",
-            Error::WrongKind => {
-                "the object can't take this call: its kind is another, or a feed receives \
-                 from it"
-            }
+            Error::NoSuch(missing) => return missing.fmt(f),
+            Error::WrongKind(misfit) => return misfit.fmt(f),
             Error::JournalFull => "the journal is full until it is cut or taken",
             Error::NotKept => "nobody took the entries that were cut from the journal",
             Error::Stalled => "no seat and no lane is left that could answer this call",
@@ -148,11 +181,11 @@ impl fmt::Display for Error {
             }
             Error::TimedOut => "the time limit passed before there was an answer",
             Error::Declined => "a server has declined to answer the question",
-            Error::Unreadable(bytes) => {
-                let length = bytes.len();
+            Error::Unreadable { wanted, bytes } => {
+                let (length, plural) = (bytes.len(), if bytes.len() == 1 { "" } else { "s" });
                 return write!(
                     f,
-                    "the message of {length} bytes that was received can't be read as its type"
+                    "the message received, of {length} byte{plural}, is no `{wanted}`"
                 );
             }
             Error::Version { library, wanted } => {
@@ -186,8 +219,8 @@ impl std::error::Error for Error {}
 /// let (board, other) = (Switchboard::new(1_000)?, Switchboard::new(1_000)?);
 /// let mailbox = other.seat()?.mailbox::<String>()?;
 /// let refused: SendError<&str> = board.seat()?.send(mailbox, "hello").unwrap_err();
-/// assert_eq!(refused.error, Error::NoSuch);
-/// let why = "this switchboard has nothing of this name or number";
+/// assert!(matches!(refused.error, Error::NoSuch(_)));
+/// let why = "mailbox 0 is another switchboard's";
 /// assert_eq!(refused.to_string(), format!("the message wasn't sent: {why}"));
 /// assert_eq!(refused.into_message(), "hello");
 /// # Ok(())

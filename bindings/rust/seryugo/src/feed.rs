@@ -88,7 +88,7 @@ impl<R: Room, T, H: Holds<R>> Feed<'_, R, T, H> {
     /// # let channel = seat.channel::<u64>()?;
     /// let feed = board.feed(channel, 8)?;
     /// let port = feed.port();
-    /// assert_eq!(seat.recv(port), Err(seryugo::Error::WrongKind));
+    /// assert!(matches!(seat.recv(port), Err(seryugo::Error::WrongKind(_))));
     /// drop(feed);
     /// assert_eq!(seat.recv_poll(port), Ok(None));
     /// # Ok::<(), seryugo::Error>(())

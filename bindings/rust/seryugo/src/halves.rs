@@ -7,7 +7,7 @@ use crate::room::{Bytes, Carries, Room};
 use crate::sent_as::SentAs;
 use crate::switchboard::Switchboard;
 use std::alloc::{handle_alloc_error, Layout};
-use std::cell::RefCell;
+use std::cell::{RefCell, RefMut};
 use std::fmt;
 use std::sync::Arc;
 use std::time::Duration;
@@ -82,6 +82,17 @@ impl<T, R: Room> Half<T, R> {
             mailbox,
         })
     }
+
+    /// The seat, for a call.
+    #[inline]
+    pub(crate) fn seat(&self) -> RefMut<'_, OwnedSeat<R>> {
+        self.seat.try_borrow_mut().unwrap_or_else(|_| used_within_a_call())
+    }
+}
+
+#[cold]
+fn used_within_a_call() -> ! {
+    panic!("a half of a mailbox is already borrowed: the code of its message makes a call by it")
 }
 
 impl<T, R: Room> Clone for Half<T, R> {
@@ -194,7 +205,7 @@ impl<T, R: Carries<T>> Sender<T, R> {
     /// Those of [`Seat::send`](crate::Seat::send). It doesn't fail because no receiver is left.
     #[inline]
     pub fn send<M: SentAs<T>>(&self, message: M) -> Result<(), SendError<M>> {
-        self.0.seat.borrow_mut().send(self.0.mailbox, message)
+        self.0.seat().send(self.0.mailbox, message)
     }
 }
 
@@ -229,7 +240,7 @@ impl<T, R: Carries<T>> Receiver<T, R> {
     /// Those of [`Seat::recv`](crate::Seat::recv).
     #[inline]
     pub fn recv(&self) -> Result<T, Error> {
-        self.0.seat.borrow_mut().recv(self.0.mailbox)
+        self.0.seat().recv(self.0.mailbox)
     }
 
     /// Receives the next message, if there is one. It never blocks.
@@ -248,7 +259,7 @@ impl<T, R: Carries<T>> Receiver<T, R> {
     /// Those of [`Seat::recv_poll`](crate::Seat::recv_poll).
     #[inline]
     pub fn try_recv(&self) -> Result<Option<T>, Error> {
-        self.0.seat.borrow_mut().recv_poll(self.0.mailbox)
+        self.0.seat().recv_poll(self.0.mailbox)
     }
 
     /// Receives the next message. Blocks no longer than this.
@@ -267,7 +278,7 @@ impl<T, R: Carries<T>> Receiver<T, R> {
     ///
     /// Those of [`Seat::recv_timeout`](crate::Seat::recv_timeout).
     pub fn recv_timeout(&self, timeout: Duration) -> Result<T, Error> {
-        self.0.seat.borrow_mut().recv_timeout(self.0.mailbox, timeout)
+        self.0.seat().recv_timeout(self.0.mailbox, timeout)
     }
 
     /// Receives the next message, as a future.

@@ -69,7 +69,7 @@
 //! - A call that sends takes the message, a reference to it, or a text for a `String` ([`SentAs`]).
 //!   If it fails, [`SendError`] hands the message back.
 //! - A message that was received and can't be read as the object's type is [`Error::Unreadable`],
-//!   which has its bytes.
+//!   which has its bytes and the type's name.
 //! - A name such as [`Mailbox`] is `Copy`, and belongs to the switchboard that made it. On another
 //!   one each call with it fails with [`Error::NoSuch`].
 //! - [`Error::is_retryable`] says whether the same call may succeed later.
@@ -179,6 +179,7 @@ mod inside;
 mod iter;
 mod journal;
 mod kept;
+mod kind;
 mod lane;
 mod lists;
 mod locked;
@@ -217,6 +218,7 @@ pub use halves::{Messages, Receiver, Sender};
 pub use iter::{Iter, TryIter};
 pub use journal::{Entries, Journal};
 pub use kept::Kept;
+pub use kind::{Kind, Misfit, Missing};
 pub use lane::{Lane, UnclosedLane};
 pub use message::Message;
 pub use names::{Channel, IVar, MVar, Mailbox, Object, Port, Source, Target, Variable};

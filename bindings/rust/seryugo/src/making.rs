@@ -1,6 +1,7 @@
 //! The calls of a seat that make objects, and close a port.
 
 use crate::error::{handing_back, Error, SendError};
+use crate::kind::Misfit;
 use crate::names::{Channel, IVar, MVar, Mailbox, Named, Port};
 use crate::owned::Holds;
 use crate::raw::{self, code, done, done_or, Handle};
@@ -115,7 +116,7 @@ impl<R: Room, H: Holds<R>> Seat<'_, R, H> {
     pub fn close<T>(&mut self, port: Port<T>) -> Result<bool, Error> {
         let port = self.here(port)?;
         let code = self.call(|room, seat| raw::seryugo_close_port(room, seat, port));
-        done_or(code, code::CLOSED)
+        done_or(code, code::CLOSED).map_err(|error| error.misfit(Misfit::Feed(port)))
     }
 
     /// Makes an empty i-variable.

@@ -1,6 +1,7 @@
 //! The names of objects, each with its kind and the type of its messages.
 
 use crate::error::Error;
+use crate::kind::Kind;
 use crate::raw::code;
 use std::fmt;
 use std::hash::{Hash, Hasher};
@@ -16,7 +17,7 @@ pub struct Name {
 }
 
 macro_rules! names {
-    ($($(#[$doc:meta])* $name:ident $kind:literal)*) => {$(
+    ($($(#[$doc:meta])* $name:ident)*) => {$(
         $(#[$doc])*
         pub struct $name<T> {
             name: Name,
@@ -61,7 +62,7 @@ macro_rules! names {
         }
 
         impl<T> Named for $name<T> {
-            const KIND: u64 = $kind;
+            const KIND: Kind = Kind::$name;
 
             #[inline]
             fn of(name: Name) -> $name<T> {
@@ -101,7 +102,7 @@ names! {
     /// seat.send(mailbox, "one")?;
     /// # Ok::<(), seryugo::Error>(())
     /// ```
-    Mailbox 0
+    Mailbox
     /// A channel: what is multicast goes to every port.
     ///
     /// ```
@@ -112,7 +113,7 @@ names! {
     /// assert_eq!(board.sent(channel)?, 1);
     /// # Ok::<(), seryugo::Error>(())
     /// ```
-    Channel 1
+    Channel
     /// A port of a channel: it receives what is multicast from its start on.
     ///
     /// ```
@@ -124,7 +125,7 @@ names! {
     /// assert_eq!(seat.recv(port)?, Some(1));
     /// # Ok::<(), seryugo::Error>(())
     /// ```
-    Port 2
+    Port
     /// A variable that is filled once.
     ///
     /// ```
@@ -135,7 +136,7 @@ names! {
     /// assert_eq!(seat.get(variable)?, true);
     /// # Ok::<(), seryugo::Error>(())
     /// ```
-    IVar 3
+    IVar
     /// A variable that is filled and emptied again.
     ///
     /// ```
@@ -146,7 +147,7 @@ names! {
     /// assert_eq!(seat.take(variable)?, 'b');
     /// # Ok::<(), seryugo::Error>(())
     /// ```
-    MVar 4
+    MVar
 }
 
 /// An object of any kind, by its name.
@@ -171,9 +172,9 @@ pub trait Object: Named {
     fn number(self) -> u64;
 }
 
-/// A name with its kind, by the number that the library gives the kind.
+/// A name with its kind.
 pub trait Named: Copy {
-    const KIND: u64;
+    const KIND: Kind;
 
     fn of(name: Name) -> Self;
 

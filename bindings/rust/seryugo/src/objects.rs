@@ -4,6 +4,7 @@
 
 use crate::calls::received;
 use crate::error::Error;
+use crate::kind::{Kind, Misfit, Missing};
 use crate::names::{Channel, IVar, MVar, Mailbox, Named, Object, Port, Target, Variable};
 use crate::raw::{self, code, done_or, written, Handle};
 use crate::room::{Carries, Room};
@@ -18,7 +19,7 @@ impl<R: Room> Switchboard<R> {
     /// type that the mailbox had.
     ///
     /// ```
-    /// use seryugo::{Error, Switchboard};
+    /// use seryugo::{Error, Missing, Switchboard};
     ///
     /// # fn main() -> Result<(), Error> {
     /// let board = Switchboard::new(1_000)?;
@@ -31,8 +32,9 @@ impl<R: Room> Switchboard<R> {
     /// assert_eq!(board.port(2), Ok(port));
     /// assert_eq!(board.ivar(3), Ok(ivar));
     /// assert_eq!(board.mvar(4), Ok(mvar));
-    /// assert_eq!(board.mailbox::<u64>(1), Err(Error::WrongKind));
-    /// assert_eq!(board.mailbox::<u64>(5), Err(Error::NoSuch));
+    /// let misfit = board.mailbox::<u64>(1).unwrap_err();
+    /// assert_eq!(misfit.to_string(), "object 1 is a channel, and no mailbox");
+    /// assert_eq!(board.mailbox::<u64>(5), Err(Error::NoSuch(Missing::Object(5))));
     /// # Ok(())
     /// # }
     /// ```
@@ -130,12 +132,31 @@ impl<R: Room> Switchboard<R> {
 
     /// The name of an object of this number, if it has this kind.
     fn named<N: Named>(&self, number: u64) -> Result<N, Error> {
-        let kind = self.number_of(number, raw::seryugo_kind)?;
-        if kind == N::KIND {
+        let (is, wanted) = (self.kind(number)?, N::KIND);
+        if is == wanted {
             Ok(self.name(number))
         } else {
-            Err(Error::WrongKind)
+            Err(Error::WrongKind(Misfit::Kind { number, is, wanted }))
         }
+    }
+
+    /// What the object of this number is.
+    ///
+    /// ```
+    /// use seryugo::{Kind, Switchboard};
+    ///
+    /// let board = Switchboard::new(1_000)?;
+    /// board.seat()?.mailbox::<u64>()?;
+    /// assert_eq!(board.kind(0), Ok(Kind::Mailbox));
+    /// # Ok::<(), seryugo::Error>(())
+    /// ```
+    ///
+    /// # Errors
+    ///
+    /// `NoSuch` if there is no object of this number.
+    pub fn kind(&self, number: u64) -> Result<Kind, Error> {
+        let kind = self.number_of(number, raw::seryugo_kind);
+        Kind::of(kind.map_err(|error| error.missing(Missing::Object(number)))?)
     }
 
     /// How many messages were sent to a mailbox, or multicast on a channel.
@@ -309,8 +330,10 @@ impl<R: Room> Switchboard<R> {
     }
 
     /// A number that an object has.
-    fn read_of(&self, object: impl Named, call: Reader) -> Result<u64, Error> {
-        self.number_of(self.here(object)?, call)
+    fn read_of<N: Named>(&self, object: N, call: Reader) -> Result<u64, Error> {
+        let number = self.here(object)?;
+        let read = self.number_of(number, call);
+        read.map_err(|error| error.missing(Missing::Count(N::KIND, number)))
     }
 
     /// A number that the object with this number has.

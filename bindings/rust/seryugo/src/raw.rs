@@ -16,6 +16,8 @@ pub mod code {
     pub const PUT: u32 = 2;
     pub const CLOSED: u32 = 3;
     pub const PARKED: u32 = 4;
+    pub const NO_SUCH: u32 = 7;
+    pub const WRONG_KIND: u32 = 8;
     pub const JOURNAL_FULL: u32 = 9;
     pub const NO_MEMORY: u32 = 11;
     pub const UNLAWFUL: u32 = 17;

@@ -2,6 +2,7 @@
 
 use crate::calls::{Calls, Give};
 use crate::error::{handing_back, Error, SendError};
+use crate::kind::{Kind, Misfit, Missing};
 use crate::message::Message;
 use crate::owned::Holds;
 use crate::raw::done;
@@ -223,7 +224,7 @@ impl<A> Asker<A> {
     where
         A: Message,
     {
-        let unreadable = || Err(Error::Unreadable(received.to_vec()));
+        let unreadable = || Err(Error::unreadable::<A>(received));
         let Some((question, answer)) = received.split_first_chunk() else {
             return Some(unreadable());
         };
@@ -313,7 +314,17 @@ impl<A: Message> Asker<A> {
             bytes.push(1);
             <Bytes as Carries<A>>::with_sent(answer, |piece| bytes.extend_from_slice(piece));
         }
-        done(seat.call(|room, seat| Bytes::give(Give::Send, room, seat, self.mailbox, &bytes)))
+        let mailbox = self.mailbox;
+        done(seat.call(|room, seat| Bytes::give(Give::Send, room, seat, mailbox, &bytes))).map_err(
+            |error| match seat.board.kind(mailbox) {
+                Ok(is) => error.misfit(Misfit::Kind {
+                    number: mailbox,
+                    is,
+                    wanted: Kind::Mailbox,
+                }),
+                Err(_) => error.missing(Missing::Object(mailbox)),
+            },
+        )
     }
 }
 

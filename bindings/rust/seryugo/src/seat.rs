@@ -3,6 +3,7 @@
 use crate::asking::Answers;
 use crate::calls::{received, Give, Read};
 use crate::error::{handing_back, Error, SendError};
+use crate::kind::Misfit;
 use crate::names::{Channel, MVar, Mailbox, Named, Source, Variable};
 use crate::owned::Holds;
 use crate::parkers::ParkerAt;
@@ -201,10 +202,11 @@ impl<R: Room, H: Holds<R>> Seat<'_, R, H> {
         R: Carries<S::Message>,
     {
         let source = self.here(source)?;
-        self.poll(|room, seat, to| match R::poll(Read::Recv, room, seat, source, to) {
+        let found = self.poll(|room, seat, to| match R::poll(Read::Recv, room, seat, source, to) {
             code::CLOSED => code::NOTHING,
             code => code,
-        })
+        });
+        found.map_err(|error| error.misfit(Misfit::Feed(source)))
     }
 
     /// Fills an empty variable: whether it was empty. It never blocks.

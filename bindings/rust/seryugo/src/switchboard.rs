@@ -4,6 +4,7 @@ use crate::apart::Apart;
 use crate::error::Error;
 use crate::feed::Feed;
 use crate::inside::Inside;
+use crate::kind::Missing;
 use crate::lane::Lane;
 use crate::names::{Channel, Name, Named, Target};
 use crate::parkers::Parkers;
@@ -109,12 +110,12 @@ impl<R: Room> Switchboard<R> {
 
     /// The number of an object, if this switchboard has it.
     #[inline]
-    pub(crate) fn here(&self, object: impl Named) -> Result<u64, Error> {
+    pub(crate) fn here<N: Named>(&self, object: N) -> Result<u64, Error> {
         let name = object.name();
         if name.board == self.number {
             Ok(name.number)
         } else {
-            Err(Error::NoSuch)
+            Err(Error::NoSuch(Missing::Elsewhere(N::KIND, name.number)))
         }
     }
 
@@ -192,7 +193,8 @@ impl<R: Room> Switchboard<R> {
     /// `NoSuch`: no open lane has this number. `JournalFull`, `NotKept` and `NoMemory`: no message
     /// has moved.
     pub fn drain(&self, lane: u64) -> Result<u64, Error> {
-        self.change(None, |inside| inside.drain(lane))
+        let drained = self.change(None, |inside| inside.drain(lane));
+        drained.map_err(|error| error.missing(Missing::Lane(lane)))
     }
 
     /// Receives what the feed of this number is owed.

@@ -48,7 +48,7 @@ impl<R: Room, H: Holds<R>> Seat<'_, R, H> {
         R: Carries<S::Message>,
     {
         let source = self.here(source)?;
-        received::<R, S>(self.wait(Want::Read(Read::Recv, source)))
+        received::<R, S>(source, self.wait(Want::Read(Read::Recv, source)))
     }
 
     /// The same, but it blocks no longer than this.
@@ -78,7 +78,7 @@ impl<R: Room, H: Holds<R>> Seat<'_, R, H> {
         R: Carries<S::Message>,
     {
         let source = self.here(source)?;
-        received::<R, S>(self.wait_for(Want::Read(Read::Recv, source), timeout))
+        received::<R, S>(source, self.wait_for(Want::Read(Read::Recv, source), timeout))
     }
 
     /// The same, but it blocks until then at the latest.
@@ -107,7 +107,7 @@ impl<R: Room, H: Holds<R>> Seat<'_, R, H> {
         R: Carries<S::Message>,
     {
         let source = self.here(source)?;
-        received::<R, S>(self.wait_until(Want::Read(Read::Recv, source), deadline))
+        received::<R, S>(source, self.wait_until(Want::Read(Read::Recv, source), deadline))
     }
 
     /// The same as a future.
@@ -133,7 +133,7 @@ impl<R: Room, H: Holds<R>> Seat<'_, R, H> {
         R: Carries<S::Message>,
     {
         let source = self.here(source)?;
-        received::<R, S>(self.waiting(Want::Read(Read::Recv, source)).await)
+        received::<R, S>(source, self.waiting(Want::Read(Read::Recv, source)).await)
     }
 
     /// Reads a variable, which keeps its message. Blocks while it is empty.

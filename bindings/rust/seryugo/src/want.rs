@@ -2,6 +2,7 @@
 
 use crate::calls::{Calls, Read};
 use crate::error::Error;
+use crate::kind::Misfit;
 use crate::names::Source;
 use crate::owned::Holds;
 use crate::raw::{self, code, Handle};
@@ -61,15 +62,16 @@ fn answer<R: Room>(code: u32, received: R::Received) -> Answer<R> {
     }
 }
 
-/// What was received from a mailbox or a port.
+/// What was received from the mailbox or the port of this number.
 #[inline]
 pub(crate) fn received<R: Carries<S::Message>, S: Source>(
+    source: u64,
     answer: Answer<R>,
 ) -> Result<S::Received, Error> {
     match answer {
         Ok(message) => S::received(Some(R::read(message)?)),
         Err(Refused::Code(code::CLOSED)) => S::received(None),
-        Err(refused) => Err(refused.into()),
+        Err(refused) => Err(Error::from(refused).misfit(Misfit::Feed(source))),
     }
 }
 

@@ -8,7 +8,7 @@ mod common;
 use common::calls::{self, at_once, blocking, past, readers, refusal, timed, Names};
 use common::calls::{A_MILLISECOND, CHANNEL, IVAR, MAILBOX, MVAR, PORT};
 use common::{block_on, Board, Mailbox};
-use seryugo::{Error, Numbers, RestoreError, Switchboard, Version};
+use seryugo::{Error, Kind, Misfit, Missing, Numbers, Object, RestoreError, Switchboard, Version};
 use std::process::Command;
 use std::time::Duration;
 
@@ -58,7 +58,9 @@ fn objects_of_other_boards_are_refused() {
         for board in [board_of_each(100), Switchboard::of_numbers(100).unwrap()] {
             let mut seat = board.seat().unwrap();
             let entries = board.entries();
-            assert_eq!(make(&board, &mut seat, &names), Err(Error::NoSuch), "{call}");
+            let refused = make(&board, &mut seat, &names).unwrap_err();
+            let is_elsewhere = matches!(refused, Error::NoSuch(Missing::Elsewhere(..)));
+            assert!(is_elsewhere, "{call}: {refused:?}");
             assert_eq!(board.entries(), entries, "{call}");
         }
     }
@@ -75,7 +77,8 @@ fn names_end_with_their_switchboard() {
     drop(before);
     let board = Board::restore(&text[..], 100).unwrap();
     let mut seat = board.seat().unwrap();
-    assert_eq!(refusal(seat.send(names.mailbox, 7)), Err(Error::NoSuch));
+    let elsewhere = Missing::Elsewhere(Kind::Mailbox, MAILBOX);
+    assert_eq!(refusal(seat.send(names.mailbox, 7)), Err(Error::NoSuch(elsewhere)));
     assert_ne!(board.mailbox(MAILBOX), Ok(names.mailbox));
     assert_eq!(refusal(seat.send(board.mailbox(MAILBOX).unwrap(), 7)), Ok(()));
 }
@@ -86,25 +89,76 @@ type Find = fn(&Board, u64) -> Result<(), Error>;
 #[test]
 fn objects_are_found_by_number_and_kind() {
     let board = board_of_each(100);
-    let finds: [(u64, Find); 5] = [
-        (MAILBOX, |board, number| board.mailbox(number).map(drop)),
-        (CHANNEL, |board, number| board.channel(number).map(drop)),
-        (PORT, |board, number| board.port(number).map(drop)),
-        (IVAR, |board, number| board.ivar(number).map(drop)),
-        (MVAR, |board, number| board.mvar(number).map(drop)),
+    let finds: [(Kind, Find); 5] = [
+        (Kind::Mailbox, |board, number| board.mailbox(number).map(drop)),
+        (Kind::Channel, |board, number| board.channel(number).map(drop)),
+        (Kind::Port, |board, number| board.port(number).map(drop)),
+        (Kind::IVar, |board, number| board.ivar(number).map(drop)),
+        (Kind::MVar, |board, number| board.mvar(number).map(drop)),
     ];
-    for (kind, find) in finds {
-        for number in 0..OBJECTS {
-            let expected = if number == kind {
-                Ok(())
-            } else {
-                Err(Error::WrongKind)
+    let kinds = finds.map(|(kind, _)| kind);
+    for (wanted, find) in finds {
+        for (number, is) in (0..OBJECTS).zip(kinds) {
+            let expected = match is == wanted {
+                true => Ok(()),
+                false => Err(Error::WrongKind(Misfit::Kind { number, is, wanted })),
             };
-            assert_eq!(find(&board, number), expected);
+            assert_eq!((find(&board, number), board.kind(number)), (expected, Ok(is)));
         }
-        assert_eq!(find(&board, OBJECTS), Err(Error::NoSuch));
-        assert_eq!(find(&board, u64::MAX), Err(Error::NoSuch));
+        for number in [OBJECTS, u64::MAX] {
+            let missing = Error::NoSuch(Missing::Object(number));
+            assert_eq!(find(&board, number), Err(missing.clone()));
+            assert_eq!(board.kind(number), Err(missing));
+        }
     }
+}
+
+/// Of these two readers not each object has the count.
+#[test]
+fn a_count_that_an_object_has_not_is_named() {
+    let board = board_of_each(100);
+    let names = Names::of(&board);
+    let count = |kind, number| Err(Error::NoSuch(Missing::Count(kind, number)));
+    assert_eq!(board.got(names.channel), count(Kind::Channel, CHANNEL));
+    assert_eq!(board.owed(names.channel), count(Kind::Channel, CHANNEL));
+    assert_eq!(board.got(names.ivar), count(Kind::IVar, IVAR));
+    assert_eq!(board.owed(names.mvar), count(Kind::MVar, MVAR));
+    board.seat().unwrap().close(names.port).unwrap();
+    assert_eq!(board.got(names.port), Ok(0));
+    assert_eq!(board.owed(names.port), count(Kind::Port, PORT));
+}
+
+/// What a person reads, who has the switchboard's journal beside it.
+#[test]
+fn errors_say_what_is_wrong() {
+    let board = Switchboard::new(100).unwrap();
+    let mut seat = board.seat().unwrap();
+    seat.ivar::<u64>().unwrap();
+    let texts = seat.mailbox::<String>().unwrap();
+    seat.send(board.mailbox::<u8>(texts.number()).unwrap(), 255).unwrap();
+    let unreadable = seat.recv(texts).unwrap_err();
+    let wanted = "alloc::string::String";
+    let bytes = vec![255];
+    assert_eq!(unreadable, Error::Unreadable { wanted, bytes });
+    let said = [
+        unreadable,
+        board.mailbox::<u64>(0).unwrap_err(),
+        board.mvar::<u64>(7).unwrap_err(),
+        Switchboard::new(100).unwrap().seat().unwrap().recv(texts).unwrap_err(),
+        board.got(board.ivar::<u64>(0).unwrap()).unwrap_err(),
+        board.drain(5).unwrap_err(),
+    ];
+    assert_eq!(
+        said.map(|error| error.to_string()),
+        [
+            "the message received, of 1 byte, is no `alloc::string::String`",
+            "object 0 is an i-variable, and no mailbox",
+            "there is no object 7 on this switchboard",
+            "mailbox 1 is another switchboard's",
+            "i-variable 0 has no such count of messages",
+            "there is no open lane 5 on this switchboard",
+        ]
+    );
 }
 
 /// After a cut the call is answered, or would wait.
@@ -225,12 +279,13 @@ fn the_port_of_an_open_feed_is_the_feeds_alone() {
     let channel = board.channel(CHANNEL).unwrap();
     let mut feed = board.feed(channel, 1).unwrap();
     let port = feed.port();
-    assert_eq!(
-        (seat.recv(port), seat.recv_poll(port)),
-        (Err(Error::WrongKind), Err(Error::WrongKind))
-    );
-    assert_eq!(seat.recv_timeout(port, A_MILLISECOND), Err(Error::WrongKind));
-    assert_eq!(seat.close(port), Err(Error::WrongKind));
+    let misfit = Error::WrongKind(Misfit::Feed(port.number()));
+    assert_eq!(seat.recv(port), Err(misfit.clone()));
+    assert_eq!(seat.recv_poll(port), Err(misfit.clone()));
+    assert_eq!(seat.recv_timeout(port, A_MILLISECOND), Err(misfit.clone()));
+    assert_eq!(block_on(seat.recv_async(port)), Err(misfit.clone()));
+    assert_eq!(seat.iter(port).error(), None);
+    assert_eq!(seat.close(port), Err(misfit));
     assert_eq!((feed.recv(), feed.pump()), (Ok(None), Ok(0)));
     assert_eq!((board.cut(), board.take_journal().err()), (Err(Error::Busy), Some(Error::Busy)));
     drop(feed);
@@ -259,7 +314,7 @@ fn a_lane_may_be_full_and_the_journal_too() {
     assert_eq!(board.cut(), Err(Error::Busy));
     assert_eq!((lane.drain(), lane.drain()), (Ok(2), Err(Error::JournalFull)));
     assert_eq!(board.drain(lane.number()), Err(Error::JournalFull));
-    assert_eq!(board.drain(lane.number() + 1), Err(Error::NoSuch));
+    assert_eq!(board.drain(9), Err(Error::NoSuch(Missing::Lane(9))));
     let number = lane.number();
     let unclosed = lane.close().unwrap_err();
     assert_eq!((unclosed.error(), unclosed.number()), (Error::JournalFull, number));
@@ -267,7 +322,7 @@ fn a_lane_may_be_full_and_the_journal_too() {
     assert_eq!((board.cut(), board.lost()), (Err(Error::Busy), 0));
     assert_eq!(unclosed.abandon(), 1);
     assert_eq!((board.cut(), board.lost()), (Ok(()), 1));
-    assert_eq!(board.drain(number), Err(Error::NoSuch));
+    assert_eq!(board.drain(number), Err(Error::NoSuch(Missing::Lane(number))));
     assert_eq!(board.owed(mailbox), Ok(2));
 }
 
@@ -396,8 +451,16 @@ fn errors_have_plain_words() {
     let all = [
         Error::Gone,
         Error::Busy,
-        Error::NoSuch,
-        Error::WrongKind,
+        Error::NoSuch(Missing::Object(7)),
+        Error::NoSuch(Missing::Elsewhere(Kind::Port, 7)),
+        Error::NoSuch(Missing::Count(Kind::Port, 7)),
+        Error::NoSuch(Missing::Lane(7)),
+        Error::WrongKind(Misfit::Feed(7)),
+        Error::WrongKind(Misfit::Kind {
+            number: 7,
+            is: Kind::IVar,
+            wanted: Kind::MVar,
+        }),
         Error::JournalFull,
         Error::Stalled,
         Error::NoMemory,
@@ -407,7 +470,10 @@ fn errors_have_plain_words() {
         Error::TooLong,
         Error::TimedOut,
         Error::Declined,
-        Error::Unreadable(vec![1, 2]),
+        Error::Unreadable {
+            wanted: "u64",
+            bytes: vec![1, 2],
+        },
         Error::Version {
             library: version(2),
             wanted: version(1),

@@ -168,8 +168,6 @@ fn error_of(code: u32) -> Error {
     match code {
         5 => Error::Gone,
         6 => Error::Busy,
-        7 => Error::NoSuch,
-        8 => Error::WrongKind,
         9 => Error::JournalFull,
         10 => Error::Stalled,
         11 => Error::NoMemory,
@@ -187,7 +185,17 @@ fn see<T>(call: &str, answer: Result<T, impl Into<Error>>, code: u32) {
     match answer.map_err(Into::into) {
         Ok(_) => assert!(code < 5, "{call} with the code {code}"),
         Err(Error::TimedOut) => assert_eq!(code, 4, "{call}"),
-        Err(error) => assert_eq!(error, error_of(code), "{call}"),
+        Err(error) => assert!(is_of(&error, code), "{call} with the code {code}: {error:?}"),
+    }
+}
+
+/// Whether a call that failed so had this code. Two codes say of some calls what their object is.
+/// No other call has them.
+fn is_of(error: &Error, code: u32) -> bool {
+    match error {
+        Error::NoSuch(_) => code == 7,
+        Error::WrongKind(_) => code == 8,
+        error => *error == error_of(code),
     }
 }
 
@@ -227,7 +235,8 @@ fn blocking_calls<R: Carries<u64>>(board: &Switchboard<R>, code: u32) {
         see(call, make(board, &mut seat, &names), code);
     }
     let mut messages = seat.iter(names.mailbox);
-    assert_eq!((messages.next(), messages.error()), (None, Some(error_of(code))));
+    assert_eq!(messages.next(), None);
+    assert!(messages.error().is_some_and(|error| is_of(&error, code)));
 }
 
 fn checks(code: u32) {

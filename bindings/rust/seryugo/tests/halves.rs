@@ -3,7 +3,7 @@
 mod common;
 
 use common::{block_on, within_a_minute};
-use seryugo::{Error, Message, Numbers, Receiver, Sender, Switchboard, WhenFull};
+use seryugo::{Error, Kind, Message, Missing, Numbers, Receiver, Sender, Switchboard, WhenFull};
 use std::sync::Arc;
 use std::thread;
 use std::time::{Duration, Instant};
@@ -94,8 +94,9 @@ fn a_message_that_is_not_sent_comes_back() {
 fn a_mailbox_of_another_switchboard_has_no_halves_here() {
     let (board, other) = (board(), board());
     let (sender, _receiver) = other.unbounded::<u64>().unwrap();
-    assert_eq!(board.sender(sender.mailbox()).err(), Some(Error::NoSuch));
-    assert_eq!(board.receiver(sender.mailbox()).err(), Some(Error::NoSuch));
+    let elsewhere = Error::NoSuch(Missing::Elsewhere(Kind::Mailbox, 0));
+    assert_eq!(board.sender(sender.mailbox()).err(), Some(elsewhere.clone()));
+    assert_eq!(board.receiver(sender.mailbox()).err(), Some(elsewhere));
     assert_eq!(board.seat().unwrap().number(), 0);
 }
 

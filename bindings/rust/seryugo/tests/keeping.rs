@@ -3,7 +3,9 @@
 mod common;
 
 use common::Board;
-use seryugo::{Call, CheckError, Checker, Error, Numbers, Reply, RestoreError, Switchboard, Who};
+use seryugo::{
+    Call, CheckError, Checker, Error, Kind, Missing, Numbers, Reply, RestoreError, Switchboard, Who,
+};
 use std::io::{self, BufReader, Read};
 use std::thread;
 
@@ -63,8 +65,8 @@ fn a_board_goes_on_where_another_ended() {
     assert_eq!((board.held(ivar), board.held(mvar)), (Ok(Some(u64::MAX)), Ok(Some(8))));
     assert_eq!((board.is_open(port), board.is_open(copy)), (Ok(true), Ok(false)));
     assert_eq!(
-        (board.mailbox(1), board.mvar(3), board.ivar(7)),
-        (Err(Error::WrongKind), Err(Error::WrongKind), Err(Error::NoSuch))
+        (board.kind(1), board.kind(3), board.ivar(7)),
+        (Ok(Kind::Channel), Ok(Kind::IVar), Err(Error::NoSuch(Missing::Object(7))))
     );
 
     let mut seat = board.seat().unwrap();
@@ -109,7 +111,7 @@ fn left(board: &Board) -> String {
         board.channel_of(copy),
     ];
     assert!(channels.iter().all(|of| *of == Ok(channel)));
-    assert_eq!(board.mailbox(7), Err(Error::NoSuch));
+    assert_eq!(board.mailbox(7), Err(Error::NoSuch(Missing::Object(7))));
     let mut seat = board.seat().unwrap();
     let waiting: Vec<u64> = seat.try_iter(mailbox).collect();
     format!(

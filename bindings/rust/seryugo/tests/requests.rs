@@ -4,7 +4,8 @@ mod common;
 
 use common::{block_on, let_them_wait, within_a_minute};
 use seryugo::{
-    Asker, Bytes, Call, Error, Holds, Mailbox, Message, Object, Request, Seat, Switchboard,
+    Asker, Bytes, Call, Error, Holds, Kind, Mailbox, Message, Misfit, Missing, Object, Request,
+    Seat, Switchboard,
 };
 use std::future::Future;
 use std::mem;
@@ -230,7 +231,9 @@ fn an_answer_that_is_none_is_unreadable() {
     for wrong in [vec![], vec![3; 7], to(4, &[2]), to(5, &[1, 5]), to(6, &[0])] {
         other.send(answers, &wrong).unwrap();
         let unread = client.request(lengths, "one").unwrap_err();
-        assert_eq!((unread.error, unread.was_sent), (Error::Unreadable(wrong), true));
+        let (wanted, bytes) = ("u64", wrong);
+        assert_eq!(unread.error, Error::Unreadable { wanted, bytes });
+        assert!(unread.was_sent);
     }
 }
 
@@ -242,11 +245,21 @@ fn a_question_that_is_none_is_unreadable() {
     let bytes = board.mailbox::<Vec<u8>>(lengths.number()).unwrap();
     for wrong in [vec![], vec![1; 15], [&[0; 16][..], &[255]].concat()] {
         seat.send(bytes, &wrong).unwrap();
-        assert_eq!(seat.recv(lengths), Err(Error::Unreadable(wrong)));
+        let unreadable = seat.recv(lengths);
+        assert!(matches!(unreadable, Err(Error::Unreadable { bytes, .. }) if bytes == wrong));
     }
     // A request of another program, which names no mailbox.
-    for (object, error) in [(7_u64, Error::NoSuch), (1, Error::WrongKind)] {
-        let _channel = seat.channel::<u64>().unwrap();
+    let channel = seat.channel::<u64>().unwrap().number();
+    let (is, wanted) = (Kind::Channel, Kind::Mailbox);
+    let misfit = Misfit::Kind {
+        number: channel,
+        is,
+        wanted,
+    };
+    for (object, error) in [
+        (7, Error::NoSuch(Missing::Object(7))),
+        (channel, Error::WrongKind(misfit)),
+    ] {
         seat.send(bytes, [object.to_le_bytes(), [0; 8]].concat()).unwrap();
         let asker = seat.recv(lengths).unwrap().asker;
         let refused = asker.answer(&mut seat, 5).unwrap_err();
@@ -260,7 +273,8 @@ fn a_mailbox_of_another_switchboard_leaves_nothing() {
     let (board, other) = (Switchboard::new(100).unwrap(), Switchboard::new(100).unwrap());
     let lengths: Lengths = other.seat().unwrap().mailbox().unwrap();
     let unsent = board.seat().unwrap().request(lengths, "one").unwrap_err();
-    assert_eq!((unsent.error, unsent.was_sent, unsent.question), (Error::NoSuch, false, "one"));
+    let elsewhere = Error::NoSuch(Missing::Elsewhere(Kind::Mailbox, 0));
+    assert_eq!((unsent.error, unsent.was_sent, unsent.question), (elsewhere, false, "one"));
     assert_eq!(board.entries(), 0);
 }
 

@@ -3,7 +3,7 @@
 mod common;
 
 use common::block_on;
-use seryugo::{Error, Mailbox, Message, SentAs, Switchboard};
+use seryugo::{Error, Kind, Mailbox, Message, Missing, Object, SentAs, Switchboard};
 use std::borrow::Cow;
 use std::collections::{BTreeMap, HashMap};
 use std::fmt::Debug;
@@ -36,7 +36,8 @@ where
     assert_eq!(seat.recv(mailbox).as_ref(), Ok(message));
     let elsewhere = Switchboard::new(1).unwrap();
     let refused = elsewhere.seat().unwrap().send(mailbox, sent.clone()).unwrap_err();
-    assert_eq!((refused.message, refused.error), (sent, Error::NoSuch));
+    let missing = Missing::Elsewhere(Kind::Mailbox, mailbox.number());
+    assert_eq!((refused.message, refused.error), (sent, Error::NoSuch(missing)));
 }
 
 #[test]

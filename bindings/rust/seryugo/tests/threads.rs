@@ -3,7 +3,7 @@
 mod common;
 
 use common::Lane;
-use seryugo::{Call, Error, Reply, SendError, Switchboard, Who};
+use seryugo::{Call, Error, Missing, Reply, SendError, Switchboard, Who};
 use std::thread;
 
 const SENDERS: u64 = 4;
@@ -78,7 +78,7 @@ fn one_that_receives_drains_a_lane() {
     thread::scope(|scope| {
         scope.spawn(|| {
             assert_eq!(board.drain(number), Ok(1));
-            assert_eq!(board.drain(number + 1), Err(Error::NoSuch));
+            assert_eq!(board.drain(number + 1), Err(Error::NoSuch(Missing::Lane(number + 1))));
         });
         assert_eq!(receiver.recv(mailbox), Ok(5));
     });

@@ -4,8 +4,8 @@ mod common;
 
 use common::{block_on, let_them_wait, within_a_minute};
 use seryugo::{
-    Bytes, Call, Checker, Error, Mailbox, Message, Numbers, Object, Reply, Seat, SendError,
-    Switchboard,
+    Bytes, Call, Checker, Error, Kind, Mailbox, Message, Missing, Numbers, Object, Reply, Seat,
+    SendError, Switchboard,
 };
 use std::alloc::{alloc_zeroed, Layout};
 use std::collections::HashSet;
@@ -93,7 +93,10 @@ fn each_call_hands_over_what_was_sent() {
 
 /// The error that a message of this text is, where a number was expected.
 fn unreadable<T>(text: &str) -> Result<T, Error> {
-    Err(Error::Unreadable(text.as_bytes().to_vec()))
+    Err(Error::Unreadable {
+        wanted: "u64",
+        bytes: text.as_bytes().to_vec(),
+    })
 }
 
 /// What can't be read is received all the same: its bytes are in the error, and what is behind it
@@ -120,10 +123,7 @@ fn what_is_of_another_type_comes_as_bytes() {
     }
     let shown =
         seat.send(texts, LONG.to_string()).map(|()| seat.recv(numbers).unwrap_err().to_string());
-    assert_eq!(
-        shown.unwrap(),
-        "the message of 117 bytes that was received can't be read as its type"
-    );
+    assert_eq!(shown.unwrap(), "the message received, of 117 bytes, is no `u64`");
 }
 
 #[test]
@@ -209,12 +209,13 @@ fn each_refusal_hands_the_message_back() {
         message: order(1),
         error,
     };
-    assert_eq!(seat.send(mailbox, order(1)), Err(back(Error::NoSuch)));
-    assert_eq!(seat.multicast(channel, order(1)), Err(back(Error::NoSuch)));
-    assert_eq!(seat.put(once, order(1)), Err(back(Error::NoSuch)));
-    assert_eq!(seat.put(often, order(1)), Err(back(Error::NoSuch)));
-    assert_eq!(seat.swap(often, order(1)), Err(back(Error::NoSuch)));
-    assert_eq!(block_on(seat.swap_async(often, order(1))), Err(back(Error::NoSuch)));
+    let elsewhere = |kind, number| back(Error::NoSuch(Missing::Elsewhere(kind, number)));
+    assert_eq!(seat.send(mailbox, order(1)), Err(elsewhere(Kind::Mailbox, 0)));
+    assert_eq!(seat.multicast(channel, order(1)), Err(elsewhere(Kind::Channel, 1)));
+    assert_eq!(seat.put(once, order(1)), Err(elsewhere(Kind::IVar, 2)));
+    assert_eq!(seat.put(often, order(1)), Err(elsewhere(Kind::MVar, 3)));
+    assert_eq!(seat.swap(often, order(1)), Err(elsewhere(Kind::MVar, 3)));
+    assert_eq!(block_on(seat.swap_async(often, order(1))), Err(elsewhere(Kind::MVar, 3)));
 
     let (mailbox, channel) = (seat.mailbox().unwrap(), seat.channel().unwrap());
     let (once, often) = (seat.ivar().unwrap(), seat.mvar().unwrap());
@@ -325,7 +326,8 @@ fn names_need_nothing_of_their_type() {
         "Mailbox(0) Mailbox(1) IVar(4)"
     );
     seat.send(one, Local(Rc::new(()))).unwrap();
-    assert_eq!(seat.recv(one).err(), Some(Error::Unreadable(Vec::new())));
+    let unreadable = seat.recv(one).err();
+    assert!(matches!(unreadable, Some(Error::Unreadable { bytes, .. }) if bytes.is_empty()));
 }
 
 /// Passes on each order that it receives, with its count as an answer.
@@ -405,7 +407,7 @@ fn a_journal_is_written_and_gone_on_from() {
     let mut seat = board.seat().unwrap();
     assert_eq!(
         seat.send(orders, order(9)).unwrap_err().error,
-        Error::NoSuch,
+        Error::NoSuch(Missing::Elsewhere(Kind::Mailbox, orders.number())),
         "the name is of the other one"
     );
     let orders = board.mailbox::<Order>(orders.number()).unwrap();

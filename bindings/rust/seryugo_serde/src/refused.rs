@@ -79,7 +79,7 @@ pub(crate) fn write(reason: &bincode::Error, bytes: &mut Vec<u8>) {
 /// let mut seat = board.seat()?;
 /// let orders = seat.mailbox::<Order>()?;
 /// seat.send(orders, Order { counts: HashMap::new() })?;
-/// let Err(Error::Unreadable(bytes)) = seat.recv(orders) else {
+/// let Err(Error::Unreadable { bytes, .. }) = seat.recv(orders) else {
 ///     panic!("bincode writes no map of unknown length");
 /// };
 /// assert!(refusal(&bytes).is_some());

@@ -52,7 +52,7 @@ fn the_receiver_reads_why() {
         seat.send(mailbox, pair(number)).unwrap();
     }
     assert_eq!(seat.recv(mailbox), Ok(pair(2)));
-    let Err(Error::Unreadable(bytes)) = seat.recv(mailbox) else {
+    let Err(Error::Unreadable { bytes, .. }) = seat.recv(mailbox) else {
         panic!("an odd number isn't written");
     };
     let refused = refusal(&bytes).unwrap();
@@ -67,7 +67,7 @@ fn a_part_of_a_tuple() {
     let mailbox = seat.mailbox::<(u8, Even, String)>().unwrap();
     seat.send(mailbox, (1, Even(3), String::from("rest"))).unwrap();
     seat.send(mailbox, (1, Even(4), String::from("rest"))).unwrap();
-    assert!(matches!(seat.recv(mailbox), Err(Error::Unreadable(_))));
+    assert!(matches!(seat.recv(mailbox), Err(Error::Unreadable { .. })));
     assert_eq!(seat.recv(mailbox), Ok((1, Even(4), String::from("rest"))));
 }
 
@@ -87,7 +87,7 @@ fn a_good_message_has_no_refusal() {
     let mailbox = seat.mailbox::<Serde<String>>().unwrap();
     seat.send(mailbox, Serde(String::from("apple"))).unwrap();
     let numbers = board.mailbox::<u64>(mailbox.number()).unwrap();
-    let Err(Error::Unreadable(bytes)) = seat.recv(numbers) else {
+    let Err(Error::Unreadable { bytes, .. }) = seat.recv(numbers) else {
         panic!("seven bytes are no number");
     };
     assert_eq!((refusal(&bytes), refusal(&[])), (None, None));

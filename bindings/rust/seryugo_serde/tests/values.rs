@@ -134,7 +134,7 @@ fn another_type_is_unreadable() {
     seat.send(orders, order(5)).unwrap();
     seat.send(orders, order(6)).unwrap();
     let numbers = board.mailbox::<Serde<u64>>(orders.number()).unwrap();
-    let Err(Error::Unreadable(bytes)) = seat.recv(numbers) else {
+    let Err(Error::Unreadable { bytes, .. }) = seat.recv(numbers) else {
         panic!("an order is no number");
     };
     assert_eq!(Order::from_bytes(&bytes), Some(order(5)));
