@@ -192,6 +192,12 @@ cargo_does() {
         --manifest-path "$work/rust/$crate/Cargo.toml" "$@"
 }
 
+# Each program of examples/ports does over the crate what it does over crossbeam-channel.
+ports() {
+    mkdir "$work/examples" "$work/bindings" && cp -r examples/ports "$work/examples/ports" &&
+        ln -s "$work/rust" "$work/bindings/rust" && cargo_does test ../examples/ports
+}
+
 # The version that the crate wants. It opens a switchboard only if the library has that one.
 version_in_rust() {
     cat > "$work/rust/seryugo/examples/version.rs" << 'END' || return
@@ -223,6 +229,7 @@ from_rust() {
         check 'whatever serde takes is a message' cargo_does test seryugo_serde
     fi
     if has_sources 'futures under tokio' 'tokio-1.*'; then check 'futures under tokio' cargo_does test on_tokio; fi
+    if has_sources 'programs of crossbeam' 'crossbeam-channel-0.5*'; then check 'programs of crossbeam over the crate' ports; fi
     if has_sources 'messages timed beside peers' 'tokio-1.*' && has_sources 'messages timed beside peers' 'crossbeam-channel-0.5*'; then
         check 'messages are timed beside crossbeam and tokio' cargo_does run speed_of_peers -- 200 '' 1
     fi

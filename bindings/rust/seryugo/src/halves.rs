@@ -83,6 +83,11 @@ impl<T, R: Room> Half<T, R> {
         })
     }
 
+    fn len(&self) -> usize {
+        // The mailbox is of this switchboard, which counts what is in memory.
+        self.seat.borrow().board.owed(self.mailbox).unwrap_or_default() as usize
+    }
+
     /// The seat, for a call.
     #[inline]
     pub(crate) fn seat(&self) -> RefMut<'_, OwnedSeat<R>> {
@@ -210,6 +215,33 @@ impl<T, R: Carries<T>> Sender<T, R> {
 }
 
 impl<T, R: Room> Sender<T, R> {
+    /// How many messages wait in the mailbox.
+    ///
+    /// ```
+    /// # let board = std::sync::Arc::new(seryugo::Switchboard::new(1_000)?);
+    /// let (sender, _receiver) = board.unbounded::<u64>()?;
+    /// sender.send(5)?;
+    /// assert_eq!(sender.len(), 1);
+    /// # Ok::<(), seryugo::Error>(())
+    /// ```
+    #[must_use]
+    pub fn len(&self) -> usize {
+        self.0.len()
+    }
+
+    /// Whether none waits.
+    ///
+    /// ```
+    /// # let board = std::sync::Arc::new(seryugo::Switchboard::new(1_000)?);
+    /// let (sender, _receiver) = board.unbounded::<u64>()?;
+    /// assert!(sender.is_empty());
+    /// # Ok::<(), seryugo::Error>(())
+    /// ```
+    #[must_use]
+    pub fn is_empty(&self) -> bool {
+        self.len() == 0
+    }
+
     /// The mailbox.
     ///
     /// ```
@@ -334,8 +366,7 @@ impl<T, R: Room> Receiver<T, R> {
     /// ```
     #[must_use]
     pub fn len(&self) -> usize {
-        // The mailbox is of this switchboard, which counts what is in memory.
-        self.0.seat.borrow().board.owed(self.0.mailbox).unwrap_or_default() as usize
+        self.0.len()
     }
 
     /// Whether none waits.
