@@ -3,7 +3,7 @@
 mod common;
 
 use common::{board, board_of_numbers, ms, on_each_runtime};
-use seryugo::Error;
+use seryugo::{Error, Request};
 use tokio::select;
 use tokio::task::{yield_now, JoinSet};
 use tokio::time::{sleep, timeout};
@@ -110,5 +110,49 @@ fn aborted_tasks_leave() {
         seat.send(mailbox, 5).unwrap();
         assert_eq!(seat.recv_async(mailbox).await, Ok(5));
         assert_eq!(seat.recv_async(mailbox).await, Err(Error::Stalled));
+    });
+}
+
+/// Clients give up at any moment, and a server is often late. No client has another one's answer, or
+/// one of an older question.
+#[test]
+fn questions_whose_futures_are_dropped() {
+    on_each_runtime(|| async {
+        let board = board();
+        let mut server = board.seat_owned().unwrap();
+        let doubles = server.mailbox::<Request<u64, u64>>().unwrap();
+        let mut clients = JoinSet::new();
+        for client in 0..8 {
+            let mut seat = board.seat_owned().unwrap();
+            clients.spawn(async move {
+                let mut answered = 0;
+                for question in 0..50 {
+                    let question = 1_000 * client + question;
+                    let asked = timeout(ms(question % 3), seat.request_async(doubles, question));
+                    if let Ok(answer) = asked.await {
+                        assert_eq!(answer.unwrap(), 2 * question);
+                        answered += 1;
+                    }
+                }
+                // The answers to all older questions come before this one's.
+                assert_eq!(seat.request_async(doubles, client).await.unwrap(), 2 * client);
+                answered
+            });
+        }
+        let serving = tokio::spawn(async move {
+            while let Ok(request) = server.recv_async(doubles).await {
+                if request.question % 5 == 0 {
+                    sleep(ms(1)).await;
+                }
+                request.answer_with(&mut server, |question| 2 * question).unwrap();
+            }
+        });
+        let mut answered = 0;
+        while let Some(ended) = clients.join_next().await {
+            answered += ended.unwrap();
+        }
+        serving.await.unwrap();
+        assert!(answered < 400, "no future was dropped, so that this tries nothing");
+        assert_eq!(board.owed(doubles), Ok(0));
     });
 }

@@ -3,8 +3,8 @@
 
 mod common;
 
-use common::calls::{at_once, blocking, readers, timed, Names};
-use seryugo::{Carries, CheckError, Checker, Error, Switchboard};
+use common::calls::{at_once, blocking, readers, timed, Names, A_MILLISECOND};
+use seryugo::{Asker, Carries, CheckError, Checker, Error, Message, Object, Request, Switchboard};
 use std::env;
 use std::fs;
 use std::path::{Path, PathBuf};
@@ -148,6 +148,7 @@ fn each_code_at_each_call() {
         let (bytes, numbers) = (Switchboard::new(9).unwrap(), Switchboard::of_numbers(9).unwrap());
         calls(&bytes, code);
         calls(&numbers, code);
+        questions(&bytes, code);
         if code != PARKED {
             blocking_calls(&bytes, code);
             blocking_calls(&numbers, code);
@@ -225,6 +226,19 @@ fn lanes_and_feeds<R: Carries<u64>>(board: &Switchboard<R>, code: u32) {
     let unclosed = lane.close().unwrap_err();
     assert_eq!(unclosed.error(), error_of(code));
     assert_eq!((unclosed.close().unwrap_err().abandon(), board.lost()), (0, 0));
+}
+
+/// The seat gets no mailbox for its answers, and a request of another program none for its answer.
+fn questions(board: &Switchboard, code: u32) {
+    let mut seat = board.seat().unwrap();
+    let doubles = Names::of(board).mailbox.number();
+    let doubles = board.mailbox::<Request<u64, u64>>(doubles).unwrap();
+    let unsent = seat.request_timeout(doubles, 5, A_MILLISECOND);
+    assert!(unsent.as_ref().is_err_and(|unsent| !unsent.was_sent));
+    see("request_timeout", unsent, code);
+    let asker = || Asker::<u64>::from_bytes(&[0; 16]).unwrap();
+    see("answer", asker().answer(&mut seat, 5), code);
+    see("decline", asker().decline(&mut seat), code);
 }
 
 /// These would wait for ever if each of them parked.

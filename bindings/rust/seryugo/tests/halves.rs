@@ -174,7 +174,7 @@ impl Message for Reentrant {
 }
 
 #[test]
-#[should_panic(expected = "already borrowed")]
+#[should_panic(expected = "already borrowed: the code of its message makes a call by it")]
 fn a_message_must_not_send_by_its_sender() {
     let (sender, _receiver) = board().unbounded().unwrap();
     SENDER.with(|kept| {
