@@ -172,10 +172,7 @@ impl<H: Holds<Bytes>> Seat<'_, Bytes, H> {
         mailbox: Mailbox<Request<Q, A>>,
         question: M,
     ) -> Result<A, RequestError<M>> {
-        let asker = match self.ask(mailbox, &question) {
-            Ok(asker) => asker,
-            Err(error) => return Err(RequestError::new(question, false, error)),
-        };
+        let (asker, question) = self.ask(mailbox, question)?;
         let want = Want::Read(Read::Recv, asker.mailbox());
         loop {
             let received = self.waiting(want).await;
@@ -192,10 +189,7 @@ impl<H: Holds<Bytes>> Seat<'_, Bytes, H> {
         question: M,
         mut wait: impl FnMut(&mut Self, Want<'static, Bytes>) -> Answer<Bytes>,
     ) -> Result<A, RequestError<M>> {
-        let asker = match self.ask(mailbox, &question) {
-            Ok(asker) => asker,
-            Err(error) => return Err(RequestError::new(question, false, error)),
-        };
+        let (asker, question) = self.ask(mailbox, question)?;
         let want = Want::Read(Read::Recv, asker.mailbox());
         loop {
             let received = wait(self, want);
@@ -205,8 +199,19 @@ impl<H: Holds<Bytes>> Seat<'_, Bytes, H> {
         }
     }
 
-    /// Sends a question: where its answer will be.
-    fn ask<Q: Message, A>(
+    /// Sends a question: who asks, and the question.
+    fn ask<Q: Message, A, M: SentAs<Q>>(
+        &mut self,
+        mailbox: Mailbox<Request<Q, A>>,
+        question: M,
+    ) -> Result<(Asker<A>, M), RequestError<M>> {
+        match self.send_question(mailbox, &question) {
+            Ok(asker) => Ok((asker, question)),
+            Err(error) => Err(RequestError::new(question, false, error)),
+        }
+    }
+
+    fn send_question<Q: Message, A>(
         &mut self,
         mailbox: Mailbox<Request<Q, A>>,
         question: &impl SentAs<Q>,
