@@ -8,7 +8,7 @@ mod common;
 use common::calls::{self, at_once, blocking, past, readers, refusal, timed, Names};
 use common::calls::{A_MILLISECOND, CHANNEL, IVAR, MAILBOX, MVAR, PORT};
 use common::{block_on, Board, Mailbox};
-use seryugo::{Error, Kind, Misfit, Missing, Numbers, Object, RestoreError, Switchboard, Version};
+use seryugo::{Error, Kind, Misfit, Missing, Numbers, Object, RestoreError, Switchboard};
 use std::process::Command;
 use std::time::Duration;
 
@@ -126,39 +126,6 @@ fn a_count_that_an_object_has_not_is_named() {
     board.seat().unwrap().close(names.port).unwrap();
     assert_eq!(board.got(names.port), Ok(0));
     assert_eq!(board.owed(names.port), count(Kind::Port, PORT));
-}
-
-/// What a person reads, who has the switchboard's journal beside it.
-#[test]
-fn errors_say_what_is_wrong() {
-    let board = Switchboard::new(100).unwrap();
-    let mut seat = board.seat().unwrap();
-    seat.ivar::<u64>().unwrap();
-    let texts = seat.mailbox::<String>().unwrap();
-    seat.send(board.mailbox::<u8>(texts.number()).unwrap(), 255).unwrap();
-    let unreadable = seat.recv(texts).unwrap_err();
-    let wanted = "alloc::string::String";
-    let bytes = vec![255];
-    assert_eq!(unreadable, Error::Unreadable { wanted, bytes });
-    let said = [
-        unreadable,
-        board.mailbox::<u64>(0).unwrap_err(),
-        board.mvar::<u64>(7).unwrap_err(),
-        Switchboard::new(100).unwrap().seat().unwrap().recv(texts).unwrap_err(),
-        board.got(board.ivar::<u64>(0).unwrap()).unwrap_err(),
-        board.drain(5).unwrap_err(),
-    ];
-    assert_eq!(
-        said.map(|error| error.to_string()),
-        [
-            "the message received, of 1 byte, is no `alloc::string::String`",
-            "object 0 is an i-variable, and no mailbox",
-            "there is no object 7 on this switchboard",
-            "mailbox 1 is another switchboard's",
-            "i-variable 0 has no such count of messages",
-            "there is no open lane 5 on this switchboard",
-        ]
-    );
 }
 
 /// After a cut the call is answered, or would wait.
@@ -442,58 +409,5 @@ fn runs_out_of_memory() {
     assert_eq!(
         (seat.send(mailbox, 0), board.sent(mailbox), board.lost()),
         (Ok(()), Ok(sent + 2), 0)
-    );
-}
-
-#[test]
-fn errors_have_plain_words() {
-    let version = |minor| Version::new(0, minor, 0);
-    let all = [
-        Error::Gone,
-        Error::Busy,
-        Error::NoSuch(Missing::Object(7)),
-        Error::NoSuch(Missing::Elsewhere(Kind::Port, 7)),
-        Error::NoSuch(Missing::Count(Kind::Port, 7)),
-        Error::NoSuch(Missing::Lane(7)),
-        Error::WrongKind(Misfit::Feed(7)),
-        Error::WrongKind(Misfit::Kind {
-            number: 7,
-            is: Kind::IVar,
-            wanted: Kind::MVar,
-        }),
-        Error::JournalFull,
-        Error::Stalled,
-        Error::NoMemory,
-        Error::Unseen,
-        Error::Full,
-        Error::OutOfBounds,
-        Error::TooLong,
-        Error::TimedOut,
-        Error::Declined,
-        Error::Unreadable {
-            wanted: "u64",
-            bytes: vec![1, 2],
-        },
-        Error::Version {
-            library: version(2),
-            wanted: version(1),
-        },
-        Error::Unknown(40),
-    ];
-    let mut texts = all.clone().map(|error| error.to_string());
-    texts.sort();
-    assert!(texts.windows(2).all(|pair| pair[0] != pair[1]));
-    assert!(texts.iter().all(|text| text.len() > 20 && !text.ends_with('.')));
-    let retryable: Vec<Error> = all.into_iter().filter(seryugo::Error::is_retryable).collect();
-    assert_eq!(
-        retryable,
-        [
-            Error::Busy,
-            Error::JournalFull,
-            Error::NoMemory,
-            Error::Unseen,
-            Error::Full,
-            Error::TimedOut
-        ]
     );
 }
