@@ -3,8 +3,8 @@
  * calls that block, include seryugo_switchboard.h. It begins with a program of fifteen lines.
  *
  * A room is a board of objects with a journal of every accepted call, and seats that make the calls. A thread sends on a lane
- * without the room's lock, and receives on a feed without it. docs/BINDINGS.md says how you link a program with the library, and
- * what is proved.
+ * without the room's lock, and receives on a feed without it. docs/INSTALL.md says how you link a program with the library, and
+ * docs/C.md what is proved.
  *
  * Keep these rules. The library tests all else.
  *

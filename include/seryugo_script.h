@@ -3,7 +3,7 @@
  *
  * A script says what objects there are and which calls each thread makes (docs/FORMATS.md). It is replayed on one thread:
  * the first step in text order that is its thread's next and needn't wait is performed, again and again. What comes of it is
- * a report, the same each time. docs/BINDINGS.md says how a program is linked with the library.
+ * a report, the same each time. docs/INSTALL.md says how a program is linked with the library.
  */
 #ifndef SERYUGO_SCRIPT_H
 #define SERYUGO_SCRIPT_H

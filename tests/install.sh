@@ -106,7 +106,7 @@ first_in_c() {
             "$prefix/include/seryugo_switchboard.h" > "$work/alone/program.c" && compiled -Wall -Wextra -Werror -pthread
 }
 
-# The samples in C of docs/BINDINGS.md, each the body of a function: one answers a message, the next appends a journal's text.
+# The samples in C of docs/C.md, each the body of a function: one answers a message, the next appends a journal's text.
 samples_in_c() {
     rm -rf "$work/alone" && mkdir "$work/alone" && {
         cat << 'END'
@@ -123,7 +123,7 @@ END
         awk '/^```c$/ { inside = 1; printf "\nstatic void sample_%d(void) {\n", ++count; next }
             /^```$/ && inside { inside = 0; print "}" }
             inside
-            END { print "\nstatic void samples(void) {"; for (i = 1; i <= count; i++) print "    sample_" i "();"; print "}" }' docs/BINDINGS.md
+            END { print "\nstatic void samples(void) {"; for (i = 1; i <= count; i++) print "    sample_" i "();"; print "}" }' docs/C.md
         cat << 'END'
 
 int main(void) {
@@ -158,7 +158,7 @@ from_c() {
     check 'a program needs the shared library' needs_the_shared_library
     check 'the version at run time, from C' prints "$version" version_in_c
     check 'the program in the header of switchboards' prints 'received 5' first_in_c
-    check 'the samples in C of docs/BINDINGS.md' samples_in_c
+    check 'the samples in C of docs/C.md' samples_in_c
     check 'the installed folder may be moved' built_elsewhere messages
 }
 
@@ -341,7 +341,6 @@ from_python() {
     fi
     if has mypy 'the types in Python'; then check 'the types in Python' typed; fi
     check "the README's example in Python" page bindings/python/README.md
-    check "the page's example in Python" page docs/BINDINGS.md
 }
 
 # What bindings/try.sh installs without a proof, from an empty environment.
