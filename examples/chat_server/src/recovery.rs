@@ -49,8 +49,8 @@ impl Found {
         for number in 0.. {
             match board.mvar::<Record>(number) {
                 Ok(slot) => found.add_slot(board, slot)?,
-                Err(Error::NoSuch) => break,
-                Err(Error::WrongKind) => found.add_port(board, number),
+                Err(Error::NoSuch(_)) => break,
+                Err(Error::WrongKind(_)) => found.add_port(board, number),
                 Err(error) => return Err(error.into()),
             }
         }
@@ -65,8 +65,8 @@ impl Found {
         match board.held(slot) {
             Ok(Some(record)) => self.records.push((slot, record)),
             Ok(None) => self.free.push(slot),
-            Err(Error::Unreadable(_)) if slot.number() == 0 => return Err(Foreign::NoChat),
-            Err(Error::Unreadable(_)) => return Err(Foreign::BadRecord(slot.number())),
+            Err(Error::Unreadable { .. }) if slot.number() == 0 => return Err(Foreign::NoChat),
+            Err(Error::Unreadable { .. }) => return Err(Foreign::BadRecord(slot.number())),
             Err(error) => return Err(error.into()),
         }
         Ok(())

@@ -67,7 +67,7 @@ fn mailboxes(board: &Switchboard<Numbers>) -> Result<Vec<Mailbox<u64>>, Error> {
     let mut seat = board.seat()?;
     (0..THREADS)
         .map(|number| match board.mailbox(number) {
-            Err(Error::NoSuch) => seat.mailbox(),
+            Err(Error::NoSuch(_)) => seat.mailbox(),
             found => found,
         })
         .collect()
