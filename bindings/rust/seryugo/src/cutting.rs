@@ -47,6 +47,7 @@ impl<R: Room> Switchboard<R> {
     ///
     /// `Busy`: a lane or a feed is open. Then nothing is cut.
     pub fn cut(&self) -> Result<(), Error> {
+        self.pass_to_look_at_all();
         self.lock().cut(raw::seryugo_cut)
     }
 
@@ -67,6 +68,7 @@ impl<R: Room> Switchboard<R> {
     /// `Busy`: a lane or a feed is open. `NoMemory`. `NotKept`: the switchboard has older entries,
     /// which nobody takes. Then nothing is cut.
     pub fn take_journal(&self) -> Result<Journal<R>, Error> {
+        self.pass_to_look_at_all();
         self.lock().take_journal(raw::seryugo_take_journal)
     }
 
@@ -94,6 +96,7 @@ impl<R: Room> Switchboard<R> {
     ///
     /// None that the library of this version returns.
     pub fn cut_open(&self) -> Result<(), Error> {
+        self.pass_to_look_at_all();
         self.lock().cut(raw::seryugo_cut_open)
     }
 
@@ -119,6 +122,7 @@ impl<R: Room> Switchboard<R> {
     /// `NoMemory`. `NotKept`: the switchboard has older entries, which nobody takes
     /// ([`when_full`](Switchboard::when_full)). Then nothing is cut.
     pub fn take_journal_open(&self) -> Result<Journal<R>, Error> {
+        self.pass_to_look_at_all();
         self.lock().take_journal(raw::seryugo_take_journal_open)
     }
 
@@ -148,6 +152,7 @@ impl<R: Room> Switchboard<R> {
     ///
     /// `NoMemory`.
     pub fn compact(&self) -> Result<Journal<R>, Error> {
+        self.pass_to_look_at_all();
         self.lock().compact()
     }
 
@@ -186,6 +191,7 @@ impl<R: Room> Switchboard<R> {
     ///
     /// `NoMemory`. Then nothing is cut.
     pub fn compact_and_cut(&self) -> Result<Journal<R>, Error> {
+        self.pass_to_look_at_all();
         self.lock().compact_and_cut()
     }
 
@@ -244,6 +250,7 @@ impl<R: Room> Switchboard<R> {
         &self,
         keep: impl FnOnce(&Journal<R>) -> io::Result<T>,
     ) -> io::Result<T> {
+        self.pass_to_look_at_all();
         self.lock().compact_with(keep)
     }
 
@@ -263,6 +270,7 @@ impl<R: Room> Switchboard<R> {
     /// # Ok::<(), seryugo::Error>(())
     /// ```
     pub fn entry(&self, at: u64) -> Option<Entry<R>> {
+        self.pass_to_look_at_all();
         found(R::entry(&mut self.lock().handle, at))
     }
 
@@ -277,6 +285,7 @@ impl<R: Room> Switchboard<R> {
     /// # Ok::<(), seryugo::Error>(())
     /// ```
     pub fn entries(&self) -> u64 {
+        self.pass_to_look_at_all();
         self.lock().count(raw::seryugo_entries)
     }
 
@@ -292,6 +301,7 @@ impl<R: Room> Switchboard<R> {
     /// # Ok::<(), seryugo::Error>(())
     /// ```
     pub fn cut_at(&self) -> u64 {
+        self.pass_to_look_at_all();
         self.lock().count(raw::seryugo_cut_at)
     }
 
@@ -348,6 +358,7 @@ impl<R: Room> Switchboard<R> {
     /// `NotKept`: nobody took the entries, and the switchboard keeps them. `NoMemory`: nothing is
     /// cut.
     pub fn keep(&self) -> Result<(), Error> {
+        self.pass_to_look_at_all();
         self.lock().keep()
     }
 

@@ -46,6 +46,7 @@ pub struct Feed<'a, R: Room, T, H: Holds<R> = &'a Switchboard<R>> {
 impl<R: Room, T, H: Holds<R>> Feed<'_, R, T, H> {
     /// Opens a feed at a switchboard.
     pub(crate) fn at(board: H, channel: Channel<T>, capacity: usize) -> Result<Self, Error> {
+        board.refuse_if_explored("feeds");
         let channel = board.here(channel)?;
         let mut number = 0;
         let open = |room: &mut Handle| {

@@ -57,6 +57,7 @@ pub struct Lane<'a, R: Room, T, H: Holds<R> = &'a Switchboard<R>> {
 impl<'a, R: Room, T, H: Holds<R>> Lane<'a, R, T, H> {
     /// Opens a lane at a switchboard.
     pub(crate) fn at(board: H, target: impl Named, capacity: usize) -> Result<Self, Error> {
+        board.refuse_if_explored("lanes");
         let target = board.here(target)?;
         let (handle, number) = board.lock().open_lane(target, capacity)?;
         Ok(Lane {

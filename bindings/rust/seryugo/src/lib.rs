@@ -172,6 +172,7 @@ mod checker;
 mod cutting;
 mod entry;
 mod error;
+pub mod explore;
 mod feed;
 mod guest;
 mod halves;

@@ -1,6 +1,7 @@
 //! The calls of a seat that make objects, and close a port.
 
 use crate::error::{handing_back, Error, SendError};
+use crate::explore::{Kind, Step};
 use crate::kind::Misfit;
 use crate::names::{Channel, IVar, MVar, Mailbox, Named, Port};
 use crate::owned::Holds;
@@ -27,7 +28,9 @@ impl<R: Room, H: Holds<R>> Seat<'_, R, H> {
     where
         R: Carries<T>,
     {
-        self.make(|room, seat, name| raw::seryugo_new_mailbox(room, seat, name))
+        self.make(Kind::Mailbox.makes(), |room, seat, name| {
+            raw::seryugo_new_mailbox(room, seat, name)
+        })
     }
 
     /// Makes a channel of messages of a type.
@@ -47,7 +50,9 @@ impl<R: Room, H: Holds<R>> Seat<'_, R, H> {
     where
         R: Carries<T>,
     {
-        self.make(|room, seat, name| raw::seryugo_new_channel(room, seat, name))
+        self.make(Kind::Channel.makes(), |room, seat, name| {
+            raw::seryugo_new_channel(room, seat, name)
+        })
     }
 
     /// Makes a port of a channel, which receives what is multicast from now on.
@@ -68,7 +73,9 @@ impl<R: Room, H: Holds<R>> Seat<'_, R, H> {
     /// [The usual ones](crate::Seat#how-a-call-fails).
     pub fn port<T>(&mut self, channel: Channel<T>) -> Result<Port<T>, Error> {
         let channel = self.here(channel)?;
-        self.make(|room, seat, name| raw::seryugo_new_port(room, seat, channel, name))
+        self.make(Kind::Port.on(channel), |room, seat, name| {
+            raw::seryugo_new_port(room, seat, channel, name)
+        })
     }
 
     /// Makes a port at this port's place. Returns `None` if this port was closed.
@@ -92,7 +99,9 @@ impl<R: Room, H: Holds<R>> Seat<'_, R, H> {
     pub fn copy<T>(&mut self, port: Port<T>) -> Result<Option<Port<T>>, Error> {
         let port = self.here(port)?;
         let mut number = 0;
-        let code = self.call(|room, seat| raw::seryugo_copy_port(room, seat, port, &mut number));
+        let code = self.call(Kind::Copy.on(port), |room, seat| {
+            raw::seryugo_copy_port(room, seat, port, &mut number)
+        });
         let is_open = done_or(code, code::CLOSED)?;
         Ok(is_open.then(|| self.board.name(number)))
     }
@@ -115,7 +124,8 @@ impl<R: Room, H: Holds<R>> Seat<'_, R, H> {
     /// [The usual ones](crate::Seat#how-a-call-fails).
     pub fn close<T>(&mut self, port: Port<T>) -> Result<bool, Error> {
         let port = self.here(port)?;
-        let code = self.call(|room, seat| raw::seryugo_close_port(room, seat, port));
+        let code =
+            self.call(Kind::Close.on(port), |room, seat| raw::seryugo_close_port(room, seat, port));
         done_or(code, code::CLOSED).map_err(|error| error.misfit(Misfit::Feed(port)))
     }
 
@@ -137,7 +147,7 @@ impl<R: Room, H: Holds<R>> Seat<'_, R, H> {
     where
         R: Carries<T>,
     {
-        self.make(|room, seat, name| raw::seryugo_new_ivar(room, seat, name))
+        self.make(Kind::IVar.makes(), |room, seat, name| raw::seryugo_new_ivar(room, seat, name))
     }
 
     /// Makes an empty m-variable.
@@ -159,7 +169,7 @@ impl<R: Room, H: Holds<R>> Seat<'_, R, H> {
     where
         R: Carries<T>,
     {
-        self.make(|room, seat, name| raw::seryugo_new_mvar(room, seat, name))
+        self.make(Kind::MVar.makes(), |room, seat, name| raw::seryugo_new_mvar(room, seat, name))
     }
 
     /// Makes an m-variable that holds this, of this type.
@@ -180,17 +190,20 @@ impl<R: Room, H: Holds<R>> Seat<'_, R, H> {
         R: Carries<T>,
     {
         let made = R::with_sent(&message, |sent| {
-            self.make(|room, seat, name| R::mvar_init(room, seat, sent, name))
+            self.make(Kind::MVarInit.makes(), |room, seat, name| {
+                R::mvar_init(room, seat, sent, name)
+            })
         });
         handing_back(made, message)
     }
 
     fn make<N: Named>(
         &mut self,
+        step: Step,
         call: impl FnOnce(&mut Handle, u64, &mut u64) -> u32,
     ) -> Result<N, Error> {
         let mut number = 0;
-        done(self.call(|room, seat| call(room, seat, &mut number)))?;
+        done(self.call(step, |room, seat| call(room, seat, &mut number)))?;
         Ok(self.board.name(number))
     }
 }

@@ -132,6 +132,7 @@ impl<R: Room> Switchboard<R> {
 
     /// The name of an object of this number, if it has this kind.
     fn named<N: Named>(&self, number: u64) -> Result<N, Error> {
+        self.pass_to_look_at_all();
         let (is, wanted) = (self.kind(number)?, N::KIND);
         if is == wanted {
             Ok(self.name(number))
@@ -260,6 +261,7 @@ impl<R: Room> Switchboard<R> {
         R: Carries<V::Message>,
     {
         let variable = self.here(variable)?;
+        self.pass_to_look(variable);
         let mut found = R::nothing();
         let code = R::held(&mut self.lock().handle, variable, &mut found);
         match code {
@@ -287,6 +289,7 @@ impl<R: Room> Switchboard<R> {
     /// `NoSuch`: the name is of another switchboard.
     pub fn is_open<T>(&self, port: Port<T>) -> Result<bool, Error> {
         let port = self.here(port)?;
+        self.pass_to_look(port);
         done_or(raw::seryugo_is_open(&mut self.lock().handle, port), code::CLOSED)
     }
 
@@ -338,6 +341,7 @@ impl<R: Room> Switchboard<R> {
 
     /// A number that the object with this number has.
     fn number_of(&self, object: u64, call: Reader) -> Result<u64, Error> {
+        self.pass_to_look(object);
         let room = &mut self.lock().handle;
         written(|number| call(room, object, number))
     }

@@ -19,6 +19,7 @@ pub mod code {
     pub const NO_SUCH: u32 = 7;
     pub const WRONG_KIND: u32 = 8;
     pub const JOURNAL_FULL: u32 = 9;
+    pub const STALLED: u32 = 10;
     pub const NO_MEMORY: u32 = 11;
     pub const UNLAWFUL: u32 = 17;
     pub const FAULT: u32 = 18;

@@ -3,6 +3,7 @@
 use crate::asking::Answers;
 use crate::calls::{received, Give, Read};
 use crate::error::{handing_back, Error, SendError};
+use crate::explore::Step;
 use crate::kind::Misfit;
 use crate::names::{Channel, MVar, Mailbox, Named, Source, Variable};
 use crate::owned::Holds;
@@ -140,7 +141,9 @@ impl<R: Room, H: Holds<R>> Seat<'_, R, H> {
     {
         let sent = self.here(mailbox).and_then(|mailbox| {
             done(R::with_sent(&message, |sent| {
-                self.call(|room, seat| R::give(Give::Send, room, seat, mailbox, sent))
+                self.call(Give::Send.on(mailbox), |room, seat| {
+                    R::give(Give::Send, room, seat, mailbox, sent)
+                })
             }))
         });
         handing_back(sent, message)
@@ -173,7 +176,9 @@ impl<R: Room, H: Holds<R>> Seat<'_, R, H> {
     {
         let sent = self.here(channel).and_then(|channel| {
             done(R::with_sent(&message, |sent| {
-                self.call(|room, seat| R::give(Give::Multicast, room, seat, channel, sent))
+                self.call(Give::Multicast.on(channel), |room, seat| {
+                    R::give(Give::Multicast, room, seat, channel, sent)
+                })
             }))
         });
         handing_back(sent, message)
@@ -202,9 +207,11 @@ impl<R: Room, H: Holds<R>> Seat<'_, R, H> {
         R: Carries<S::Message>,
     {
         let source = self.here(source)?;
-        let found = self.poll(|room, seat, to| match R::poll(Read::Recv, room, seat, source, to) {
-            code::CLOSED => code::NOTHING,
-            code => code,
+        let found = self.poll(Read::Recv.poll_of(source), |room, seat, to| {
+            match R::poll(Read::Recv, room, seat, source, to) {
+                code::CLOSED => code::NOTHING,
+                code => code,
+            }
         });
         found.map_err(|error| error.misfit(Misfit::Feed(source)))
     }
@@ -235,7 +242,9 @@ impl<R: Room, H: Holds<R>> Seat<'_, R, H> {
     {
         let put = self.here(variable).and_then(|variable| {
             let code = R::with_sent(&message, |sent| {
-                self.call(|room, seat| R::give(Give::Put, room, seat, variable, sent))
+                self.call(Give::Put.on(variable), |room, seat| {
+                    R::give(Give::Put, room, seat, variable, sent)
+                })
             });
             done_or(code, code::PUT)
         });
@@ -264,7 +273,9 @@ impl<R: Room, H: Holds<R>> Seat<'_, R, H> {
         R: Carries<V::Message>,
     {
         let variable = self.here(variable)?;
-        self.poll(|room, seat, to| R::poll(Read::Get, room, seat, variable, to))
+        self.poll(Read::Get.poll_of(variable), |room, seat, to| {
+            R::poll(Read::Get, room, seat, variable, to)
+        })
     }
 
     /// Reads and empties an m-variable. Returns `None` if it is empty.
@@ -288,7 +299,9 @@ impl<R: Room, H: Holds<R>> Seat<'_, R, H> {
         R: Carries<T>,
     {
         let variable = self.here(variable)?;
-        self.poll(|room, seat, to| R::poll(Read::Take, room, seat, variable, to))
+        self.poll(Read::Take.poll_of(variable), |room, seat, to| {
+            R::poll(Read::Take, room, seat, variable, to)
+        })
     }
 
     /// The number of an object of this switchboard.
@@ -301,21 +314,23 @@ impl<R: Room, H: Holds<R>> Seat<'_, R, H> {
     #[inline]
     fn poll<T>(
         &mut self,
+        step: Step,
         call: impl FnOnce(&mut Handle, u64, &mut R::Received) -> u32,
     ) -> Result<Option<T>, Error>
     where
         R: Carries<T>,
     {
         let mut found = R::nothing();
-        match self.call(|room, seat| call(room, seat, &mut found)) {
+        match self.call(step, |room, seat| call(room, seat, &mut found)) {
             code::NOTHING => Ok(None),
             code => received::<R, T>(code, found).map(Some),
         }
     }
 
     #[inline]
-    pub(crate) fn call(&mut self, call: impl FnOnce(&mut Handle, u64) -> u32) -> u32 {
+    pub(crate) fn call(&mut self, step: Step, call: impl FnOnce(&mut Handle, u64) -> u32) -> u32 {
         let seat = self.ready();
+        self.board.pass(seat, step);
         self.board.change(Some(&self.parker), |inside| inside.enter(|room| call(room, seat)))
     }
 

@@ -2,6 +2,7 @@
 
 use crate::apart::Apart;
 use crate::error::Error;
+use crate::explore::Play;
 use crate::feed::Feed;
 use crate::inside::Inside;
 use crate::kind::Missing;
@@ -15,7 +16,7 @@ use crate::version;
 use std::fmt;
 use std::marker::PhantomData;
 use std::sync::atomic::{AtomicU64, Ordering};
-use std::sync::{Mutex, PoisonError};
+use std::sync::{Arc, Mutex, PoisonError};
 
 /// Objects, the journal of every call that was accepted, and the seats from which threads call.
 ///
@@ -43,6 +44,8 @@ pub struct Switchboard<R: Room = Bytes> {
     pub(crate) parkers: Parkers,
     /// No other switchboard of the process has it. The names of the objects have it too.
     number: u64,
+    /// The exploration that has it.
+    pub(crate) explored: Option<Arc<Play>>,
     kind: PhantomData<fn() -> R>,
 }
 
@@ -92,7 +95,7 @@ impl Switchboard<Numbers> {
 }
 
 impl<R: Room> Switchboard<R> {
-    fn open(limit: u64) -> Result<Switchboard<R>, Error> {
+    pub(crate) fn open(limit: u64) -> Result<Switchboard<R>, Error> {
         version::check()?;
         Ok(Switchboard::over(Handle::opened(|room| R::open(limit, room))?, limit))
     }
@@ -104,6 +107,7 @@ impl<R: Room> Switchboard<R> {
             inside: Apart(Mutex::new(Inside::new(handle, limit))),
             parkers: Parkers::new(),
             number: MADE.fetch_add(1, Ordering::Relaxed),
+            explored: None,
             kind: PhantomData,
         }
     }

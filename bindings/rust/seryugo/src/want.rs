@@ -2,6 +2,7 @@
 
 use crate::calls::{Calls, Read};
 use crate::error::Error;
+use crate::explore::{Kind, Step};
 use crate::kind::Misfit;
 use crate::names::Source;
 use crate::owned::Holds;
@@ -21,6 +22,15 @@ pub(crate) enum Want<'m, R: Room> {
 }
 
 impl<R: Room> Want<'_, R> {
+    /// What an exploration knows of it.
+    #[inline]
+    fn step(self) -> Step {
+        match self {
+            Want::Read(call, object) => call.ask_of(object),
+            Want::Swap(variable, _) => Kind::Swap.on(variable),
+        }
+    }
+
     #[inline]
     fn ask(self, room: &mut Handle, seat: u64, is_again: bool, to: &mut R::Received) -> u32 {
         let code = match self {
@@ -87,6 +97,7 @@ impl<'a, R: Room, H: Holds<R>> Seat<'a, R, H> {
     #[inline]
     pub(crate) fn wait(&mut self, want: Want<'_, R>) -> Answer<R> {
         let seat = self.ready();
+        self.board.pass_to_wait(seat, want.step(), false)?;
         let mut received = R::nothing();
         let mut code =
             self.board.ask(&self.parker, false, |room| want.ask(room, seat, false, &mut received));
@@ -114,6 +125,7 @@ impl<'a, R: Room, H: Holds<R>> Seat<'a, R, H> {
     /// is parked, it withdraws it before others have the lock.
     pub(crate) fn wait_until(&mut self, want: Want<'_, R>, deadline: Instant) -> Answer<R> {
         let seat = self.ready();
+        self.board.pass_to_wait(seat, want.step(), true)?;
         let mut received = R::nothing();
         let mut is_again = false;
         let mut is_last = deadline <= Instant::now();
@@ -141,6 +153,7 @@ impl<'a, R: Room, H: Holds<R>> Seat<'a, R, H> {
 
     /// The same as a future.
     pub(crate) fn waiting<'m>(&mut self, want: Want<'m, R>) -> Waiting<'_, 'a, 'm, R, H> {
+        self.board.refuse_if_explored("futures");
         self.ready();
         Waiting { seat: self, want }
     }

@@ -1,0 +1,195 @@
+//! What an exploration asks and makes of a switchboard.
+
+use super::moves::Move;
+use super::play::Play;
+use super::step::{Kind, Step, NONE};
+use crate::calls::Read;
+use crate::entry::Entry;
+use crate::raw::{self, code, written, Handle};
+use crate::room::Room;
+use crate::switchboard::Switchboard;
+use crate::want::Refused;
+use std::hash::{DefaultHasher, Hash, Hasher};
+
+/// How a step ends.
+#[derive(Clone, Copy, PartialEq, Eq, Debug)]
+pub(crate) enum Pass {
+    /// It is made.
+    Go,
+    /// Its time has passed.
+    TimedOut,
+    /// It fails as stalled.
+    Stalled,
+}
+
+/// What a step finds.
+pub(crate) struct Look {
+    /// Whether the call would be answered now.
+    pub is_answered: bool,
+    /// As [`Move::is_full`].
+    pub is_full: bool,
+}
+
+/// A switchboard of some kind that is explored.
+pub(crate) trait Board: Send + Sync {
+    fn look(&self, step: Step) -> Look;
+    /// The channel of this port, or `NONE`.
+    fn channel(&self, port: u64) -> u64;
+    /// How many entries the journal has had, and how many it has.
+    fn entries(&self) -> (u64, u64);
+    /// The call and the reply of the entry at this place, each as a number.
+    fn entry_sums(&self, at: u64) -> Option<(u64, u64)>;
+    /// The journal as text, which is taken.
+    fn text(&self) -> String;
+    /// Whether one of these calls would fail as stalled, if all of them were made.
+    fn tells_stall(&self, waits: &[(u64, Step)]) -> bool;
+}
+
+impl<R: Room> Board for Switchboard<R> {
+    fn look(&self, step: Step) -> Look {
+        let room = &mut self.lock().handle;
+        let is_full = match step.kind {
+            Kind::Send => is_owed(room, step.object),
+            Kind::Recv | Kind::Poll => {
+                is_owed(room, step.object)
+                    || raw::seryugo_is_open(room, step.object) == code::CLOSED
+            }
+            Kind::Put | Kind::Get | Kind::GetPoll | Kind::Take | Kind::TakePoll | Kind::Swap => {
+                R::held(room, step.object, &mut R::nothing()) == code::DONE
+            }
+            _ => false,
+        };
+        Look {
+            is_answered: is_full || !step.kind.blocks(),
+            is_full,
+        }
+    }
+
+    fn channel(&self, port: u64) -> u64 {
+        let room = &mut self.lock().handle;
+        written(|channel| raw::seryugo_channel_of(room, port, channel)).unwrap_or(NONE)
+    }
+
+    fn entries(&self) -> (u64, u64) {
+        let mut inside = self.lock();
+        let (all, cut) = (inside.count(raw::seryugo_entries), inside.count(raw::seryugo_cut_at));
+        (all, all - cut)
+    }
+
+    fn entry_sums(&self, at: u64) -> Option<(u64, u64)> {
+        let entry: Entry<R> = R::entry(&mut self.lock().handle, at).ok()?;
+        Some((sum_of(&entry.call), sum_of(&entry.reply)))
+    }
+
+    fn text(&self) -> String {
+        let mut text = Vec::new();
+        let taken = self.lock().take_journal(raw::seryugo_take_journal_open);
+        match taken.map(|journal| journal.write_to(&mut text)) {
+            Ok(Ok(())) => String::from_utf8_lossy(&text).into_owned(),
+            Ok(Err(error)) => format!("the journal can't be written: {error}\n"),
+            Err(error) => format!("the journal can't be taken: {error}\n"),
+        }
+    }
+
+    fn tells_stall(&self, waits: &[(u64, Step)]) -> bool {
+        let mut inside = self.lock();
+        let mut is_told = false;
+        for &(seat, step) in waits {
+            let read = match step.kind {
+                Kind::Recv => Read::Recv,
+                Kind::Get => Read::Get,
+                // A swap waits as a take does.
+                _ => Read::Take,
+            };
+            let mut found = R::nothing();
+            let code =
+                inside.ask(false, |room| R::ask(read, room, seat, step.object, false, &mut found));
+            is_told = code == code::STALLED;
+        }
+        for &(seat, _) in waits {
+            inside.withdraw(seat);
+        }
+        is_told
+    }
+}
+
+fn is_owed(room: &mut Handle, object: u64) -> bool {
+    written(|owed| raw::seryugo_owed(room, object, owed)).is_ok_and(|owed| owed != 0)
+}
+
+pub(crate) fn sum_of(value: &impl Hash) -> u64 {
+    let mut hasher = DefaultHasher::new();
+    value.hash(&mut hasher);
+    hasher.finish()
+}
+
+impl Move {
+    /// Whether it is on an object that has a channel beside it.
+    pub(crate) fn is_on_port(step: Step) -> bool {
+        matches!(step.kind, Kind::Recv | Kind::Poll | Kind::Close | Kind::Copy | Kind::Look)
+    }
+}
+
+/// In an exploration each of these waits until it is this thread's turn. Otherwise it is a branch.
+impl<R: Room> Switchboard<R> {
+    /// Before a call that never blocks.
+    #[inline]
+    pub(crate) fn pass(&self, seat: u64, step: Step) {
+        if let Some(play) = &self.explored {
+            play.pass(self, seat, step, false);
+        }
+    }
+
+    /// Before a call that may block. If it returns `Ok`, it doesn't.
+    #[inline]
+    pub(crate) fn pass_to_wait(
+        &self,
+        seat: u64,
+        step: Step,
+        is_timed: bool,
+    ) -> Result<(), Refused> {
+        match &self.explored {
+            None => Ok(()),
+            Some(play) => match play.pass(self, seat, step, is_timed) {
+                Pass::Go => Ok(()),
+                Pass::TimedOut => Err(Refused::TimedOut),
+                Pass::Stalled => Err(Refused::Code(code::STALLED)),
+            },
+        }
+    }
+
+    /// Before what an object has is read.
+    #[inline]
+    pub(crate) fn pass_to_look(&self, object: u64) {
+        self.pass(NONE, Kind::Look.on(object));
+    }
+
+    /// Before the journal is read or cut.
+    #[inline]
+    pub(crate) fn pass_to_look_at_all(&self) {
+        self.pass(NONE, Kind::LookAtAll.on(NONE));
+    }
+
+    /// Before what an exploration doesn't know.
+    ///
+    /// # Panics
+    ///
+    /// In an exploration.
+    #[inline]
+    pub(crate) fn refuse_if_explored(&self, what: &str) {
+        if self.explored.is_some() {
+            refuse(what);
+        }
+    }
+
+    /// Has this exploration choose who calls.
+    pub(crate) fn explored_by(mut self, play: std::sync::Arc<Play>) -> Switchboard<R> {
+        self.explored = Some(play);
+        self
+    }
+}
+
+#[cold]
+fn refuse(what: &str) -> ! {
+    panic!("an exploration doesn't know {what} yet: use the calls of seats that block")
+}

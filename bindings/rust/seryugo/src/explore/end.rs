@@ -1,0 +1,109 @@
+//! How a run ends.
+
+use std::fmt;
+
+/// How a run of a program ends.
+#[derive(Clone, Debug, PartialEq, Eq)]
+#[non_exhaustive]
+pub enum End {
+    /// All threads came to their ends.
+    Done,
+    /// No thread can go on. These wait.
+    Stalled {
+        /// Each thread that waits, and at what.
+        waits: Vec<Waits>,
+        /// Whether one of these calls would fail with [`Stalled`](crate::Error::Stalled) outside an
+        /// exploration. If not, all of them block for ever: some seat is free, or a guest is there.
+        is_told: bool,
+    },
+    /// A thread panicked.
+    Panicked {
+        /// The thread's number. The first one has 0.
+        thread: usize,
+        /// What it said, and where.
+        message: String,
+    },
+    /// The journal was full.
+    Full,
+    /// The run was longer than the bound of steps.
+    Endless {
+        /// The bound.
+        steps: u64,
+        /// What the last steps were, each once.
+        last: Vec<Waits>,
+    },
+    /// After the same choices as before, the program went on differently.
+    NotDeterministic(String),
+    /// A thread made a call that [`scope`](super::scope) hasn't started.
+    UnknownThread(String),
+    /// The schedule isn't one of this program.
+    Unfit(String),
+}
+
+/// A thread at a call.
+#[derive(Clone, Debug, PartialEq, Eq)]
+pub struct Waits {
+    /// The thread's number. The first one has 0.
+    pub thread: usize,
+    /// The seat from which it calls.
+    pub seat: Option<u64>,
+    /// The call with its object, in the journal's words. `None`: it joins threads.
+    pub call: Option<String>,
+}
+
+impl End {
+    /// Whether something is to be reported.
+    pub(crate) fn is_bad(&self) -> bool {
+        *self != End::Done
+    }
+
+    /// Whether the other end is as this one, but for what the numbers are.
+    pub(crate) fn is_like(&self, other: &End) -> bool {
+        match (self, other) {
+            (End::Panicked { message, .. }, End::Panicked { message: other, .. }) => {
+                message == other
+            }
+            _ => std::mem::discriminant(self) == std::mem::discriminant(other),
+        }
+    }
+}
+
+impl fmt::Display for Waits {
+    fn fmt(&self, f: &mut fmt::Formatter<'_>) -> fmt::Result {
+        write!(f, "thread {}", self.thread)?;
+        match (self.seat, &self.call) {
+            (Some(seat), Some(call)) => write!(f, " (seat {seat}) at {call}"),
+            (None, Some(call)) => write!(f, " at {call}"),
+            (_, None) => f.write_str(" joins other threads"),
+        }
+    }
+}
+
+impl fmt::Display for End {
+    fn fmt(&self, f: &mut fmt::Formatter<'_>) -> fmt::Result {
+        match self {
+            End::Done => f.write_str("done"),
+            End::Stalled { waits, is_told } => {
+                f.write_str("stalled: no thread can go on\n")?;
+                waits.iter().try_for_each(|waits| writeln!(f, "  {waits}"))?;
+                f.write_str(match is_told {
+                    true => "outside an exploration one of these calls fails with `Stalled`",
+                    false => {
+                        "outside an exploration these calls block for ever, without `Stalled`: \
+                         some seat is free, or somebody is awaited"
+                    }
+                })
+            }
+            End::Panicked { thread, message } => write!(f, "thread {thread} panicked: {message}"),
+            End::Full => f.write_str("the journal was full"),
+            End::Endless { steps, last } => {
+                writeln!(f, "no end within {steps} steps; the last ones were")?;
+                let lines: Vec<String> = last.iter().map(|step| format!("  {step}")).collect();
+                f.write_str(&lines.join("\n"))
+            }
+            End::NotDeterministic(why) | End::UnknownThread(why) | End::Unfit(why) => {
+                f.write_str(why)
+            }
+        }
+    }
+}

@@ -1,0 +1,122 @@
+//! What an exploration has found.
+
+use super::end::End;
+use std::fmt;
+
+/// What [`explore`](super::explore) has found. Its text is what a failing test shows.
+#[derive(Clone, Debug)]
+#[must_use = "see whether it is clean"]
+pub struct Found {
+    pub(crate) way: String,
+    pub(crate) runs: u64,
+    pub(crate) repeats: u64,
+    pub(crate) is_whole: bool,
+    pub(crate) beside: Option<String>,
+    pub(crate) bad: Option<Bad>,
+}
+
+/// A run that ended badly.
+#[derive(Clone, Debug)]
+pub struct Bad {
+    pub(crate) run: u64,
+    pub(crate) end: End,
+    pub(crate) schedule: String,
+    pub(crate) journal: String,
+}
+
+impl Found {
+    /// Whether no run ended badly.
+    #[must_use]
+    pub fn is_clean(&self) -> bool {
+        self.bad.is_none()
+    }
+
+    /// Whether every order was run, or one like it. If some runs are missing, and none ended badly,
+    /// give [`explore`](super::explore) more of them, or another [`Way`](super::Way).
+    #[must_use]
+    pub fn is_whole(&self) -> bool {
+        self.is_whole
+    }
+
+    /// How many runs there were until the first bad one.
+    #[must_use]
+    pub fn runs(&self) -> u64 {
+        self.runs
+    }
+
+    /// How many of them left the same as a run before. They were run to see that they do.
+    #[must_use]
+    pub fn repeats(&self) -> u64 {
+        self.repeats
+    }
+
+    /// Why something beside the board decides what the threads do. If it does,
+    /// [`Way::every`](super::Way::every) goes on as [`every_plainly`](super::Way::every_plainly).
+    #[must_use]
+    pub fn beside(&self) -> Option<&str> {
+        self.beside.as_deref()
+    }
+
+    /// The run that ended badly, if there was one.
+    #[must_use]
+    pub fn bad(&self) -> Option<&Bad> {
+        self.bad.as_ref()
+    }
+}
+
+impl Bad {
+    /// Which run it was, from 1.
+    #[must_use]
+    pub fn run(&self) -> u64 {
+        self.run
+    }
+
+    /// How it ended.
+    #[must_use]
+    pub fn end(&self) -> &End {
+        &self.end
+    }
+
+    /// Who went on at each choice: [`again`](super::again) takes it.
+    #[must_use]
+    pub fn schedule(&self) -> &str {
+        &self.schedule
+    }
+
+    /// The journal as text, as [`Journal::write_to`](crate::Journal::write_to) writes it.
+    #[must_use]
+    pub fn journal(&self) -> &str {
+        &self.journal
+    }
+}
+
+impl fmt::Display for Found {
+    fn fmt(&self, f: &mut fmt::Formatter<'_>) -> fmt::Result {
+        match &self.bad {
+            Some(bad) => write!(f, "run {} of {}: {bad}", bad.run, self.way)?,
+            None => {
+                let runs = if self.runs == 1 { "run" } else { "runs" };
+                write!(f, "no bad end in {} {runs} of {}", self.runs, self.way)?;
+                if !self.is_whole {
+                    f.write_str(", which were not all")?;
+                }
+            }
+        }
+        match &self.beside {
+            Some(beside) => write!(f, "\n{beside}"),
+            None => Ok(()),
+        }
+    }
+}
+
+impl fmt::Display for Bad {
+    fn fmt(&self, f: &mut fmt::Formatter<'_>) -> fmt::Result {
+        let Bad {
+            end,
+            schedule,
+            journal,
+            ..
+        } = self;
+        write!(f, "{end}\nto run it again: explore::again(\"{schedule}\", program)\n{journal}")
+    }
+}

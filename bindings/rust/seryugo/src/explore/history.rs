@@ -1,0 +1,88 @@
+//! Whether what the threads do depends on the board alone.
+//!
+//! A thread's history is what it was started with, its calls and their replies. If two runs have a
+//! thread with the same history, and it goes on differently, then something beside the board
+//! decides. So orders aren't the same in which only steps are exchanged that commute on the board.
+
+use super::choose::mix;
+use std::collections::HashMap;
+use std::hash::{BuildHasherDefault, Hasher};
+
+/// It keeps at most so many histories.
+const MOST: usize = 2_000_000;
+
+/// What each thread's history was followed by, in all runs.
+#[derive(Default)]
+pub(crate) struct History {
+    followed: HashMap<u64, u64, BuildHasherDefault<Sum>>,
+    /// A number for all steps of the run so far, in their order.
+    all: u64,
+}
+
+/// What a thread has done in this run.
+#[derive(Clone, Copy, Default)]
+pub(crate) struct Done {
+    sum: u64,
+}
+
+impl History {
+    pub fn begin(&mut self) {
+        self.all = 0;
+    }
+
+    /// A thread that this one starts, as its child of this number.
+    pub fn child(parent: Done, number: usize) -> Done {
+        Done {
+            sum: mix(parent.sum, number as u64 + 1),
+        }
+    }
+
+    /// A thread has made a call. `false`: it made another one after the same history.
+    pub fn made(&mut self, done: &mut Done, call: u64, reply: u64) -> bool {
+        let is_same = self.is_followed(mix(done.sum, 1), call);
+        done.sum = mix(mix(done.sum, call), reply);
+        self.all = mix(self.all, done.sum);
+        is_same
+    }
+
+    /// A thread has seen what any thread may have changed.
+    pub fn saw_all(&mut self, done: &mut Done) {
+        done.sum = mix(done.sum, self.all);
+    }
+
+    /// A thread has joined another one.
+    pub fn joined(done: &mut Done, other: Done) {
+        done.sum = mix(done.sum, other.sum);
+    }
+
+    /// A thread comes to this step, or to its end. `false`: it came to another one after the same
+    /// history.
+    pub fn comes_to(&mut self, done: Done, step: u64) -> bool {
+        self.is_followed(mix(done.sum, 2), step)
+    }
+
+    fn is_followed(&mut self, history: u64, by: u64) -> bool {
+        if self.followed.len() >= MOST {
+            return self.followed.get(&history).is_none_or(|known| *known == by);
+        }
+        *self.followed.entry(history).or_insert(by) == by
+    }
+}
+
+/// A sum is a hash already.
+#[derive(Default)]
+pub(crate) struct Sum(u64);
+
+impl Hasher for Sum {
+    fn finish(&self) -> u64 {
+        self.0
+    }
+
+    fn write(&mut self, bytes: &[u8]) {
+        bytes.iter().for_each(|byte| self.0 = mix(self.0, u64::from(*byte)));
+    }
+
+    fn write_u64(&mut self, number: u64) {
+        self.0 = number;
+    }
+}

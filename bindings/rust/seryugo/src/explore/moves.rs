@@ -1,0 +1,83 @@
+//! What may happen next in a run, and which of it commutes.
+
+use super::step::{Kind, Step, NONE};
+
+/// What makes a thread go on.
+#[derive(Clone, Copy, PartialEq, Eq, Hash, Debug)]
+pub(crate) enum By {
+    /// Its step is made.
+    Step,
+    /// Its call's time has passed.
+    TimeOut,
+    /// Its call fails, since nobody is left who could answer it.
+    Stall,
+}
+
+/// A thread that may go on.
+#[derive(Clone, Copy, PartialEq, Eq, Debug)]
+pub(crate) struct Move {
+    pub task: usize,
+    pub step: Step,
+    /// The channel of the port that the step uses, or `NONE`.
+    pub channel: u64,
+    /// Whether the object has something: a message, or that it is closed.
+    pub is_full: bool,
+    pub by: By,
+}
+
+impl Move {
+    /// Whether two moves that may both happen now leave the same in either order: the objects, and
+    /// both replies. Neither keeps the other from happening.
+    pub fn commutes_with(&self, other: &Move) -> bool {
+        if self.task == other.task || self.by != By::Step || other.by != By::Step {
+            return false;
+        }
+        let (one, two) = (self.step.kind, other.step.kind);
+        if one == Kind::Aside || two == Kind::Aside {
+            return one != two || self.step.object != other.step.object;
+        }
+        if one == Kind::LookAtAll || two == Kind::LookAtAll {
+            return false;
+        }
+        // Objects are numbered in the order in which they are made, and a program sees the numbers.
+        if one.is_maker() && two.is_maker() {
+            return false;
+        }
+        if self.step.object != other.step.object {
+            return self.is_apart_from(other) && other.is_apart_from(self);
+        }
+        on_one_object(self, other) || on_one_object(other, self)
+    }
+
+    /// Whether a step on another object does nothing to this one: all but what a channel does to
+    /// its ports, and looks at either.
+    fn is_apart_from(&self, other: &Move) -> bool {
+        if self.channel == NONE || self.channel != other.step.object {
+            return true;
+        }
+        match (self.step.kind, other.step.kind) {
+            // A port that is empty has a message behind it.
+            (Kind::Recv | Kind::Poll, Kind::Multicast) => self.is_full,
+            (Kind::Copy | Kind::Close, Kind::Multicast) => true,
+            (_, Kind::Port) => true,
+            _ => false,
+        }
+    }
+}
+
+/// The pairs of steps on one object that commute, each in one of its two orders.
+fn on_one_object(one: &Move, two: &Move) -> bool {
+    // Both see the object as it is now.
+    let is_full = one.is_full || two.is_full;
+    match (one.step.kind, two.step.kind) {
+        (Kind::Look | Kind::Get | Kind::GetPoll, Kind::Look | Kind::Get | Kind::GetPoll) => true,
+        // One at the end of a queue, and one at its front.
+        (Kind::Send, Kind::Recv | Kind::Poll) => is_full,
+        // A put into a full variable does nothing, and a swap leaves it full.
+        (Kind::Put, Kind::Put | Kind::Get | Kind::GetPoll | Kind::Swap) => is_full,
+        // Polls that find nothing do nothing.
+        (Kind::Poll, Kind::Poll) => !is_full,
+        (Kind::TakePoll, Kind::TakePoll | Kind::GetPoll) => !is_full,
+        _ => false,
+    }
+}

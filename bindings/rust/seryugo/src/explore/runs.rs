@@ -1,0 +1,197 @@
+//! The runs of an exploration.
+
+use super::board::Board;
+use super::end::End;
+use super::found::{Bad, Found};
+use super::play::{self, Play};
+use super::state::State;
+use super::way::{Order, Way};
+use super::worker::Slot;
+use crate::room::Room;
+use crate::switchboard::Switchboard;
+use std::panic::{self, catch_unwind, AssertUnwindSafe};
+use std::sync::{Arc, Once};
+
+/// Runs a program until a run ends badly, every order was run, or there were so many runs.
+///
+/// The program is given a new switchboard in each run. It starts its threads by
+/// [`scope`](super::scope). It must be deterministic: if the threads go on in the same order, it
+/// must make the same calls.
+///
+/// ```
+/// use seryugo::explore::{self, explore, Way};
+/// use seryugo::Switchboard;
+/// use std::sync::Arc;
+///
+/// let found = explore(Way::every(), 1_000, |board: &Arc<Switchboard>| {
+///     let (mut ann, mut ben) = (board.seat().unwrap(), board.seat().unwrap());
+///     let letters = ben.mailbox::<String>().unwrap();
+///     explore::scope(|threads| {
+///         threads.spawn(move || ann.send(letters, "Dear Ben").unwrap());
+///         threads.spawn(move || assert_eq!(ben.recv(letters).unwrap(), "Dear Ben"));
+///     });
+/// });
+/// assert!(found.is_clean() && found.is_whole(), "{found}");
+/// ```
+///
+/// # Panics
+///
+/// If a thread of a program that is explored calls it, if the linked library isn't of this crate's
+/// version, or if it has no memory.
+pub fn explore<R: Room>(way: Way, runs: u64, program: impl Fn(&Arc<Switchboard<R>>)) -> Found {
+    Explorer::new(way).explore(runs, &program)
+}
+
+/// Runs a program once, by a schedule that [`Bad::schedule`](super::Bad::schedule) has. Panics are
+/// printed as usual.
+///
+/// ```
+/// use seryugo::explore::{again, explore, Way};
+/// use seryugo::Switchboard;
+/// use std::sync::Arc;
+///
+/// let program = |board: &Arc<Switchboard>| {
+///     let mut seat = board.seat().unwrap();
+///     let letters = seat.mailbox::<String>().unwrap();
+///     seat.recv(letters).unwrap();
+/// };
+/// let found = explore(Way::every(), 1_000, program);
+/// let schedule = found.bad().unwrap().schedule();
+/// assert_eq!(again(schedule, program).bad().unwrap().end(), found.bad().unwrap().end());
+/// ```
+///
+/// # Panics
+///
+/// As [`explore`], and if it isn't a line that a schedule was written as.
+pub fn again<R: Room>(schedule: &str, program: impl Fn(&Arc<Switchboard<R>>)) -> Found {
+    explore(Way::again(schedule), 1, program)
+}
+
+/// An exploration, from its caller's side.
+pub(super) struct Explorer {
+    way: Way,
+    play: Arc<Play>,
+    main: Arc<Slot>,
+}
+
+/// One run, as it ended.
+pub(super) struct Run {
+    pub end: End,
+    /// Whether it left the same as a run before.
+    pub is_repeat: bool,
+}
+
+impl Explorer {
+    pub fn new(way: Way) -> Explorer {
+        assert!(play::own().is_none(), "a program that is explored explores another one");
+        keep_panics();
+        let state = State::new(way.chooser(), way.limits);
+        Explorer {
+            play: Play::new(state, way.patience, way.is_again()),
+            main: Slot::of_this_thread(),
+            way,
+        }
+    }
+
+    fn explore<R: Room>(&self, most: u64, program: &impl Fn(&Arc<Switchboard<R>>)) -> Found {
+        let mut found = Found {
+            way: self.way.to_string(),
+            runs: 0,
+            repeats: 0,
+            is_whole: false,
+            beside: None,
+            bad: None,
+        };
+        while found.runs < most && !found.is_whole {
+            let run = self.run(found.runs, program);
+            found.runs += 1;
+            found.repeats += u64::from(run.is_repeat);
+            if run.end.is_bad() {
+                found.bad = Some(self.bad(found.runs, run.end));
+            }
+            let is_anew = self.looks_beside(&mut found);
+            if found.bad.is_some() {
+                break;
+            }
+            found.is_whole = !is_anew && !self.next_run();
+        }
+        found
+    }
+
+    /// Runs the program once.
+    pub fn run<R: Room>(&self, run: u64, program: &impl Fn(&Arc<Switchboard<R>>)) -> Run {
+        let board = Switchboard::<R>::open(self.way.limits.entries).expect("a switchboard");
+        let board = Arc::new(board.explored_by(Arc::clone(&self.play)));
+        self.play.lock().begin(Arc::clone(&board) as Arc<dyn Board>, &self.main, run);
+        play::enter(&self.play, 0);
+        let ended = catch_unwind(AssertUnwindSafe(|| program(&board)));
+        let end = self.play.end_run(ended);
+        play::leave();
+        let is_repeat = self.play.lock().chooser.tree().is_some_and(super::tree::Tree::is_repeat);
+        Run { end, is_repeat }
+    }
+
+    /// If something beside the board decides, this begins anew, plainly. Returns whether it does.
+    fn looks_beside(&self, found: &mut Found) -> bool {
+        let mut state = self.play.lock();
+        if state.beside.is_none() || found.beside.is_some() {
+            return false;
+        }
+        found.beside.clone_from(&state.beside);
+        let plainly = Order::Every { sleeps: false };
+        let way = Way {
+            order: plainly,
+            ..self.way.clone()
+        };
+        state.chooser = way.chooser();
+        true
+    }
+
+    /// Whether there is another run.
+    pub fn next_run(&self) -> bool {
+        self.play.lock().chooser.next_run()
+    }
+
+    /// Why something beside the board decides.
+    pub fn beside(&self) -> Option<String> {
+        self.play.lock().beside.clone()
+    }
+
+    /// The journal of a run that ended badly.
+    pub fn text(&self) -> String {
+        self.play.lock().text.clone()
+    }
+
+    fn bad(&self, run: u64, end: End) -> Bad {
+        let schedule = self.play.lock().schedule().to_string();
+        Bad {
+            run,
+            end,
+            schedule,
+            journal: self.text(),
+        }
+    }
+}
+
+impl Drop for Explorer {
+    fn drop(&mut self) {
+        self.play.end();
+    }
+}
+
+/// From now on the panics of threads that are explored are kept, and not printed.
+fn keep_panics() {
+    static ONCE: Once = Once::new();
+    ONCE.call_once(|| {
+        let printed = panic::take_hook();
+        panic::set_hook(Box::new(move |panic| {
+            let is_loud = play::keeps_panics();
+            if is_loud.is_some() {
+                play::keep_said(panic);
+            }
+            if is_loud != Some(false) {
+                printed(panic);
+            }
+        }));
+    });
+}

@@ -1,0 +1,472 @@
+//! Where a run is: its threads, and whose turn it is.
+
+use super::board::{sum_of, Board, Pass};
+use super::choose::Chooser;
+use super::end::{End, Waits};
+use super::history::{Done, History};
+use super::moves::{By, Move};
+use super::schedule::{Choice, Schedule};
+use super::step::{Kind, Step, NONE};
+use super::tree::Astray;
+use super::worker::{Slot, Worker};
+use std::collections::VecDeque;
+use std::sync::Arc;
+use std::time::Instant;
+
+/// What a thread joins: the threads of a scope, or one.
+#[derive(Clone, Copy, PartialEq)]
+pub(crate) enum Joins {
+    Scope(u64),
+    Task(usize),
+}
+
+/// Where a thread of the program is.
+#[derive(Clone, Copy, PartialEq)]
+pub(crate) enum At {
+    /// It has not run yet.
+    Start,
+    Running,
+    Step,
+    Joins(Joins),
+    End,
+}
+
+/// A thread of the program.
+pub(crate) struct Task {
+    pub at: At,
+    pub slot: Arc<Slot>,
+    scope: u64,
+    /// Its step, or its last one.
+    seat: u64,
+    step: Step,
+    channel: u64,
+    is_timed: bool,
+    pub pass: Pass,
+    done: Done,
+    /// Whether it has made a step since it was started.
+    has_stepped: bool,
+    /// How many entries the journal had had before that step.
+    entries: u64,
+}
+
+/// What bounds a run.
+#[derive(Clone, Copy, Debug)]
+pub(crate) struct Limits {
+    pub steps: u64,
+    pub entries: u64,
+    pub tells_stalls: bool,
+}
+
+pub(crate) struct State {
+    pub limits: Limits,
+    pub chooser: Chooser,
+    pub board: Option<Arc<dyn Board>>,
+    pub tasks: Vec<Task>,
+    /// Whose turn it is.
+    pub current: usize,
+    pub steps: u64,
+    /// The choices of the run that had more than one way.
+    pub choices: Vec<Choice>,
+    /// The last steps of the run.
+    last: VecDeque<(usize, u64, Step)>,
+    /// How the run ends, and its journal. From then on each thread unwinds.
+    pub end: Option<End>,
+    pub text: String,
+    pub history: History,
+    /// Why something beside the board decides.
+    pub beside: Option<String>,
+    pub scopes: u64,
+    pub workers: Vec<Worker>,
+    pub idle: Vec<Arc<Slot>>,
+    /// How many turns were given, in all runs.
+    pub turns: u64,
+    /// The turn that lasts long.
+    pub watched: Option<Watched>,
+}
+
+/// A turn that was seen to last.
+pub(crate) struct Watched {
+    pub turn: u64,
+    pub since: Instant,
+    pub is_reported: bool,
+}
+
+impl Watched {
+    pub fn new(turn: u64) -> Watched {
+        Watched {
+            turn,
+            since: Instant::now(),
+            is_reported: false,
+        }
+    }
+}
+
+/// So many of the last steps tell of a run without an end.
+const LAST: usize = 64;
+
+impl State {
+    pub fn new(chooser: Chooser, limits: Limits) -> State {
+        State {
+            limits,
+            chooser,
+            board: None,
+            tasks: Vec::new(),
+            current: 0,
+            steps: 0,
+            choices: Vec::new(),
+            last: VecDeque::new(),
+            end: None,
+            text: String::new(),
+            history: History::default(),
+            beside: None,
+            scopes: 0,
+            workers: Vec::new(),
+            idle: Vec::new(),
+            turns: 0,
+            watched: None,
+        }
+    }
+
+    /// A run begins, whose first thread has this slot.
+    pub fn begin(&mut self, board: Arc<dyn Board>, main: &Arc<Slot>, run: u64) {
+        self.chooser.begin(run);
+        self.history.begin();
+        self.board = Some(board);
+        self.tasks.clear();
+        self.choices.clear();
+        self.last.clear();
+        (self.current, self.steps, self.scopes) = (0, 0, 0);
+        (self.end, self.text) = (None, String::new());
+        self.add(Arc::clone(main), 0);
+        self.tasks[0].at = At::Running;
+    }
+
+    /// A thread of this scope, which the one that has the turn starts: its number.
+    pub fn add(&mut self, slot: Arc<Slot>, scope: u64) -> usize {
+        let number = self.tasks.len();
+        let parent = self.tasks.get(self.current).map(|task| task.done).unwrap_or_default();
+        self.tasks.push(Task {
+            at: At::Start,
+            slot,
+            scope,
+            seat: NONE,
+            step: Kind::Aside.on(NONE),
+            channel: NONE,
+            is_timed: false,
+            pass: Pass::Go,
+            done: History::child(parent, number),
+            has_stepped: false,
+            entries: 0,
+        });
+        number
+    }
+
+    /// The run ends so, unless it has ended before.
+    pub fn stop(&mut self, end: End) {
+        if self.end.is_none() {
+            self.text = self.board.as_ref().map(|board| board.text()).unwrap_or_default();
+            self.end = Some(end);
+        }
+    }
+
+    /// A thread comes to a step.
+    pub fn arrive(&mut self, task: usize, seat: u64, step: Step, is_timed: bool) {
+        self.settle(task);
+        let channel = match (&self.board, Move::is_on_port(step)) {
+            (Some(board), true) => board.channel(step.object),
+            _ => NONE,
+        };
+        let arrived = &mut self.tasks[task];
+        (arrived.at, arrived.seat, arrived.step) = (At::Step, seat, step);
+        (arrived.channel, arrived.is_timed) = (channel, is_timed);
+        self.note_next(task, sum_of(&step));
+    }
+
+    /// A thread is at its end.
+    pub fn finish(&mut self, task: usize) {
+        if self.end.is_none() {
+            self.settle(task);
+            self.note_next(task, NONE);
+        }
+        self.tasks[task].at = At::End;
+    }
+
+    fn is_checked(&self) -> bool {
+        self.chooser.tree().is_some_and(|tree| tree.sleeps())
+    }
+
+    /// Notes how the thread's last step was answered.
+    fn settle(&mut self, number: usize) {
+        let is_checked = self.is_checked();
+        let task = &mut self.tasks[number];
+        if !std::mem::take(&mut task.has_stepped) || !is_checked {
+            return;
+        }
+        let (step, pass, entries) = (task.step, task.pass, task.entries);
+        let mut done = task.done;
+        let board = self.board.as_ref().filter(|_| step.kind.has_entry());
+        let sums = board.and_then(|board| board.entry_sums(entries));
+        let (call, reply) = sums.unwrap_or_else(|| (sum_of(&step), pass as u64));
+        let is_same = self.history.made(&mut done, call, reply);
+        if !step.kind.has_entry() {
+            self.history.saw_all(&mut done);
+        }
+        self.tasks[number].done = done;
+        self.note(number, is_same);
+    }
+
+    fn note_next(&mut self, task: usize, next: u64) {
+        if self.is_checked() {
+            let is_same = self.history.comes_to(self.tasks[task].done, next);
+            self.note(task, is_same);
+        }
+    }
+
+    fn note(&mut self, task: usize, is_same: bool) {
+        if !is_same && self.beside.is_none() {
+            self.beside = Some(format!(
+                "in two runs thread {task} got the same replies, and went on differently, here to \
+                 {}: threads share something beside the board",
+                self.tasks[task].step
+            ));
+        }
+    }
+}
+
+/// Whose turn it is.
+impl State {
+    /// Whose turn is next.
+    pub fn pick(&mut self) -> usize {
+        self.turns += 1;
+        let next = self.next();
+        self.current = next;
+        let task = &mut self.tasks[next];
+        if task.at != At::End {
+            task.at = At::Running;
+        }
+        next
+    }
+
+    fn next(&mut self) -> usize {
+        if self.end.is_none() {
+            if let Some(next) = self.free() {
+                return next;
+            }
+            match self.choose() {
+                Ok(next) => return next,
+                Err(end) => self.stop(end),
+            }
+        }
+        // A thread unwinds once those that it has started are at their ends: they have higher
+        // numbers.
+        self.tasks.iter().rposition(|task| task.at != At::End).unwrap_or(0)
+    }
+
+    /// A thread that goes on without a choice: what it does until its next step is between the two.
+    fn free(&mut self) -> Option<usize> {
+        if let Some(next) = self.tasks.iter().position(|task| task.at == At::Start) {
+            return Some(next);
+        }
+        let next = self.tasks.iter().position(|task| match task.at {
+            At::Joins(joins) => self.is_joined(joins),
+            _ => false,
+        })?;
+        let At::Joins(joins) = self.tasks[next].at else {
+            return None;
+        };
+        let mut done = self.tasks[next].done;
+        let joined = |(number, task): &(usize, &Task)| joins.has(*number, task);
+        for (_, task) in self.tasks.iter().enumerate().filter(joined) {
+            History::joined(&mut done, task.done);
+        }
+        self.tasks[next].done = done;
+        Some(next)
+    }
+
+    fn is_joined(&self, joins: Joins) -> bool {
+        let mut tasks = self.tasks.iter().enumerate();
+        tasks.all(|(number, task)| task.at == At::End || !joins.has(number, task))
+    }
+
+    /// Chooses a thread that may go on.
+    fn choose(&mut self) -> Result<usize, End> {
+        let moves = self.moves().ok_or_else(|| self.stalled())?;
+        if self.steps >= self.limits.steps {
+            return Err(self.endless());
+        }
+        let last = self.last.back().map_or(0, |last| last.0);
+        let is_choice = moves.len() > 1;
+        let chosen = self.chooser.choose(moves, last, self.choices.len());
+        let chosen = chosen.map_err(|astray| self.astray(&astray))?;
+        if is_choice {
+            self.choices.push(Choice::of(&chosen));
+        }
+        self.go(&chosen)?;
+        Ok(chosen.task)
+    }
+
+    fn go(&mut self, chosen: &Move) -> Result<(), End> {
+        self.steps += 1;
+        if self.last.len() == LAST {
+            self.last.pop_front();
+        }
+        let entries = self.board.as_ref().map_or((0, 0), |board| board.entries());
+        let task = &mut self.tasks[chosen.task];
+        self.last.push_back((chosen.task, task.seat, task.step));
+        task.entries = entries.0;
+        task.has_stepped = true;
+        task.pass = match chosen.by {
+            By::Step => Pass::Go,
+            By::TimeOut => Pass::TimedOut,
+            By::Stall => Pass::Stalled,
+        };
+        let is_full = entries.1 >= self.limits.entries && chosen.by == By::Step;
+        if is_full && chosen.step.kind.has_entry() {
+            return Err(End::Full);
+        }
+        Ok(())
+    }
+
+    /// What may happen next: first what the thread does that went on last. `None`: nothing may.
+    fn moves(&self) -> Option<Vec<Move>> {
+        let last = self.last.back().map_or(0, |last| last.0);
+        let others = (0..self.tasks.len()).filter(|task| *task != last);
+        let mut moves = Vec::with_capacity(self.tasks.len());
+        let mut stuck = Vec::new();
+        for number in std::iter::once(last).chain(others) {
+            let task = &self.tasks[number];
+            let Some(board) = self.board.as_ref().filter(|_| task.at == At::Step) else {
+                continue;
+            };
+            let look = board.look(task.step);
+            let way = Move {
+                task: number,
+                step: task.step,
+                channel: task.channel,
+                is_full: look.is_full,
+                by: By::Step,
+            };
+            if look.is_answered {
+                &mut moves
+            } else {
+                &mut stuck
+            }
+            .push(way);
+        }
+        if moves.is_empty() {
+            moves = self.late(stuck);
+        }
+        (!moves.is_empty()).then_some(moves)
+    }
+
+    /// What may happen if all threads are stuck at these calls.
+    fn late(&self, mut stuck: Vec<Move>) -> Vec<Move> {
+        let is_timed = stuck.iter().any(|way| self.tasks[way.task].is_timed);
+        if is_timed {
+            stuck.retain(|way| self.tasks[way.task].is_timed);
+            stuck.iter_mut().for_each(|way| way.by = By::TimeOut);
+        } else if self.limits.tells_stalls && self.tells_stall() {
+            stuck.iter_mut().for_each(|way| way.by = By::Stall);
+        } else {
+            stuck.clear();
+        }
+        stuck
+    }
+}
+
+/// How a run ends if it can't go on.
+impl State {
+    fn tells_stall(&self) -> bool {
+        let waits: Vec<(u64, Step)> = self
+            .tasks
+            .iter()
+            .filter(|task| task.at == At::Step)
+            .map(|task| (task.seat, task.step))
+            .collect();
+        self.board.as_ref().is_some_and(|board| board.tells_stall(&waits))
+    }
+
+    fn stalled(&self) -> End {
+        let waits = self.tasks.iter().enumerate().filter_map(|(number, task)| match task.at {
+            At::Step => Some(waits(number, task.seat, task.step)),
+            At::Joins(_) => Some(Waits {
+                thread: number,
+                seat: None,
+                call: None,
+            }),
+            _ => None,
+        });
+        End::Stalled {
+            waits: waits.collect(),
+            is_told: self.tells_stall(),
+        }
+    }
+
+    fn endless(&self) -> End {
+        let mut last: Vec<Waits> = Vec::new();
+        for &(thread, seat, step) in &self.last {
+            let step = waits(thread, seat, step);
+            if !last.contains(&step) {
+                last.push(step);
+            }
+        }
+        End::Endless {
+            steps: self.limits.steps,
+            last,
+        }
+    }
+
+    fn astray(&self, astray: &Astray) -> End {
+        match astray {
+            Astray::Differs { choice, before } => {
+                let now = self.moves().unwrap_or_default();
+                End::NotDeterministic(format!(
+                    "the program isn't deterministic: at step {choice}, after the same steps, the \
+                     threads were first at {}, and then at {}",
+                    listed(before),
+                    listed(&now)
+                ))
+            }
+            Astray::Unfit { choice, task } => End::Unfit(format!(
+                "the schedule is of another program: at choice {choice} it has thread {task}, \
+                 which can't go on"
+            )),
+        }
+    }
+
+    /// The schedule of the run so far.
+    pub fn schedule(&self) -> Schedule {
+        Schedule {
+            choices: self.choices.clone(),
+            tells_stalls: self.limits.tells_stalls,
+        }
+    }
+
+    /// Who has the turn, and its last step.
+    pub fn running(&self) -> String {
+        let task = &self.tasks[self.current];
+        waits(self.current, task.seat, task.step).to_string()
+    }
+}
+
+impl Joins {
+    fn has(self, number: usize, task: &Task) -> bool {
+        match self {
+            Joins::Scope(scope) => task.scope == scope,
+            Joins::Task(joined) => number == joined,
+        }
+    }
+}
+
+fn waits(thread: usize, seat: u64, step: Step) -> Waits {
+    Waits {
+        thread,
+        seat: (seat != NONE).then_some(seat),
+        call: Some(step.to_string()),
+    }
+}
+
+fn listed(moves: &[Move]) -> String {
+    let each = moves.iter().map(|way| format!("{} (thread {})", way.step, way.task));
+    each.collect::<Vec<_>>().join(", ")
+}

@@ -1,0 +1,139 @@
+//! What a thread is about to do: a call with its object, a look, or what it marks as beside the
+//! board.
+
+use crate::calls::{Give, Read};
+use std::fmt;
+
+/// The number of no object, and of no seat.
+pub(crate) const NONE: u64 = u64::MAX;
+
+/// A kind of step. Those of calls have the journal's words.
+#[derive(Clone, Copy, PartialEq, Eq, Hash, Debug)]
+pub(crate) enum Kind {
+    Mailbox,
+    Channel,
+    Port,
+    Copy,
+    Close,
+    IVar,
+    MVar,
+    MVarInit,
+    Send,
+    Multicast,
+    Recv,
+    Poll,
+    Put,
+    Get,
+    GetPoll,
+    Take,
+    TakePoll,
+    Swap,
+    /// Reads what an object has.
+    Look,
+    /// Reads or cuts the journal.
+    LookAtAll,
+    /// Uses what lies beside the board under this number.
+    Aside,
+}
+
+impl Kind {
+    pub fn on(self, object: u64) -> Step {
+        Step { kind: self, object }
+    }
+
+    /// The step of a call that makes an object out of nothing.
+    pub fn makes(self) -> Step {
+        self.on(NONE)
+    }
+
+    /// Whether it takes the next number of an object.
+    pub fn is_maker(self) -> bool {
+        use Kind::{Channel, Copy, IVar, MVar, MVarInit, Mailbox, Port};
+        matches!(self, Mailbox | Channel | Port | Copy | IVar | MVar | MVarInit)
+    }
+
+    pub fn blocks(self) -> bool {
+        matches!(self, Kind::Recv | Kind::Get | Kind::Take | Kind::Swap)
+    }
+
+    /// Whether an accepted call of this kind has an entry in the journal.
+    pub fn has_entry(self) -> bool {
+        !matches!(self, Kind::Look | Kind::LookAtAll | Kind::Aside)
+    }
+
+    fn word(self) -> &'static str {
+        match self {
+            Kind::Mailbox => "mailbox",
+            Kind::Channel => "channel",
+            Kind::Port => "port",
+            Kind::Copy => "copy",
+            Kind::Close => "close",
+            Kind::IVar => "ivar",
+            Kind::MVar | Kind::MVarInit => "mvar",
+            Kind::Send => "send",
+            Kind::Multicast => "multicast",
+            Kind::Recv => "recv",
+            Kind::Poll => "poll",
+            Kind::Put => "put",
+            Kind::Get => "get",
+            Kind::GetPoll => "getpoll",
+            Kind::Take => "take",
+            Kind::TakePoll => "takepoll",
+            Kind::Swap => "swap",
+            Kind::Look => "a look at",
+            Kind::LookAtAll => "a look at the journal",
+            Kind::Aside => "aside",
+        }
+    }
+}
+
+/// A kind of step, with the number of its object.
+#[derive(Clone, Copy, PartialEq, Eq, Hash, Debug)]
+pub(crate) struct Step {
+    pub kind: Kind,
+    pub object: u64,
+}
+
+impl fmt::Display for Step {
+    fn fmt(&self, f: &mut fmt::Formatter<'_>) -> fmt::Result {
+        f.write_str(self.kind.word())?;
+        if self.object != NONE {
+            write!(f, " {}", self.object)?;
+        }
+        Ok(())
+    }
+}
+
+impl Give {
+    /// The step of this call.
+    pub(crate) fn on(self, object: u64) -> Step {
+        match self {
+            Give::Send => Kind::Send,
+            Give::Multicast => Kind::Multicast,
+            Give::Put => Kind::Put,
+        }
+        .on(object)
+    }
+}
+
+impl Read {
+    /// The step of this call, if it may block.
+    pub(crate) fn ask_of(self, object: u64) -> Step {
+        match self {
+            Read::Recv => Kind::Recv,
+            Read::Get => Kind::Get,
+            Read::Take => Kind::Take,
+        }
+        .on(object)
+    }
+
+    /// The step of this call, if it never blocks.
+    pub(crate) fn poll_of(self, object: u64) -> Step {
+        match self {
+            Read::Recv => Kind::Poll,
+            Read::Get => Kind::GetPoll,
+            Read::Take => Kind::TakePoll,
+        }
+        .on(object)
+    }
+}

@@ -1,0 +1,162 @@
+//! Every order, one run after the other: a search through the tree of choices, depth first.
+
+use super::moves::{By, Move};
+
+/// What has become of a way at a choice.
+#[derive(Clone, Copy, PartialEq)]
+enum Mark {
+    Open,
+    /// An order that was run before has it first, and leaves the same.
+    Asleep,
+    Tried,
+}
+
+/// A choice of the run that is on, with the ways that it has.
+struct Node {
+    moves: Vec<Move>,
+    marks: Vec<Mark>,
+    at: usize,
+}
+
+/// Why a run doesn't go on.
+#[derive(Debug)]
+pub(crate) enum Astray {
+    /// At this choice the same ways as in the run before were expected.
+    Differs { choice: usize, before: Vec<Move> },
+    /// The schedule has this thread, which can't go on.
+    Unfit { choice: usize, task: usize },
+}
+
+/// The choices of the run that is on. Those after the last one that has another way are new in each
+/// run.
+pub(crate) struct Tree {
+    nodes: Vec<Node>,
+    depth: usize,
+    /// Whether it leaves out orders in which only steps are exchanged that commute.
+    sleeps: bool,
+    /// In a run a thread that could go on gives way to another one at most so often.
+    preemptions: Option<u32>,
+    preempted: u32,
+    /// The rest of this run leaves the same as a run before. It is run to see that it does.
+    is_repeat: bool,
+}
+
+impl Tree {
+    /// A bound of preemptions doesn't go with sleep sets: an order that is left out may be the only
+    /// one within the bound.
+    pub fn new(sleeps: bool, preemptions: Option<u32>) -> Tree {
+        Tree {
+            nodes: Vec::new(),
+            depth: 0,
+            sleeps: sleeps && preemptions.is_none(),
+            preemptions,
+            preempted: 0,
+            is_repeat: false,
+        }
+    }
+
+    pub fn sleeps(&self) -> bool {
+        self.sleeps
+    }
+
+    /// Whether the run leaves the same as one before.
+    pub fn is_repeat(&self) -> bool {
+        self.is_repeat
+    }
+
+    pub fn begin(&mut self) {
+        (self.depth, self.preempted, self.is_repeat) = (0, 0, false);
+    }
+
+    /// Which of these moves is made. The first is that of the thread that went on last, if it can.
+    pub fn choose(&mut self, moves: Vec<Move>, last: usize) -> Result<Move, Astray> {
+        if self.is_repeat {
+            return Ok(moves[0]);
+        }
+        let chosen = match self.nodes.get(self.depth) {
+            Some(node) => node.again(self.depth, &moves)?,
+            None => match self.grow(moves, last) {
+                Ok(chosen) => chosen,
+                Err(first) => {
+                    self.is_repeat = true;
+                    return Ok(first);
+                }
+            },
+        };
+        let goes_on = &self.nodes[self.depth].moves[0];
+        let is_preemption = goes_on.task == last && goes_on.by == By::Step && chosen.task != last;
+        self.preempted += u32::from(is_preemption);
+        self.depth += 1;
+        Ok(chosen)
+    }
+
+    /// A new choice. `Err`, with its first way, if all of its ways are asleep.
+    fn grow(&mut self, mut moves: Vec<Move>, last: usize) -> Result<Move, Move> {
+        if self.preemptions.is_some_and(|most| self.preempted >= most)
+            && moves[0].task == last
+            && moves[0].by == By::Step
+        {
+            moves.truncate(1);
+        }
+        let marks = self.marks(&moves);
+        let Some(at) = marks.iter().position(|mark| *mark == Mark::Open) else {
+            return Err(moves[0]);
+        };
+        let chosen = moves[at];
+        self.nodes.push(Node { moves, marks, at });
+        Ok(chosen)
+    }
+
+    /// Asleep is what was so or was tried at the choice before, and commutes with what happened
+    /// there.
+    fn marks(&self, moves: &[Move]) -> Vec<Mark> {
+        let before = self.sleeps.then(|| self.depth.checked_sub(1)).flatten();
+        let Some(node) = before.map(|before| &self.nodes[before]) else {
+            return vec![Mark::Open; moves.len()];
+        };
+        let went = &node.moves[node.at];
+        let is_asleep = |now: &Move| {
+            let was = node.moves.iter().position(|was| was.task == now.task && was.by == now.by);
+            was.is_some_and(|was| {
+                was != node.at
+                    && node.marks[was] != Mark::Open
+                    && node.moves[was].commutes_with(went)
+            })
+        };
+        let mark = |now| {
+            if is_asleep(now) {
+                Mark::Asleep
+            } else {
+                Mark::Open
+            }
+        };
+        moves.iter().map(mark).collect()
+    }
+
+    /// Goes back to the last choice that has another way. `false`: every order was run.
+    pub fn next_run(&mut self) -> bool {
+        while let Some(node) = self.nodes.last_mut() {
+            node.marks[node.at] = Mark::Tried;
+            if let Some(at) = node.marks.iter().position(|mark| *mark == Mark::Open) {
+                node.at = at;
+                return true;
+            }
+            self.nodes.pop();
+        }
+        false
+    }
+}
+
+impl Node {
+    /// The way that is taken here in this run too, if there are the same ways again.
+    fn again(&self, choice: usize, moves: &[Move]) -> Result<Move, Astray> {
+        // A bound may have left only the first.
+        if moves.starts_with(&self.moves) {
+            return Ok(self.moves[self.at]);
+        }
+        Err(Astray::Differs {
+            choice,
+            before: self.moves.clone(),
+        })
+    }
+}

@@ -1,0 +1,166 @@
+//! In which orders an exploration runs a program.
+
+use super::choose::{Chooser, Pct, Random};
+use super::schedule::Schedule;
+use super::state::Limits;
+use super::tree::Tree;
+use std::fmt;
+use std::time::Duration;
+
+/// In which orders a program is run, and how far.
+///
+/// | | runs | finds |
+/// |---|---|---|
+/// | [`Way::every`] | each order, but those that leave the same as another one | every bad end, if it comes to its end |
+/// | [`Way::random`] | at each step any thread that can go on | most bugs within some hundred runs |
+/// | [`Way::pct`] | the thread of the highest priority, which changes a few times | bugs of long runs that need few changes of threads |
+/// | [`Way::again`] | one schedule | the same end |
+///
+/// ```
+/// use seryugo::explore::Way;
+/// use std::time::Duration;
+///
+/// let way = Way::every().steps(1_000).patience(Duration::from_secs(20));
+/// assert_eq!(way.to_string(), "every order");
+/// assert_eq!(Way::random(7).to_string(), "at random, by the seed 7");
+/// assert_eq!(Way::every().preemptions(2).to_string(), "every order of at most 2 preemptions");
+/// ```
+#[derive(Clone, Debug)]
+#[must_use = "a way does nothing before a program is explored by it"]
+pub struct Way {
+    pub(crate) order: Order,
+    pub(crate) preemptions: Option<u32>,
+    pub(crate) limits: Limits,
+    pub(crate) patience: Duration,
+}
+
+#[derive(Clone, Debug)]
+pub(crate) enum Order {
+    Every { sleeps: bool },
+    Random(u64),
+    Pct { seed: u64, depth: u64 },
+    Again(Schedule),
+}
+
+impl Way {
+    /// Every order. It leaves out orders that leave the same as one that it has run: in them only
+    /// steps are exchanged that commute.
+    pub fn every() -> Way {
+        Way::of(Order::Every { sleeps: true })
+    }
+
+    /// Really every order, also those in which only steps are exchanged that commute.
+    pub fn every_plainly() -> Way {
+        Way::of(Order::Every { sleeps: false })
+    }
+
+    /// At each step any thread that can go on. Equal seeds give equal runs.
+    pub fn random(seed: u64) -> Way {
+        Way::of(Order::Random(seed))
+    }
+
+    /// Priorities: the thread of the highest one goes on, and in each run the one that goes on gets
+    /// the lowest at `depth - 1` steps. A bug is as deep as the number of orders between two steps
+    /// that it needs: most have 1, 2 or 3.
+    ///
+    /// A loop that waits for another thread by polls doesn't end so.
+    pub fn pct(seed: u64, depth: u64) -> Way {
+        Way::of(Order::Pct { seed, depth })
+    }
+
+    /// The order of a schedule, which [`Bad::schedule`](super::Bad::schedule) has. Panics are
+    /// printed as usual.
+    ///
+    /// # Panics
+    ///
+    /// If it isn't a line that a schedule was written as.
+    pub fn again(schedule: &str) -> Way {
+        let Some(read) = Schedule::read(schedule) else {
+            panic!("{schedule:?} is no schedule");
+        };
+        let tells_stalls = read.tells_stalls;
+        let mut way = Way::of(Order::Again(read));
+        way.limits.tells_stalls = tells_stalls;
+        way
+    }
+
+    fn of(order: Order) -> Way {
+        Way {
+            order,
+            preemptions: None,
+            limits: Limits {
+                steps: 10_000,
+                entries: 1 << 20,
+                tells_stalls: false,
+            },
+            patience: Duration::from_secs(5),
+        }
+    }
+
+    /// Every order in which a thread that could go on gives way to another one at most so often.
+    /// Most bugs need one or two. It is for [`every`](Way::every), and then leaves out no order for
+    /// another reason.
+    pub fn preemptions(mut self, most: u32) -> Way {
+        self.preemptions = Some(most);
+        self
+    }
+
+    /// A run of more steps than this has no end. Until you say it, it is 10,000.
+    pub fn steps(mut self, most: u64) -> Way {
+        self.limits.steps = most;
+        self
+    }
+
+    /// A run ends as [`End::Full`](super::End::Full) if its journal would have more entries. Until
+    /// you say it, it is 2^20.
+    pub fn entries(mut self, most: u64) -> Way {
+        self.limits.entries = most.clamp(1, 1 << 32);
+        self
+    }
+
+    /// If no thread can go on, and the library would let a call fail with
+    /// [`Stalled`](crate::Error::Stalled), one fails so: each in turn. It is for programs whose
+    /// receivers end by it.
+    ///
+    /// Until you say it, such a run ends as [`End::Stalled`](super::End::Stalled).
+    pub fn stalls_are_told(mut self) -> Way {
+        self.limits.tells_stalls = true;
+        self
+    }
+
+    /// If a thread makes no call for so long, standard error tells of it. Until you say it, it is
+    /// five seconds.
+    pub fn patience(mut self, patience: Duration) -> Way {
+        self.patience = patience;
+        self
+    }
+
+    pub(crate) fn chooser(&self) -> Chooser {
+        match &self.order {
+            Order::Every { sleeps } => Chooser::Every(Tree::new(*sleeps, self.preemptions)),
+            Order::Random(seed) => Chooser::Random(Random::new(*seed)),
+            Order::Pct { seed, depth } => Chooser::Pct(Pct::new(*seed, *depth)),
+            Order::Again(schedule) => Chooser::Given(schedule.clone()),
+        }
+    }
+
+    pub(crate) fn is_again(&self) -> bool {
+        matches!(self.order, Order::Again(_))
+    }
+}
+
+impl fmt::Display for Way {
+    fn fmt(&self, f: &mut fmt::Formatter<'_>) -> fmt::Result {
+        match (&self.order, self.preemptions) {
+            (Order::Every { .. }, Some(most)) => {
+                write!(f, "every order of at most {most} preemptions")
+            }
+            (Order::Every { .. }, None) => f.write_str("every order"),
+            (Order::Random(seed), _) => write!(f, "at random, by the seed {seed}"),
+            (Order::Pct { seed, depth }, _) => {
+                write!(f, "by priorities, by the seed {seed}, to the depth {depth}")
+            }
+            (Order::Again(schedule), _) => write!(f, "the schedule {schedule}"),
+        }
+    }
+}

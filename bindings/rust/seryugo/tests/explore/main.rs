@@ -1,0 +1,5 @@
+//! Programs that are explored: with a bug, and without one.
+
+mod bugs;
+mod clean;
+mod programs;
