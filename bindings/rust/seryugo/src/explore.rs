@@ -46,6 +46,7 @@ mod play;
 mod runs;
 mod schedule;
 mod scope;
+mod shorten;
 mod state;
 mod step;
 mod tree;

@@ -4,17 +4,20 @@
 //! An outcome is what each seat has called and was answered, in its order, and how the run ended.
 //! `SERYUGO_PROGRAMS=10000 cargo test --release --lib comparison` compares so many programs.
 
-use super::board::Board as _;
+use super::board::sum_of;
 use super::choose::{mix, Random};
-use super::end::End;
-use super::runs::Explorer;
+use super::state::{At, Joins, State};
+use super::step::{Kind, Step};
 use super::way::Way;
-use crate::names::{Channel, IVar, MVar, Mailbox, Port};
+use super::worker::Slot;
+use crate::calls::Calls;
+use crate::entry::Who;
+use crate::names::{Channel, IVar, MVar, Mailbox, Object, Port};
 use crate::owned::OwnedSeat;
+use crate::raw::{self, written};
 use crate::room::Numbers;
 use crate::switchboard::Switchboard;
-use std::cell::RefCell;
-use std::collections::{BTreeMap, BTreeSet};
+use std::collections::BTreeSet;
 use std::env;
 use std::sync::Arc;
 
@@ -23,8 +26,9 @@ type Board = Arc<Switchboard<Numbers>>;
 const THREADS: usize = 3;
 const CALLS: usize = 3;
 const PROGRAMS: u64 = 200;
-/// Kinds of calls, of which a program has some.
+/// Kinds of calls, of which a program has some. Those from `FIRST_LOOK` on are looks.
 const KINDS: u64 = 30;
+const FIRST_LOOK: u64 = 25;
 
 /// What each thread calls.
 type Plan = Vec<Vec<u64>>;
@@ -61,22 +65,6 @@ fn objects(seat: &mut OwnedSeat<Numbers>) -> Objects {
     }
 }
 
-fn run(board: &Board, plan: &Plan) {
-    let objects = objects(&mut board.seat_owned().unwrap());
-    super::scope(|threads| {
-        for (thread, calls) in plan.iter().enumerate() {
-            let mut seat = board.seat_owned().unwrap();
-            threads.spawn(move || {
-                for (at, kind) in calls.iter().enumerate() {
-                    let message = (10 * thread + at + 100) as u64;
-                    call(&mut seat, *kind, objects, message);
-                    look(&mut seat, *kind, objects);
-                }
-            });
-        }
-    });
-}
-
 fn call(seat: &mut OwnedSeat<Numbers>, kind: u64, of: Objects, message: u64) {
     match kind {
         0 | 1 => drop(seat.send(of.mailbox, message)),
@@ -99,67 +87,163 @@ fn call(seat: &mut OwnedSeat<Numbers>, kind: u64, of: Objects, message: u64) {
         20 => drop(seat.close(of.port)),
         21 => drop(seat.put(of.ivar, message)),
         22 => drop(seat.get(of.ivar)),
-        23 => {
-            let port = seat.port(of.channel).unwrap();
-            drop(seat.recv_poll(port));
-        }
-        24 => {
-            if let Ok(Some(port)) = seat.copy(of.port) {
-                drop(seat.recv_poll(port));
-            }
-        }
-        _ => (),
+        23 => drop(seat.port(of.channel)),
+        _ => drop(seat.copy(of.port)),
     }
 }
 
-/// A look has no entry. What it sees decides what the thread sends.
-fn look(seat: &mut OwnedSeat<Numbers>, kind: u64, of: Objects) {
-    let seen = match kind {
-        25 => seat.board.owed(of.mailbox),
-        26 => seat.board.owed(of.port),
-        27 => seat.board.held(of.empty).map(Option::unwrap_or_default),
-        28 => seat.board.is_open(of.port).map(u64::from),
-        29 => seat.board.sent(of.channel),
-        _ => return,
-    };
-    let own = seat.mailbox::<u64>().unwrap();
-    seat.send(own, seen.unwrap()).unwrap();
+/// What a look of this kind sees. It has no entry. A port that is closed is owed nothing.
+fn look(board: &Switchboard<Numbers>, kind: u64, of: Objects) -> u64 {
+    match kind {
+        25 => board.owed(of.mailbox),
+        26 => board.owed(of.port),
+        27 => board.held(of.empty).map(Option::unwrap_or_default),
+        28 => board.is_open(of.port).map(u64::from),
+        _ => board.sent(of.channel),
+    }
+    .unwrap_or(u64::MAX)
+}
+
+/// The step that a call of this kind is.
+fn step(kind: u64, of: Objects) -> Step {
+    let (mailbox, channel) = (of.mailbox.number(), of.channel.number());
+    let (port, empty, full) = (of.port.number(), of.empty.number(), of.full.number());
+    match kind {
+        0 | 1 => Kind::Send.on(mailbox),
+        2 | 3 => Kind::Recv.on(mailbox),
+        4 => Kind::Poll.on(mailbox),
+        5 => Kind::Put.on(empty),
+        6 => Kind::Take.on(empty),
+        7 => Kind::TakePoll.on(empty),
+        8 => Kind::Get.on(empty),
+        9 => Kind::GetPoll.on(empty),
+        10 => Kind::Swap.on(empty),
+        11 => Kind::Swap.on(full),
+        12 => Kind::Take.on(full),
+        13 => Kind::Put.on(full),
+        14 => Kind::GetPoll.on(full),
+        15 | 16 => Kind::Multicast.on(channel),
+        17 => Kind::Recv.on(port),
+        18 => Kind::Poll.on(port),
+        19 => Kind::Recv.on(of.other_port.number()),
+        20 => Kind::Close.on(port),
+        21 => Kind::Put.on(of.ivar.number()),
+        22 => Kind::Get.on(of.ivar.number()),
+        23 => Kind::Port.on(channel),
+        24 => Kind::Copy.on(port),
+        25 => Kind::Look.on(mailbox),
+        26 | 28 => Kind::Look.on(port),
+        27 => Kind::Look.on(empty),
+        _ => Kind::Look.on(channel),
+    }
+}
+
+/// A program whose threads are played by one thread, which is fast.
+struct Played<'p> {
+    plan: &'p Plan,
+    board: Board,
+    seats: Vec<OwnedSeat<Numbers>>,
+    of: Objects,
+    /// How many calls each thread has made, and what it has seen.
+    made: Vec<usize>,
+    seen: Vec<u64>,
+}
+
+impl Played<'_> {
+    fn new(plan: &Plan) -> Played<'_> {
+        let board = Arc::new(Switchboard::of_numbers(1_000).unwrap());
+        let mut main = board.seat_owned().unwrap();
+        Played {
+            plan,
+            of: objects(&mut main),
+            seats: plan.iter().map(|_| board.seat_owned().unwrap()).collect(),
+            board,
+            made: vec![0; plan.len()],
+            seen: vec![0; plan.len()],
+        }
+    }
+
+    /// Runs it: whether it is done, and not stalled.
+    fn run(&mut self, state: &mut State, run: u64) -> bool {
+        let slot = Arc::new(Slot::default());
+        state.begin(Arc::clone(&self.board) as Arc<dyn super::board::Board>, &slot, run);
+        for _ in self.plan {
+            state.add(Arc::clone(&slot), 1);
+        }
+        state.tasks[0].at = At::Joins(Joins::Scope(1));
+        let mut has_come = vec![false; self.plan.len()];
+        loop {
+            let task = state.pick();
+            if task == 0 || state.end.is_some() {
+                return state.end.is_none();
+            }
+            let thread = task - 1;
+            if std::mem::replace(&mut has_come[thread], true) {
+                self.call(thread);
+            }
+            match self.plan[thread].get(self.made[thread]) {
+                Some(kind) => {
+                    let seat = self.seats[thread].number();
+                    state.arrive(task, seat, step(*kind, self.of), false);
+                }
+                None => state.finish(task),
+            }
+        }
+    }
+
+    fn call(&mut self, thread: usize) {
+        let at = self.made[thread];
+        let kind = self.plan[thread][at];
+        self.made[thread] += 1;
+        if kind >= FIRST_LOOK {
+            self.seen[thread] = mix(self.seen[thread], look(&self.board, kind, self.of));
+        } else {
+            call(&mut self.seats[thread], kind, self.of, message(thread, at));
+        }
+    }
+
+    /// What each seat has called and was answered, and each thread has seen, as one number.
+    fn outcome(&self, is_done: bool) -> u64 {
+        let mut seats = vec![0; self.plan.len() + 1];
+        let entries = (0..).map_while(|at| Numbers::entry(&mut self.board.lock().handle, at).ok());
+        for entry in entries {
+            let Who::Seat(seat) = entry.who else {
+                panic!("{entry:?}")
+            };
+            let seat = &mut seats[seat as usize];
+            *seat = mix(*seat, mix(sum_of(&entry.call), sum_of(&entry.reply)));
+        }
+        // Where a port begins is seen by nobody who doesn't receive from it.
+        let starts = (self.first_made()..).map_while(|port| {
+            written(|start| raw::seryugo_start_of(&mut self.board.lock().handle, port, start)).ok()
+        });
+        seats.iter().chain(&self.seen).copied().chain(starts).fold(u64::from(is_done), mix)
+    }
+
+    /// The number of the first object that a thread makes.
+    fn first_made(&self) -> u64 {
+        self.of.full.number() + 1
+    }
+}
+
+fn message(thread: usize, at: usize) -> u64 {
+    (10 * thread + at + 100) as u64
 }
 
 /// The outcomes of all runs, and how many runs there were.
-fn outcomes(way: Way, plan: &Plan) -> (BTreeSet<String>, u64) {
-    let explorer = Explorer::new(way);
-    let kept = RefCell::new(None);
-    let program = |board: &Board| {
-        kept.replace(Some(Arc::clone(board)));
-        run(board, plan);
-    };
+fn outcomes(way: &Way, plan: &Plan) -> (BTreeSet<u64>, u64) {
+    let mut state = State::new(way.chooser(), way.limits);
     let mut outcomes = BTreeSet::new();
     for number in 0.. {
-        let run = explorer.run(number, &program);
-        let board: Option<Board> = kept.take();
-        let text = match run.end {
-            End::Done => board.unwrap().text(),
-            End::Stalled { .. } => explorer.text(),
-            end => panic!("{plan:?}: {end}"),
-        };
-        outcomes.insert(outcome(&text, &run.end));
-        assert_eq!(explorer.beside(), None, "{plan:?}");
-        if !explorer.next_run() {
+        let mut played = Played::new(plan);
+        let is_done = played.run(&mut state, number);
+        outcomes.insert(played.outcome(is_done));
+        assert_eq!(state.beside, None, "{plan:?}");
+        if !state.chooser.next_run() {
             return (outcomes, number + 1);
         }
     }
     unreachable!("there are fewer runs than numbers")
-}
-
-/// Each seat's lines, in its order, and the end.
-fn outcome(text: &str, end: &End) -> String {
-    let mut seats: BTreeMap<&str, String> = BTreeMap::new();
-    for line in text.lines().filter_map(|line| line.strip_prefix("seat ")) {
-        let (seat, call) = line.split_once(' ').unwrap();
-        seats.entry(seat).or_default().extend([call, "\n"]);
-    }
-    format!("{seats:?} {}", end.is_bad())
 }
 
 /// Compares programs, from this number on: how many runs there were, plainly and not.
@@ -167,9 +251,15 @@ fn compare(first: u64, count: u64) -> (u64, u64) {
     let mut all = (0, 0);
     for number in first..first + count {
         let plan = plan(number);
-        let (plainly, plain_runs) = outcomes(Way::every_plainly(), &plan);
-        let (slept, runs) = outcomes(Way::every(), &plan);
-        assert!(plainly == slept, "program {number}, {plan:?}: {plainly:#?} and {slept:#?}");
+        let (plainly, plain_runs) = outcomes(&Way::every_plainly(), &plan);
+        let (slept, runs) = outcomes(&Way::every(), &plan);
+        let both = plainly.intersection(&slept).count();
+        assert!(
+            plainly == slept,
+            "program {number}, {plan:?}: {} outcomes and {}, of which {both} are the same",
+            plainly.len(),
+            slept.len()
+        );
         all = (all.0 + plain_runs, all.1 + runs);
     }
     all

@@ -22,6 +22,7 @@ pub struct Bad {
     pub(crate) end: End,
     pub(crate) schedule: String,
     pub(crate) journal: String,
+    pub(crate) steps: u64,
 }
 
 impl Found {

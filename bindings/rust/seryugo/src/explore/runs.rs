@@ -4,6 +4,7 @@ use super::board::Board;
 use super::end::End;
 use super::found::{Bad, Found};
 use super::play::{self, Play};
+use super::shorten::shortened;
 use super::state::State;
 use super::way::{Order, Way};
 use super::worker::Slot;
@@ -39,7 +40,9 @@ use std::sync::{Arc, Once};
 /// If a thread of a program that is explored calls it, if the linked library isn't of this crate's
 /// version, or if it has no memory.
 pub fn explore<R: Room>(way: Way, runs: u64, program: impl Fn(&Arc<Switchboard<R>>)) -> Found {
-    Explorer::new(way).explore(runs, &program)
+    let mut found = Explorer::new(way.clone()).explore(runs, &program);
+    found.bad = found.bad.map(|bad| shortened(&way, bad, &program));
+    found
 }
 
 /// Runs a program once, by a schedule that [`Bad::schedule`](super::Bad::schedule) has. Panics are
@@ -152,23 +155,15 @@ impl Explorer {
         self.play.lock().chooser.next_run()
     }
 
-    /// Why something beside the board decides.
-    pub fn beside(&self) -> Option<String> {
-        self.play.lock().beside.clone()
-    }
-
-    /// The journal of a run that ended badly.
-    pub fn text(&self) -> String {
-        self.play.lock().text.clone()
-    }
-
-    fn bad(&self, run: u64, end: End) -> Bad {
-        let schedule = self.play.lock().schedule().to_string();
+    /// A run that has ended so.
+    pub fn bad(&self, run: u64, end: End) -> Bad {
+        let state = self.play.lock();
         Bad {
             run,
             end,
-            schedule,
-            journal: self.text(),
+            schedule: state.schedule().to_string(),
+            journal: state.text.clone(),
+            steps: state.steps,
         }
     }
 }

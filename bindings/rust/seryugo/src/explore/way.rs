@@ -144,6 +144,15 @@ impl Way {
         }
     }
 
+    /// Every order of at most so many preemptions, within the same limits.
+    pub(crate) fn bounded(&self, preemptions: u32) -> Way {
+        Way {
+            order: Order::Every { sleeps: false },
+            preemptions: Some(preemptions),
+            ..self.clone()
+        }
+    }
+
     pub(crate) fn is_again(&self) -> bool {
         matches!(self.order, Order::Again(_))
     }
