@@ -87,7 +87,7 @@ impl Random {
 
     /// The next number below this one.
     pub fn below(&mut self, most: u64) -> u64 {
-        (u128::from(self.next()) * u128::from(most) >> 64) as u64
+        ((u128::from(self.next()) * u128::from(most)) >> 64) as u64
     }
 }
 

@@ -25,7 +25,7 @@ type Board = Arc<Switchboard<Numbers>>;
 
 const THREADS: usize = 3;
 const CALLS: usize = 3;
-const PROGRAMS: u64 = 200;
+const PROGRAMS: u64 = 100;
 /// Kinds of calls, of which a program has some. Those from `FIRST_LOOK` on are looks.
 const KINDS: u64 = 30;
 const FIRST_LOOK: u64 = 25;

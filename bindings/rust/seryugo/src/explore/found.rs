@@ -93,15 +93,16 @@ impl Bad {
 
 impl fmt::Display for Found {
     fn fmt(&self, f: &mut fmt::Formatter<'_>) -> fmt::Result {
-        match &self.bad {
-            Some(bad) => write!(f, "run {} of {}: {bad}", bad.run, self.way)?,
-            None => {
-                let runs = if self.runs == 1 { "run" } else { "runs" };
-                write!(f, "no bad end in {} {runs} of {}", self.runs, self.way)?;
-                if !self.is_whole {
-                    f.write_str(", which were not all")?;
-                }
-            }
+        if let Some(bad) = &self.bad {
+            write!(f, "run {} of {}: {bad}", bad.run, self.way)?;
+        } else {
+            let runs = if self.runs == 1 { "run" } else { "runs" };
+            write!(f, "no bad end in {} {runs} of {}", self.runs, self.way)?;
+            f.write_str(if self.is_whole {
+                ""
+            } else {
+                ", which were not all"
+            })?;
         }
         match &self.beside {
             Some(beside) => write!(f, "\n{beside}"),

@@ -79,7 +79,9 @@ impl Hasher for Sum {
     }
 
     fn write(&mut self, bytes: &[u8]) {
-        bytes.iter().for_each(|byte| self.0 = mix(self.0, u64::from(*byte)));
+        for byte in bytes {
+            self.0 = mix(self.0, u64::from(*byte));
+        }
     }
 
     fn write_u64(&mut self, number: u64) {

@@ -79,12 +79,11 @@ impl Schedule {
 
 /// The first choice of a line, how often it follows, and the rest.
 fn read_one(line: &str) -> Option<(Choice, usize, &str)> {
-    let (task, rest) = match line.strip_prefix('(') {
-        Some(rest) => number_until(rest, ')')?,
-        None => {
-            let first = line.chars().next()?;
-            (first.to_digit(36)? as usize, &line[first.len_utf8()..])
-        }
+    let (task, rest) = if let Some(rest) = line.strip_prefix('(') {
+        number_until(rest, ')')?
+    } else {
+        let first = line.chars().next()?;
+        (first.to_digit(36)? as usize, &line[first.len_utf8()..])
     };
     let (rest, is_late) = rest.strip_prefix('!').map_or((rest, false), |rest| (rest, true));
     let (count, rest) = match rest.strip_prefix('{') {

@@ -7,7 +7,7 @@ use super::history::{Done, History};
 use super::moves::{By, Move};
 use super::schedule::{Choice, Schedule};
 use super::step::{Kind, Step, NONE};
-use super::tree::Astray;
+use super::tree::{Astray, Tree};
 use super::worker::{Slot, Worker};
 use std::collections::VecDeque;
 use std::sync::Arc;
@@ -192,7 +192,7 @@ impl State {
     }
 
     fn is_checked(&self) -> bool {
-        self.chooser.tree().is_some_and(|tree| tree.sleeps())
+        self.chooser.tree().is_some_and(Tree::sleeps)
     }
 
     /// Notes how the thread's last step was answered.
@@ -362,13 +362,14 @@ impl State {
     /// What may happen if all threads are stuck at these calls.
     fn late(&self, mut stuck: Vec<Move>) -> Vec<Move> {
         let is_timed = stuck.iter().any(|way| self.tasks[way.task].is_timed);
+        let by = if is_timed { By::TimeOut } else { By::Stall };
         if is_timed {
             stuck.retain(|way| self.tasks[way.task].is_timed);
-            stuck.iter_mut().for_each(|way| way.by = By::TimeOut);
-        } else if self.limits.tells_stalls && self.tells_stall() {
-            stuck.iter_mut().for_each(|way| way.by = By::Stall);
-        } else {
+        } else if !self.limits.tells_stalls || !self.tells_stall() {
             stuck.clear();
+        }
+        for way in &mut stuck {
+            way.by = by;
         }
         stuck
     }

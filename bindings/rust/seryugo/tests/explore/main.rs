@@ -2,4 +2,5 @@
 
 mod bugs;
 mod clean;
+mod ends;
 mod programs;

@@ -26,8 +26,8 @@ pub fn philosophers(board: &Board, count: usize, meals: usize, is_ordered: bool)
     });
 }
 
-fn eat<'scope>(
-    threads: Scope<'scope, '_>,
+fn eat(
+    threads: Scope<'_, '_>,
     mut seat: OwnedSeat<Numbers>,
     meals: usize,
     first: MVar<u64>,
