@@ -4,8 +4,10 @@
 //! An outcome is what each seat has called and was answered, in its order, and how the run ended.
 //! `SERYUGO_PROGRAMS=10000 cargo test --release --lib comparison` compares so many programs.
 
-use super::board::sum_of;
+use super::board::{sum_of, Pass};
 use super::choose::{mix, Random};
+use super::end::End;
+use super::runs::Explorer;
 use super::state::{At, Joins, State};
 use super::step::{Kind, Step};
 use super::way::Way;
@@ -19,6 +21,7 @@ use crate::room::Numbers;
 use crate::switchboard::Switchboard;
 use std::collections::BTreeSet;
 use std::env;
+use std::ops::Range;
 use std::sync::Arc;
 
 type Board = Arc<Switchboard<Numbers>>;
@@ -141,6 +144,7 @@ fn step(kind: u64, of: Objects) -> Step {
 /// A program whose threads are played by one thread, which is fast.
 struct Played<'p> {
     plan: &'p Plan,
+    is_timed: bool,
     board: Board,
     seats: Vec<OwnedSeat<Numbers>>,
     of: Objects,
@@ -150,11 +154,12 @@ struct Played<'p> {
 }
 
 impl Played<'_> {
-    fn new(plan: &Plan) -> Played<'_> {
+    fn new(plan: &Plan, is_timed: bool) -> Played<'_> {
         let board = Arc::new(Switchboard::of_numbers(1_000).unwrap());
         let mut main = board.seat_owned().unwrap();
         Played {
             plan,
+            is_timed,
             of: objects(&mut main),
             seats: plan.iter().map(|_| board.seat_owned().unwrap()).collect(),
             board,
@@ -179,23 +184,27 @@ impl Played<'_> {
             }
             let thread = task - 1;
             if std::mem::replace(&mut has_come[thread], true) {
-                self.call(thread);
+                self.go(thread, state.tasks[task].pass);
             }
             match self.plan[thread].get(self.made[thread]) {
                 Some(kind) => {
                     let seat = self.seats[thread].number();
-                    state.arrive(task, seat, step(*kind, self.of), false);
+                    // Every other thread waits with a time limit.
+                    let is_timed = self.is_timed && thread % 2 == 0;
+                    state.arrive(task, seat, step(*kind, self.of), is_timed);
                 }
                 None => state.finish(task),
             }
         }
     }
 
-    fn call(&mut self, thread: usize) {
+    fn go(&mut self, thread: usize, pass: Pass) {
         let at = self.made[thread];
         let kind = self.plan[thread][at];
         self.made[thread] += 1;
-        if kind >= FIRST_LOOK {
+        if pass != Pass::Go {
+            self.seen[thread] = mix(self.seen[thread], at as u64 + 1);
+        } else if kind >= FIRST_LOOK {
             self.seen[thread] = mix(self.seen[thread], look(&self.board, kind, self.of));
         } else {
             call(&mut self.seats[thread], kind, self.of, message(thread, at));
@@ -231,11 +240,11 @@ fn message(thread: usize, at: usize) -> u64 {
 }
 
 /// The outcomes of all runs, and how many runs there were.
-fn outcomes(way: &Way, plan: &Plan) -> (BTreeSet<u64>, u64) {
+fn outcomes(way: &Way, plan: &Plan, is_timed: bool) -> (BTreeSet<u64>, u64) {
     let mut state = State::new(way.chooser(), way.limits);
     let mut outcomes = BTreeSet::new();
     for number in 0.. {
-        let mut played = Played::new(plan);
+        let mut played = Played::new(plan, is_timed);
         let is_done = played.run(&mut state, number);
         outcomes.insert(played.outcome(is_done));
         assert_eq!(state.beside, None, "{plan:?}");
@@ -246,13 +255,13 @@ fn outcomes(way: &Way, plan: &Plan) -> (BTreeSet<u64>, u64) {
     unreachable!("there are fewer runs than numbers")
 }
 
-/// Compares programs, from this number on: how many runs there were, plainly and not.
-fn compare(first: u64, count: u64) -> (u64, u64) {
+/// Compares programs with these numbers: how many runs there were, plainly and not.
+fn compare(numbers: Range<u64>, is_timed: bool, change: impl Fn(Way) -> Way) -> (u64, u64) {
     let mut all = (0, 0);
-    for number in first..first + count {
+    for number in numbers {
         let plan = plan(number);
-        let (plainly, plain_runs) = outcomes(&Way::every_plainly(), &plan);
-        let (slept, runs) = outcomes(&Way::every(), &plan);
+        let (plainly, plain_runs) = outcomes(&change(Way::every_plainly()), &plan, is_timed);
+        let (slept, runs) = outcomes(&change(Way::every()), &plan, is_timed);
         let both = plainly.intersection(&slept).count();
         assert!(
             plainly == slept,
@@ -265,10 +274,63 @@ fn compare(first: u64, count: u64) -> (u64, u64) {
     all
 }
 
+fn programs() -> u64 {
+    env::var("SERYUGO_PROGRAMS").map_or(PROGRAMS, |count| count.parse().unwrap())
+}
+
 #[test]
 fn sleep_sets_leave_out_no_outcome() {
-    let count = env::var("SERYUGO_PROGRAMS").map_or(PROGRAMS, |count| count.parse().unwrap());
-    let (plain, slept) = compare(0, count);
+    let count = programs();
+    let (plain, slept) = compare(0..count, false, |way| way);
     println!("{count} programs: {plain} runs of every order, and {slept} with sleep sets");
     assert!(slept < plain);
+}
+
+#[test]
+fn nor_if_calls_end_by_a_time_limit_or_as_stalled() {
+    let numbers = 100_000..100_000 + programs() / 4;
+    let (plain, slept) = compare(numbers.clone(), true, |way| way);
+    assert!(slept < plain);
+    let (plain, slept) = compare(numbers, false, Way::stalls_are_told);
+    assert!(slept < plain);
+}
+
+/// Threads have as many runs, and end as often by a stall, as if one thread plays them.
+#[test]
+fn threads_do_as_they_are_played() {
+    for number in 0..programs() / 20 {
+        let plan = plan(number);
+        let mut state = State::new(Way::every().chooser(), Way::every().limits);
+        let explorer = Explorer::new(Way::every());
+        let program = |board: &Board| run_threads(board, &plan);
+        for run in 0.. {
+            let is_done = Played::new(&plan, false).run(&mut state, run);
+            let end = explorer.run(run, &program).end;
+            assert_eq!(matches!(end, End::Done), is_done, "{plan:?}, run {run}: {end}");
+            assert_eq!(explorer.schedule(), state.schedule(), "{plan:?}, run {run}");
+            let is_last = !state.chooser.next_run();
+            assert_eq!(explorer.next_run(), !is_last, "{plan:?}, run {run}");
+            if is_last {
+                break;
+            }
+        }
+    }
+}
+
+fn run_threads(board: &Board, plan: &Plan) {
+    let of = objects(&mut board.seat_owned().unwrap());
+    super::scope(|threads| {
+        for (thread, calls) in plan.iter().enumerate() {
+            let mut seat = board.seat_owned().unwrap();
+            threads.spawn(move || {
+                for (at, kind) in calls.iter().enumerate() {
+                    if *kind >= FIRST_LOOK {
+                        look(board, *kind, of);
+                    } else {
+                        call(&mut seat, *kind, of, message(thread, at));
+                    }
+                }
+            });
+        }
+    });
 }

@@ -41,6 +41,7 @@ thread_local! {
 /// From now on this thread is that one of the exploration.
 pub(crate) fn enter(play: &Arc<Play>, task: usize) {
     OWN.set(Some((Arc::clone(play), task)));
+    SAID.set(None);
 }
 
 pub(crate) fn leave() {

@@ -4,6 +4,7 @@ use super::board::Board;
 use super::end::End;
 use super::found::{Bad, Found};
 use super::play::{self, Play};
+use super::schedule::Schedule;
 use super::shorten::shortened;
 use super::state::State;
 use super::way::{Order, Way};
@@ -157,14 +158,20 @@ impl Explorer {
 
     /// A run that has ended so.
     pub fn bad(&self, run: u64, end: End) -> Bad {
+        let schedule = self.schedule().to_string();
         let state = self.play.lock();
         Bad {
             run,
             end,
-            schedule: state.schedule().to_string(),
+            schedule,
             journal: state.text.clone(),
             steps: state.steps,
         }
+    }
+
+    /// The schedule of the last run.
+    pub fn schedule(&self) -> Schedule {
+        self.play.lock().schedule()
     }
 }
 

@@ -10,6 +10,7 @@ use super::step::{Kind, Step, NONE};
 use super::tree::{Astray, Tree};
 use super::worker::{Slot, Worker};
 use std::collections::VecDeque;
+use std::fmt;
 use std::sync::Arc;
 use std::time::Instant;
 
@@ -179,14 +180,14 @@ impl State {
         let arrived = &mut self.tasks[task];
         (arrived.at, arrived.seat, arrived.step) = (At::Step, seat, step);
         (arrived.channel, arrived.is_timed) = (channel, is_timed);
-        self.note_next(task, sum_of(&step));
+        self.note_next(task, sum_of(&step), &step);
     }
 
     /// A thread is at its end.
     pub fn finish(&mut self, task: usize) {
         if self.end.is_none() {
             self.settle(task);
-            self.note_next(task, NONE);
+            self.note_next(task, NONE, &"its end");
         }
         self.tasks[task].at = At::End;
     }
@@ -212,22 +213,22 @@ impl State {
             self.history.saw_all(&mut done);
         }
         self.tasks[number].done = done;
-        self.note(number, is_same);
+        self.note(number, is_same, &format_args!("another message by {step}"));
     }
 
-    fn note_next(&mut self, task: usize, next: u64) {
+    fn note_next(&mut self, task: usize, next: u64, to: &dyn fmt::Display) {
         if self.is_checked() {
             let is_same = self.history.comes_to(self.tasks[task].done, next);
-            self.note(task, is_same);
+            self.note(task, is_same, to);
         }
     }
 
-    fn note(&mut self, task: usize, is_same: bool) {
+    fn note(&mut self, task: usize, is_same: bool, to: &dyn fmt::Display) {
         if !is_same && self.beside.is_none() {
             self.beside = Some(format!(
-                "in two runs thread {task} got the same replies, and went on differently, here to \
-                 {}: threads share something beside the board",
-                self.tasks[task].step
+                "threads share something beside the board, or the program isn't deterministic: in \
+                 two runs thread {task} got the same replies, and went on differently, in one to \
+                 {to}"
             ));
         }
     }
