@@ -161,7 +161,7 @@ from_rust() {
     ln -s "$PWD/examples" "$work/examples"
     check 'the crate in Rust' cargo_does test --all-features
     if has valgrind 'the crate in Rust without a fault of memory'; then
-        for tests in codes keeping typed odd_messages owned; do
+        for tests in codes keeping typed odd_messages owned explore; do
             check "without a fault of memory in Rust: $tests" clean_in_rust $tests
         done
     fi

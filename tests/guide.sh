@@ -1,6 +1,6 @@
 #!/bin/sh
-# Each paragraph of code in docs/GUIDE.md and in the README is word for word in a source: that in Rattle in
-# crates/cml_guide/src, where it is proved, and the README's program in Rust in bindings/rust, where it is run.
+# Each paragraph of code in docs/GUIDE.md, in docs/EXPLORE.md and in the README is word for word in a source: that in Rattle in
+# crates/cml_guide/src, where it is proved, and what is in Rust in bindings/rust, where it is run.
 # The last line is `N passed, M failed`.
 . "$(dirname "$0")/lib/cases.sh"
 cd "$(dirname "$0")/.." || exit 1
@@ -16,6 +16,7 @@ awk '
     /^```$/ || (inside && $0 == "") { compare(); if (/^```$/) inside = 0; next }
     inside { if (paragraph == "") first = FNR; paragraph = paragraph $0 "\n" }
     END { print passed + 0, failed + 0 }
-' bindings/rust/seryugo/examples/letters.rs crates/cml_guide/src/*.rt docs/GUIDE.md README.md > "$work/compared"
+' bindings/rust/seryugo/examples/letters.rs bindings/rust/seryugo/tests/explore/first.rs crates/cml_guide/src/*.rt \
+    docs/GUIDE.md docs/EXPLORE.md README.md > "$work/compared"
 add_counts "$work/compared"
 count

@@ -20,7 +20,9 @@ fn main() {
     measure("a ring of three threads, 30 calls", Way::random(1), ring);
     measure("the same", Way::pct(1, 3), ring);
     measure("the same", Way::every(), ring);
-    measure("two who send four, and one who receives", Way::every(), senders);
+    for way in [Way::every(), Way::every_plainly()] {
+        measure("two who send four, and one who receives", way, senders);
+    }
 }
 
 fn measure(name: &str, way: Way, program: impl Fn(&Board)) {

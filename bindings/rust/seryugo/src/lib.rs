@@ -153,7 +153,8 @@
 //!
 //! [`Lane`]s and [`Feed`]s keep senders and subscribers off the lock. A [`Journal`] that was taken
 //! is written as text. A [`Checker`] checks such a text, and [`Switchboard::restore`] goes on from
-//! it in another process. With the feature `scripts`, `replay` plays scripts of threads.
+//! it in another process. The module [`explore`] runs a program of threads in every order, and shows
+//! one that ends in a deadlock or a panic. With the feature `scripts`, `replay` plays scripts of threads.
 //!
 //! Before its first call the crate compares the library's version with its own. If they differ, it
 //! fails with [`Error::Version`].

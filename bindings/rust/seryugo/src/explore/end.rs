@@ -20,7 +20,7 @@ pub enum End {
     Panicked {
         /// The thread's number. The first one has 0.
         thread: usize,
-        /// What it said, and where.
+        /// Where it was, and what it said.
         message: String,
     },
     /// The journal was full.
@@ -94,7 +94,7 @@ impl fmt::Display for End {
                     }
                 })
             }
-            End::Panicked { thread, message } => write!(f, "thread {thread} panicked: {message}"),
+            End::Panicked { thread, message } => write!(f, "thread {thread} panicked at {message}"),
             End::Full => f.write_str("the journal was full"),
             End::Endless { steps, last } => {
                 writeln!(f, "no end within {steps} steps; the last ones were")?;

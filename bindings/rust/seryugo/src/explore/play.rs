@@ -61,11 +61,11 @@ pub(crate) fn keeps_panics() -> Option<bool> {
     OWN.try_with(is_loud).ok().flatten()
 }
 
-/// Keeps what a panic said, and where.
+/// Keeps where a panic was, and what it said.
 pub(crate) fn keep_said(panic: &PanicHookInfo<'_>) {
     let said = said(panic.payload());
     let said = match panic.location() {
-        Some(place) => format!("{said}, at {}:{}", place.file(), place.line()),
+        Some(place) => format!("{}:{}: {said}", place.file(), place.line()),
         None => said.to_string(),
     };
     let _ = SAID.try_with(|kept| kept.replace(Some(said)));

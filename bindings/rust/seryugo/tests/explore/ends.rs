@@ -143,7 +143,7 @@ fn the_first_thread_panics_while_others_wait() {
     let End::Panicked { thread: 0, message } = end(&found) else {
         panic!("{found}")
     };
-    assert!(message.starts_with("the first thread panics, at "), "{message}");
+    assert!(message.ends_with(": the first thread panics"), "{message}");
     // Each of them has left what it had, in each run.
     assert_eq!(dropped.load(SeqCst) % 3, 0);
     assert!(dropped.load(SeqCst) >= 3);

@@ -3,4 +3,5 @@
 mod bugs;
 mod clean;
 mod ends;
+mod first;
 mod programs;
