@@ -114,15 +114,17 @@ fn what_is_not_known_yet() {
     }
 }
 
+/// Counts that it is dropped.
+struct Counts<'c>(&'c AtomicU64);
+impl Drop for Counts<'_> {
+    fn drop(&mut self) {
+        self.0.fetch_add(1, SeqCst);
+    }
+}
+
 #[test]
 fn the_first_thread_panics_while_others_wait() {
     let dropped = AtomicU64::new(0);
-    struct Counts<'c>(&'c AtomicU64);
-    impl Drop for Counts<'_> {
-        fn drop(&mut self) {
-            self.0.fetch_add(1, SeqCst);
-        }
-    }
     let program = |board: &Board| {
         let mut main = seat(board);
         let letters = main.mailbox::<u64>().unwrap();
