@@ -23,6 +23,7 @@ pub(crate) enum Pass {
 }
 
 /// What a step finds.
+#[derive(Clone, Copy)]
 pub(crate) struct Look {
     /// Whether the call would be answered now.
     pub is_answered: bool,

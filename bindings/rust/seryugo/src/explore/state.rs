@@ -1,6 +1,6 @@
 //! Where a run is: its threads, and whose turn it is.
 
-use super::board::{sum_of, Board, Pass};
+use super::board::{sum_of, Board, Look, Pass};
 use super::choose::Chooser;
 use super::end::{End, Waits};
 use super::history::{Done, History};
@@ -42,6 +42,8 @@ pub(crate) struct Task {
     step: Step,
     channel: u64,
     is_timed: bool,
+    /// What the step finds.
+    look: Option<Look>,
     pub pass: Pass,
     done: Done,
     /// Whether it has made a step since it was started.
@@ -154,6 +156,7 @@ impl State {
             step: Kind::Aside.on(NONE),
             channel: NONE,
             is_timed: false,
+            look: None,
             pass: Pass::Go,
             done: History::child(parent, number),
             has_stepped: false,
@@ -179,7 +182,7 @@ impl State {
         };
         let arrived = &mut self.tasks[task];
         (arrived.at, arrived.seat, arrived.step) = (At::Step, seat, step);
-        (arrived.channel, arrived.is_timed) = (channel, is_timed);
+        (arrived.channel, arrived.is_timed, arrived.look) = (channel, is_timed, None);
         self.note_next(task, sum_of(&step), &step);
     }
 
@@ -291,7 +294,9 @@ impl State {
 
     /// Chooses a thread that may go on.
     fn choose(&mut self) -> Result<usize, End> {
-        let moves = self.moves().ok_or_else(|| self.stalled())?;
+        let Some(moves) = self.moves() else {
+            return Err(self.stalled());
+        };
         if self.steps >= self.limits.steps {
             return Err(self.endless());
         }
@@ -311,7 +316,10 @@ impl State {
         if self.last.len() == LAST {
             self.last.pop_front();
         }
-        let entries = self.board.as_ref().map_or((0, 0), |board| board.entries());
+        // There are no more entries than steps.
+        let needs_entries = self.is_checked() || self.steps > self.limits.entries;
+        let board = self.board.as_ref().filter(|_| needs_entries);
+        let entries = board.map_or((0, 0), |board| board.entries());
         let task = &mut self.tasks[chosen.task];
         self.last.push_back((chosen.task, task.seat, task.step));
         task.entries = entries.0;
@@ -329,35 +337,49 @@ impl State {
     }
 
     /// What may happen next: first what the thread does that went on last. `None`: nothing may.
-    fn moves(&self) -> Option<Vec<Move>> {
+    fn moves(&mut self) -> Option<Vec<Move>> {
+        self.look();
         let last = self.last.back().map_or(0, |last| last.0);
         let others = (0..self.tasks.len()).filter(|task| *task != last);
         let mut moves = Vec::with_capacity(self.tasks.len());
         let mut stuck = Vec::new();
-        for number in std::iter::once(last).chain(others) {
-            let task = &self.tasks[number];
-            let Some(board) = self.board.as_ref().filter(|_| task.at == At::Step) else {
-                continue;
-            };
-            let look = board.look(task.step);
-            let way = Move {
-                task: number,
-                step: task.step,
-                channel: task.channel,
-                is_full: look.is_full,
-                by: By::Step,
-            };
-            if look.is_answered {
-                &mut moves
+        for (way, is_answered) in std::iter::once(last).chain(others).filter_map(|n| self.way(n)) {
+            if is_answered {
+                moves.push(way);
             } else {
-                &mut stuck
+                stuck.push(way);
             }
-            .push(way);
         }
         if moves.is_empty() {
             moves = self.late(stuck);
         }
         (!moves.is_empty()).then_some(moves)
+    }
+
+    /// The step that a thread is at, and whether it would be answered.
+    fn way(&self, number: usize) -> Option<(Move, bool)> {
+        let task = &self.tasks[number];
+        let look = task.look.filter(|_| task.at == At::Step)?;
+        let way = Move {
+            task: number,
+            step: task.step,
+            channel: task.channel,
+            is_full: look.is_full,
+            by: By::Step,
+        };
+        Some((way, look.is_answered))
+    }
+
+    /// Looks anew at the objects that the last step may have changed.
+    fn look(&mut self) {
+        let Some(board) = &self.board else { return };
+        let changed = self.last.back().map_or(NONE, |last| last.2.object);
+        for task in self.tasks.iter_mut().filter(|task| task.at == At::Step) {
+            let is_old = changed == task.step.object || changed == task.channel;
+            if is_old || task.look.is_none() {
+                task.look = Some(board.look(task.step));
+            }
+        }
     }
 
     /// What may happen if all threads are stuck at these calls.
@@ -418,7 +440,7 @@ impl State {
         }
     }
 
-    fn astray(&self, astray: &Astray) -> End {
+    fn astray(&mut self, astray: &Astray) -> End {
         match astray {
             Astray::Differs { choice, before } => {
                 let now = self.moves().unwrap_or_default();
