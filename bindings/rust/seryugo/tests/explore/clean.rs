@@ -81,3 +81,21 @@ fn receivers_that_end_by_a_stall() {
     assert!(found.is_clean() && found.is_whole(), "{found}");
     println!("{found}");
 }
+
+#[test]
+fn halves_of_a_mailbox() {
+    let program = |board: &Board| {
+        let (sender, receiver) = board.unbounded::<u64>().unwrap();
+        explore::scope(|threads| {
+            for number in 1..3 {
+                let sender = sender.clone();
+                threads.spawn(move || sender.send(number).unwrap());
+            }
+            drop(sender);
+            let sum = threads.spawn(move || receiver.iter().sum::<u64>());
+            assert_eq!(sum.join().unwrap(), 3);
+        });
+    };
+    let found = explore(Way::every().stalls_are_told(), 1_000, program);
+    assert!(found.is_clean() && found.is_whole(), "{found}");
+}
