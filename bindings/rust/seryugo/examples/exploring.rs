@@ -18,7 +18,7 @@ fn main() {
         measure(&name, Way::every_plainly(), dine);
     }
     measure("a ring of three threads, 30 calls", Way::random(1), ring);
-    measure("the same", Way::pct(1, 3), ring);
+    measure("the same", Way::priorities(1, 3), ring);
     measure("the same", Way::every(), ring);
     for way in [Way::every(), Way::every_plainly()] {
         measure("two who send four, and one who receives", way, senders);

@@ -42,8 +42,9 @@ pub(crate) trait Board: Send + Sync {
     fn entry_sums(&self, at: u64) -> Option<(u64, u64)>;
     /// The journal as text, which is taken.
     fn text(&self) -> String;
-    /// Whether one of these calls would fail as stalled, if all of them were made.
-    fn tells_stall(&self, waits: &[(u64, Step)]) -> bool;
+    /// Whether one of these calls would fail as stalled, if all of them were made, and which seats
+    /// are free then.
+    fn stall(&self, waits: &[(u64, Step)]) -> (bool, Vec<u64>);
 }
 
 impl<R: Room> Board for Switchboard<R> {
@@ -92,7 +93,7 @@ impl<R: Room> Board for Switchboard<R> {
         }
     }
 
-    fn tells_stall(&self, waits: &[(u64, Step)]) -> bool {
+    fn stall(&self, waits: &[(u64, Step)]) -> (bool, Vec<u64>) {
         let mut inside = self.lock();
         let mut is_told = false;
         for &(seat, step) in waits {
@@ -107,11 +108,20 @@ impl<R: Room> Board for Switchboard<R> {
                 inside.ask(false, |room| R::ask(read, room, seat, step.object, false, &mut found));
             is_told = code == code::STALLED;
         }
+        let seats = inside.next_place();
+        let is_free = |seat: &u64| is_free::<R>(&mut inside.handle, *seat);
+        let free = (0..seats).filter(is_free).collect();
         for &(seat, _) in waits {
             inside.withdraw(seat);
         }
-        is_told
+        (is_told, free)
     }
+}
+
+/// Whether a seat may call: the library refuses the call of another one before it looks at the
+/// object, which isn't there.
+fn is_free<R: Room>(room: &mut Handle, seat: u64) -> bool {
+    R::poll(Read::Get, room, seat, NONE, &mut R::nothing()) == code::NO_SUCH
 }
 
 fn is_owed(room: &mut Handle, object: u64) -> bool {

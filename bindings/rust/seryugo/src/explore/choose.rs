@@ -8,7 +8,7 @@ use super::tree::{Astray, Tree};
 pub(crate) enum Chooser {
     Every(Tree),
     Random(Random),
-    Pct(Pct),
+    Priorities(Priorities),
     Given(Schedule),
 }
 
@@ -18,7 +18,7 @@ impl Chooser {
         match self {
             Chooser::Every(tree) => tree.begin(),
             Chooser::Random(random) => random.begin(run),
-            Chooser::Pct(pct) => pct.begin(run),
+            Chooser::Priorities(priorities) => priorities.begin(run),
             Chooser::Given(_) => (),
         }
     }
@@ -30,7 +30,7 @@ impl Chooser {
             Chooser::Every(tree) => tree.choose(moves, last),
             _ if moves.len() == 1 => Ok(moves[0]),
             Chooser::Random(random) => Ok(moves[random.below(moves.len() as u64) as usize]),
-            Chooser::Pct(pct) => Ok(pct.choose(&moves)),
+            Chooser::Priorities(priorities) => Ok(priorities.choose(&moves)),
             Chooser::Given(schedule) => given(schedule, &moves, choice),
         }
     }
@@ -39,7 +39,7 @@ impl Chooser {
     pub fn next_run(&mut self) -> bool {
         match self {
             Chooser::Every(tree) => tree.next_run(),
-            Chooser::Random(_) | Chooser::Pct(_) => true,
+            Chooser::Random(_) | Chooser::Priorities(_) => true,
             Chooser::Given(_) => false,
         }
     }
@@ -100,12 +100,12 @@ pub(crate) fn mix(one: u64, other: u64) -> u64 {
 /// Priorities that change at a few moments: the thread with the highest one goes on. A bug that
 /// needs `depth` orders between two steps is met by each run with a chance that falls slowly with
 /// the length of the run.
-pub(crate) struct Pct {
+pub(crate) struct Priorities {
     random: Random,
     depth: u64,
     /// How many choices the longest run has had.
     longest: u64,
-    priorities: Vec<u64>,
+    of_task: Vec<u64>,
     /// At these choices the thread that would go on gets the lowest priority.
     changes: Vec<u64>,
     choice: u64,
@@ -114,13 +114,13 @@ pub(crate) struct Pct {
 /// So long is the first run thought to be.
 const FIRST_LENGTH: u64 = 16;
 
-impl Pct {
-    pub fn new(seed: u64, depth: u64) -> Pct {
-        Pct {
+impl Priorities {
+    pub fn new(seed: u64, depth: u64) -> Priorities {
+        Priorities {
             random: Random::new(seed),
             depth,
             longest: FIRST_LENGTH,
-            priorities: Vec::new(),
+            of_task: Vec::new(),
             changes: Vec::new(),
             choice: 0,
         }
@@ -129,7 +129,7 @@ impl Pct {
     fn begin(&mut self, run: u64) {
         self.longest = self.longest.max(self.choice);
         self.random.begin(run);
-        self.priorities.clear();
+        self.of_task.clear();
         let random = &mut self.random;
         self.changes = (1..self.depth).map(|_| random.below(self.longest)).collect();
         self.choice = 0;
@@ -137,13 +137,13 @@ impl Pct {
 
     fn choose(&mut self, moves: &[Move]) -> Move {
         let tasks = moves.iter().map(|way| way.task + 1).max().unwrap_or(0);
-        while self.priorities.len() < tasks {
+        while self.of_task.len() < tasks {
             // Those that have changed are lower.
-            self.priorities.push(self.depth + (self.random.next() >> 8));
+            self.of_task.push(self.depth + (self.random.next() >> 8));
         }
         let mut best = self.best(moves);
         if let Some(change) = self.changes.iter().position(|at| *at == self.choice) {
-            self.priorities[best.task] = change as u64;
+            self.of_task[best.task] = change as u64;
             best = self.best(moves);
         }
         self.choice += 1;
@@ -151,7 +151,7 @@ impl Pct {
     }
 
     fn best(&self, moves: &[Move]) -> Move {
-        let highest = moves.iter().max_by_key(|way| self.priorities[way.task]);
+        let highest = moves.iter().max_by_key(|way| self.of_task[way.task]);
         *highest.unwrap_or(&moves[0])
     }
 }

@@ -13,8 +13,11 @@ pub enum End {
         /// Each thread that waits, and at what.
         waits: Vec<Waits>,
         /// Whether one of these calls would fail with [`Stalled`](crate::Error::Stalled) outside an
-        /// exploration. If not, all of them block for ever: some seat is free, or a guest is there.
+        /// exploration. If not, all of them block for ever.
         is_told: bool,
+        /// The seats that are free, such as one of a thread that joins others. While there is one,
+        /// no call fails with `Stalled`.
+        free: Vec<u64>,
     },
     /// A thread panicked.
     Panicked {
@@ -83,16 +86,24 @@ impl fmt::Display for End {
     fn fmt(&self, f: &mut fmt::Formatter<'_>) -> fmt::Result {
         match self {
             End::Done => f.write_str("done"),
-            End::Stalled { waits, is_told } => {
+            End::Stalled {
+                waits,
+                is_told,
+                free,
+            } => {
                 f.write_str("stalled: no thread can go on\n")?;
                 waits.iter().try_for_each(|waits| writeln!(f, "  {waits}"))?;
+                f.write_str("outside an exploration ")?;
                 f.write_str(match is_told {
-                    true => "outside an exploration one of these calls fails with `Stalled`",
-                    false => {
-                        "outside an exploration these calls block for ever, without `Stalled`: \
-                         some seat is free, or somebody is awaited"
-                    }
-                })
+                    true => "one of these calls fails with `Stalled`",
+                    false => "these calls block for ever, without `Stalled`: ",
+                })?;
+                match (is_told, &free[..]) {
+                    (true, _) => Ok(()),
+                    (false, []) => f.write_str("somebody is awaited"),
+                    (false, [seat]) => write!(f, "seat {seat} is free"),
+                    (false, seats) => write!(f, "the seats {seats:?} are free"),
+                }
             }
             End::Panicked { thread, message } => write!(f, "thread {thread} panicked at {message}"),
             End::Full => f.write_str("the journal was full"),

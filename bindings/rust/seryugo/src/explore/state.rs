@@ -388,7 +388,7 @@ impl State {
         let by = if is_timed { By::TimeOut } else { By::Stall };
         if is_timed {
             stuck.retain(|way| self.tasks[way.task].is_timed);
-        } else if !self.limits.tells_stalls || !self.tells_stall() {
+        } else if !self.limits.tells_stalls || !self.stall().0 {
             stuck.clear();
         }
         for way in &mut stuck {
@@ -400,14 +400,15 @@ impl State {
 
 /// How a run ends if it can't go on.
 impl State {
-    fn tells_stall(&self) -> bool {
+    /// As [`Board::stall`].
+    fn stall(&self) -> (bool, Vec<u64>) {
         let waits: Vec<(u64, Step)> = self
             .tasks
             .iter()
             .filter(|task| task.at == At::Step)
             .map(|task| (task.seat, task.step))
             .collect();
-        self.board.as_ref().is_some_and(|board| board.tells_stall(&waits))
+        self.board.as_ref().map(|board| board.stall(&waits)).unwrap_or_default()
     }
 
     fn stalled(&self) -> End {
@@ -420,9 +421,11 @@ impl State {
             }),
             _ => None,
         });
+        let (is_told, free) = self.stall();
         End::Stalled {
             waits: waits.collect(),
-            is_told: self.tells_stall(),
+            is_told,
+            free,
         }
     }
 

@@ -1,6 +1,6 @@
 //! In which orders an exploration runs a program.
 
-use super::choose::{Chooser, Pct, Random};
+use super::choose::{Chooser, Priorities, Random};
 use super::schedule::Schedule;
 use super::state::Limits;
 use super::tree::Tree;
@@ -13,7 +13,7 @@ use std::time::Duration;
 /// |---|---|---|
 /// | [`Way::every`] | each order, but those that leave the same as another one | every bad end, if it comes to its end |
 /// | [`Way::random`] | at each step any thread that can go on | most bugs within some hundred runs |
-/// | [`Way::pct`] | the thread of the highest priority, which changes a few times | bugs of long runs that need few changes of threads |
+/// | [`Way::priorities`] | the thread of the highest priority, which changes a few times | bugs of long runs that need few changes of threads |
 /// | [`Way::again`] | one schedule | the same end |
 ///
 /// ```
@@ -38,7 +38,7 @@ pub struct Way {
 pub(crate) enum Order {
     Every { sleeps: bool },
     Random(u64),
-    Pct { seed: u64, depth: u64 },
+    Priorities { seed: u64, depth: u64 },
     Again(Schedule),
 }
 
@@ -61,11 +61,11 @@ impl Way {
 
     /// Priorities: the thread of the highest one goes on, and in each run the one that goes on gets
     /// the lowest at `depth - 1` steps. A bug is as deep as the number of orders between two steps
-    /// that it needs: most have 1, 2 or 3.
+    /// that it needs: most have 1, 2 or 3. Others call this probabilistic concurrency testing.
     ///
     /// A loop that waits for another thread by polls doesn't end so.
-    pub fn pct(seed: u64, depth: u64) -> Way {
-        Way::of(Order::Pct { seed, depth })
+    pub fn priorities(seed: u64, depth: u64) -> Way {
+        Way::of(Order::Priorities { seed, depth })
     }
 
     /// The order of a schedule, which [`Bad::schedule`](super::Bad::schedule) has. Panics are
@@ -139,7 +139,9 @@ impl Way {
         match &self.order {
             Order::Every { sleeps } => Chooser::Every(Tree::new(*sleeps, self.preemptions)),
             Order::Random(seed) => Chooser::Random(Random::new(*seed)),
-            Order::Pct { seed, depth } => Chooser::Pct(Pct::new(*seed, *depth)),
+            Order::Priorities { seed, depth } => {
+                Chooser::Priorities(Priorities::new(*seed, *depth))
+            }
             Order::Again(schedule) => Chooser::Given(schedule.clone()),
         }
     }
@@ -166,7 +168,7 @@ impl fmt::Display for Way {
             }
             (Order::Every { .. }, None) => f.write_str("every order"),
             (Order::Random(seed), _) => write!(f, "at random, by the seed {seed}"),
-            (Order::Pct { seed, depth }, _) => {
+            (Order::Priorities { seed, depth }, _) => {
                 write!(f, "by priorities, by the seed {seed}, to the depth {depth}")
             }
             (Order::Again(schedule), _) => write!(f, "the schedule {schedule}"),

@@ -15,7 +15,7 @@ fn found(program: impl Fn(&Board)) -> Found {
         Way::every_plainly(),
         Way::every().preemptions(2),
         Way::random(1),
-        Way::pct(1, 3),
+        Way::priorities(1, 3),
     ] {
         let other = explore(way, 10_000, &program);
         assert!(!other.is_clean(), "{other}");
@@ -180,10 +180,11 @@ fn a_seat_that_stays_free() {
         });
     };
     let found = found(program);
-    let End::Stalled { is_told, .. } = found.bad().unwrap().end() else {
+    let End::Stalled { is_told, free, .. } = found.bad().unwrap().end() else {
         panic!("{found}")
     };
-    assert!(!is_told, "{found}");
+    assert_eq!((*is_told, &free[..]), (false, &[0][..]), "{found}");
+    assert!(found.to_string().contains("block for ever, without `Stalled`: seat 0 is free"));
 }
 
 /// The one that waits says so only after it has looked.

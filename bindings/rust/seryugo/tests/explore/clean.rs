@@ -15,7 +15,7 @@ fn clean(program: impl Fn(&Board), runs: u64, repeats: u64, plain_runs: u64) {
     let plainly = explore(Way::every_plainly(), 10_000, &program);
     assert!(plainly.is_clean() && plainly.is_whole(), "{plainly}");
     assert_eq!(plainly.runs(), plain_runs);
-    for way in [Way::random(3), Way::pct(3, 3)] {
+    for way in [Way::random(3), Way::priorities(3, 3)] {
         let some = explore(way, 300, &program);
         assert!(some.is_clean() && !some.is_whole(), "{some}");
     }
