@@ -11,7 +11,7 @@ use crate::room::{Carries, Room};
 use crate::switchboard::Switchboard;
 
 /// A call that writes a number which an object has.
-type Reader = extern "C" fn(&mut Handle, u64, &mut u64) -> u32;
+pub(crate) type Reader = extern "C" fn(&mut Handle, u64, &mut u64) -> u32;
 
 impl<R: Room> Switchboard<R> {
     /// The mailbox of this number, as of a switchboard that goes on from a journal. Objects are

@@ -5,6 +5,7 @@ use super::play::Play;
 use super::step::{Kind, Step, NONE};
 use crate::calls::Read;
 use crate::entry::Entry;
+use crate::objects::Reader;
 use crate::raw::{self, code, written, Handle};
 use crate::room::Room;
 use crate::switchboard::Switchboard;
@@ -36,6 +37,8 @@ pub(crate) trait Board: Send + Sync {
     fn look(&self, step: Step) -> Look;
     /// The channel of this port, or `NONE`.
     fn channel(&self, port: u64) -> u64;
+    /// All that a look at this object sees, as a number. `None`: it is a variable.
+    fn counts(&self, object: u64) -> Option<u64>;
     /// How many entries the journal has had, and how many it has.
     fn entries(&self) -> (u64, u64);
     /// The call and the reply of the entry at this place, each as a number.
@@ -70,6 +73,19 @@ impl<R: Room> Board for Switchboard<R> {
     fn channel(&self, port: u64) -> u64 {
         let room = &mut self.lock().handle;
         written(|channel| raw::seryugo_channel_of(room, port, channel)).unwrap_or(NONE)
+    }
+
+    fn counts(&self, object: u64) -> Option<u64> {
+        let room = &mut self.lock().handle;
+        let readers: [Reader; 4] = [
+            raw::seryugo_sent,
+            raw::seryugo_got,
+            raw::seryugo_owed,
+            raw::seryugo_kept,
+        ];
+        let counts = readers.map(|read| written(|count| read(room, object, count)).ok());
+        let is_open = raw::seryugo_is_open(room, object);
+        counts.iter().any(Option::is_some).then(|| sum_of(&(counts, is_open)))
     }
 
     fn entries(&self) -> (u64, u64) {

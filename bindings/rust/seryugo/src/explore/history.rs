@@ -17,6 +17,8 @@ pub(crate) struct History {
     followed: HashMap<u64, u64, BuildHasherDefault<Sum>>,
     /// A number for all steps of the run so far, in their order.
     all: u64,
+    /// The same for the steps on each thing that has changed.
+    things: HashMap<u64, u64, BuildHasherDefault<Sum>>,
 }
 
 /// What a thread has done in this run.
@@ -28,6 +30,7 @@ pub(crate) struct Done {
 impl History {
     pub fn begin(&mut self) {
         self.all = 0;
+        self.things.clear();
     }
 
     /// A thread that this one starts, as its child of this number.
@@ -45,9 +48,20 @@ impl History {
         is_same
     }
 
+    /// The thread's last step has changed this thing, maybe.
+    pub fn changed(&mut self, done: Done, thing: u64) {
+        let sum = self.things.entry(thing).or_default();
+        *sum = mix(*sum, done.sum);
+    }
+
+    /// A thread has seen this thing.
+    pub fn saw(&self, done: &mut Done, thing: u64) {
+        saw(done, self.things.get(&thing).copied().unwrap_or_default());
+    }
+
     /// A thread has seen what any thread may have changed.
-    pub fn saw_all(&mut self, done: &mut Done) {
-        done.sum = mix(done.sum, self.all);
+    pub fn saw_all(&self, done: &mut Done) {
+        saw(done, self.all);
     }
 
     /// A thread has joined another one.
@@ -67,6 +81,11 @@ impl History {
         }
         *self.followed.entry(history).or_insert(by) == by
     }
+}
+
+/// A thread has seen this.
+pub(crate) fn saw(done: &mut Done, seen: u64) {
+    done.sum = mix(done.sum, seen);
 }
 
 /// A sum is a hash already.

@@ -1,9 +1,9 @@
 //! Where a run is: its threads, and whose turn it is.
 
 use super::board::{sum_of, Board, Look, Pass};
-use super::choose::Chooser;
+use super::choose::{mix, Chooser};
 use super::end::{End, Waits};
-use super::history::{Done, History};
+use super::history::{self, Done, History};
 use super::moves::{By, Move};
 use super::schedule::{Choice, Schedule};
 use super::step::{Kind, Step, NONE};
@@ -212,11 +212,29 @@ impl State {
         let sums = board.and_then(|board| board.entry_sums(entries));
         let (call, reply) = sums.unwrap_or_else(|| (sum_of(&step), pass as u64));
         let is_same = self.history.made(&mut done, call, reply);
-        if !step.kind.has_entry() {
-            self.history.saw_all(&mut done);
-        }
+        self.see(&mut done, step);
         self.tasks[number].done = done;
         self.note(number, is_same, &format_args!("another message by {step}"));
+    }
+
+    /// Notes what a step saw that has no entry, and what it may have changed.
+    fn see(&mut self, done: &mut Done, step: Step) {
+        let thing = mix(step.object, u64::from(step.kind == Kind::Aside));
+        match step.kind {
+            Kind::LookAtAll => self.history.saw_all(done),
+            Kind::Look => match self.board.as_ref().and_then(|board| board.counts(step.object)) {
+                Some(counts) => history::saw(done, counts),
+                None => self.history.saw(done, thing),
+            },
+            Kind::Aside => {
+                self.history.saw(done, thing);
+                self.history.changed(*done, thing);
+            }
+            Kind::Put | Kind::Take | Kind::TakePoll | Kind::Swap => {
+                self.history.changed(*done, thing);
+            }
+            _ => (),
+        }
     }
 
     fn note_next(&mut self, task: usize, next: u64, to: &dyn fmt::Display) {

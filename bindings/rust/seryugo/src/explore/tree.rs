@@ -1,5 +1,6 @@
 //! Every order, one run after the other: a search through the tree of choices, depth first.
 
+use super::choose::Random;
 use super::moves::{By, Move};
 
 /// What has become of a way at a choice.
@@ -37,8 +38,10 @@ pub(crate) struct Tree {
     /// In a run a thread that could go on gives way to another one at most so often.
     preemptions: Option<u32>,
     preempted: u32,
-    /// The rest of this run leaves the same as a run before. It is run to see that it does.
+    /// The rest of this run leaves the same as a run before. It is run to see that it does, in any
+    /// order.
     is_repeat: bool,
+    random: Random,
 }
 
 impl Tree {
@@ -52,6 +55,7 @@ impl Tree {
             preemptions,
             preempted: 0,
             is_repeat: false,
+            random: Random::new(1),
         }
     }
 
@@ -71,7 +75,8 @@ impl Tree {
     /// Which of these moves is made. The first is that of the thread that went on last, if it can.
     pub fn choose(&mut self, moves: Vec<Move>, last: usize) -> Result<Move, Astray> {
         if self.is_repeat {
-            return Ok(moves[0]);
+            let any = self.random.below(moves.len() as u64) as usize;
+            return Ok(moves[any]);
         }
         let chosen = match self.nodes.get(self.depth) {
             Some(node) => node.again(self.depth, &moves)?,
