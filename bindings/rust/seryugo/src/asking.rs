@@ -221,7 +221,9 @@ impl<H: Holds<Bytes>> Seat<'_, Bytes, H> {
         let mut bytes = Vec::new();
         asker.write_to(&mut bytes);
         <Bytes as Carries<Q>>::with_sent(question, |piece| bytes.extend_from_slice(piece));
-        done(self.call(|room, seat| Bytes::give(Give::Send, room, seat, mailbox, &bytes)))?;
+        done(self.call(Give::Send.on(mailbox), |room, seat| {
+            Bytes::give(Give::Send, room, seat, mailbox, &bytes)
+        }))?;
         Ok(asker)
     }
 

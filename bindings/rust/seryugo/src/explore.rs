@@ -42,6 +42,7 @@ mod end;
 mod found;
 mod history;
 mod moves;
+mod pinned;
 mod play;
 mod runs;
 mod schedule;

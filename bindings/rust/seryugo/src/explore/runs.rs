@@ -3,6 +3,7 @@
 use super::board::Board;
 use super::end::End;
 use super::found::{Bad, Found};
+use super::pinned::Pinned;
 use super::play::{self, Play};
 use super::schedule::Schedule;
 use super::shorten::shortened;
@@ -76,6 +77,7 @@ pub(super) struct Explorer {
     way: Way,
     play: Arc<Play>,
     main: Arc<Slot>,
+    _pinned: Pinned,
 }
 
 /// One run, as it ended.
@@ -93,6 +95,7 @@ impl Explorer {
         Explorer {
             play: Play::new(state, way.patience, way.is_again()),
             main: Slot::of_this_thread(),
+            _pinned: Pinned::new(),
             way,
         }
     }
