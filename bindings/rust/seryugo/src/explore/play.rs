@@ -106,8 +106,8 @@ impl Play {
     #[cold]
     pub fn pass(&self, board: &dyn Board, seat: u64, step: Step, is_timed: bool) -> Pass {
         let mut state = self.lock();
-        if state.board.is_none() {
-            // The run is over, and the switchboard is one as any other.
+        if !state.is_on(board) {
+            // The switchboard's run is over, and it is one as any other.
             return Pass::Go;
         }
         let task = self.task();

@@ -11,6 +11,7 @@ use super::tree::{Astray, Tree};
 use super::worker::{Slot, Worker};
 use std::collections::VecDeque;
 use std::fmt;
+use std::ptr;
 use std::sync::Arc;
 use std::time::Instant;
 
@@ -142,6 +143,11 @@ impl State {
         (self.end, self.text) = (None, String::new());
         self.add(Arc::clone(main), 0);
         self.tasks[0].at = At::Running;
+    }
+
+    /// Whether the run that is on has this switchboard.
+    pub fn is_on(&self, board: &dyn Board) -> bool {
+        self.board.as_ref().is_some_and(|own| ptr::addr_eq(Arc::as_ptr(own), board))
     }
 
     /// A thread of this scope, which the one that has the turn starts: its number.

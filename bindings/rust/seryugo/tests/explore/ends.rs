@@ -2,8 +2,10 @@
 
 use crate::programs::{seat, Board};
 use seryugo::explore::{self, again, explore, End, Found, Way};
-use std::cell::Cell;
+use seryugo::Error;
+use std::cell::{Cell, RefCell};
 use std::future::Future;
+use std::panic::{catch_unwind, AssertUnwindSafe};
 use std::sync::atomic::{AtomicU64, Ordering::SeqCst};
 use std::sync::{mpsc, Mutex};
 use std::time::Duration;
@@ -180,6 +182,54 @@ fn a_destructor_that_calls_while_the_run_ends() {
         panic!("{found}")
     };
     assert_eq!(waits.len(), 3, "{found}");
+}
+
+#[test]
+fn a_switchboard_that_outlives_its_run() {
+    type Kept = (Board, seryugo::OwnedSeat<seryugo::Numbers>, seryugo::Mailbox<u64>);
+    let kept: RefCell<Vec<Kept>> = RefCell::default();
+    let program = |board: &Board| {
+        let mut own = seat(board);
+        let letters = own.mailbox::<u64>().unwrap();
+        if let Some((before, mut seat, letters)) = kept.take().pop() {
+            assert!(!Board::ptr_eq(&before, board));
+            // It is one as any other: a call from a seat that waits alone fails.
+            seat.send(letters, 7).unwrap();
+            assert_eq!((seat.recv(letters), seat.recv(letters)), (Ok(7), Err(Error::Stalled)));
+        }
+        kept.borrow_mut().push((Board::clone(board), own, letters));
+    };
+    let found = explore(Way::random(1), 3, program);
+    assert!(found.is_clean(), "{found}");
+}
+
+#[test]
+fn a_program_that_catches_what_unwinds_it() {
+    let program = |board: &Board| {
+        let letters = seat(board).mailbox::<u64>().unwrap();
+        explore::scope(|threads| {
+            for _ in 0..2 {
+                let mut seat = seat(board);
+                threads.spawn(move || {
+                    for _ in 0..3 {
+                        let _ = catch_unwind(AssertUnwindSafe(|| seat.recv(letters)));
+                    }
+                });
+            }
+        });
+    };
+    let found = explore(Way::every(), 10, program);
+    assert!(matches!(end(&found), End::Stalled { .. }), "{found}");
+}
+
+#[test]
+fn an_exploration_in_another_one() {
+    let program = |_: &Board| drop(explore(Way::every(), 1, |_: &Board| ()));
+    let found = explore(Way::every(), 10, program);
+    let End::Panicked { message, .. } = end(&found) else {
+        panic!("{found}")
+    };
+    assert!(message.contains("explores another one"), "{message}");
 }
 
 #[test]
