@@ -21,8 +21,10 @@ fn main() {
     measure("the same", Way::priorities(1, 3), ring);
     measure("the same", Way::every(), ring);
     for way in [Way::every(), Way::every_plainly()] {
-        measure("two who send four, and one who receives", way, senders);
+        measure("two who send four, and one who receives", way, |board| senders(board, 4));
     }
+    measure("two who send six, and one who receives", Way::every(), |board| senders(board, 6));
+    measure("one who multicasts, one who receives, one who closes", Way::every(), closer);
 }
 
 fn measure(name: &str, way: Way, program: impl Fn(&Board)) {
@@ -78,19 +80,39 @@ fn ring(board: &Board) {
     });
 }
 
-fn senders(board: &Board) {
+/// Each of two sends so many, and one receives all.
+fn senders(board: &Board, count: u64) {
     let mailbox = board.seat().unwrap().mailbox().unwrap();
     explore::scope(|threads| {
         for sender in 0..2 {
             let mut seat = board.seat().unwrap();
-            threads
-                .spawn(move || (0..4).for_each(|n| seat.send(mailbox, 10 * sender + n).unwrap()));
+            threads.spawn(move || {
+                (0..count).for_each(|n| seat.send(mailbox, 10 * sender + n).unwrap());
+            });
         }
         let mut seat = board.seat().unwrap();
         threads.spawn(move || {
-            for _ in 0..8 {
+            for _ in 0..2 * count {
                 seat.recv(mailbox).unwrap();
             }
+        });
+    });
+}
+
+/// One multicasts, one receives until the port is closed, and one closes it after some calls of its
+/// own: ten calls each.
+fn closer(board: &Board) {
+    let mut main = board.seat().unwrap();
+    let channel = main.channel().unwrap();
+    let (port, other) = (main.port(channel).unwrap(), main.mailbox().unwrap());
+    let seats = [(); 3].map(|()| board.seat().unwrap());
+    let [mut sends, mut receives, mut closes] = seats;
+    explore::scope(|threads| {
+        threads.spawn(move || (0..10).for_each(|n| sends.multicast(channel, n).unwrap()));
+        threads.spawn(move || (0..10).all(|_| receives.recv(port).unwrap().is_some()));
+        threads.spawn(move || {
+            (0..9).for_each(|n| closes.send(other, n).unwrap());
+            closes.close(port).unwrap();
         });
     });
 }
