@@ -338,12 +338,21 @@ fn nor_if_calls_end_by_a_time_limit_or_as_stalled() {
     assert!(slept < plain);
 }
 
+/// A call whose time passes has no entry, and so no message that is known.
+#[test]
+fn a_call_whose_time_passes_is_no_other_call() {
+    let plan = vec![vec![11, 11, 12], vec![18, 12, 4], vec![18, 11, 12]];
+    let (plainly, _) = outcomes(&Way::every_plainly(), &plan, true);
+    let (slept, _) = outcomes(&Way::every(), &plan, true);
+    assert_eq!(plainly, slept);
+}
+
 /// Of programs that share a flag beside the board, and of which sleep sets leave out an outcome,
 /// most are seen to share something.
 #[test]
 fn what_threads_share_beside_the_board_is_mostly_seen() {
     let (mut differ, mut unseen) = (0, 0);
-    for number in 200_000..200_000 + programs() {
+    for number in 200_000..200_000 + programs() / 2 {
         let mut plan = plan(number);
         let mut random = Random::new(number);
         for thread in [0, 1] {

@@ -40,12 +40,18 @@ impl History {
         }
     }
 
-    /// A thread has made a call. `false`: it made another one after the same history.
+    /// A thread has made a call that was accepted. `false`: it made another one after the same
+    /// history.
     pub fn made(&mut self, done: &mut Done, call: u64, reply: u64) -> bool {
         let is_same = self.is_followed(mix(done.sum, 1), call);
-        done.sum = mix(mix(done.sum, call), reply);
-        self.all = mix(self.all, done.sum);
+        self.went(done, call, reply);
         is_same
+    }
+
+    /// A thread has made a step that has no entry, so that its message isn't known.
+    pub fn went(&mut self, done: &mut Done, step: u64, end: u64) {
+        done.sum = mix(mix(done.sum, step), end);
+        self.all = mix(self.all, done.sum);
     }
 
     /// The thread's last step has changed this thing, maybe.

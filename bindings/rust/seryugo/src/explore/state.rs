@@ -2,18 +2,20 @@
 
 use super::board::{sum_of, Board, Look, Pass};
 use super::choose::{mix, Chooser};
-use super::end::{End, Waits};
+use super::end::End;
 use super::history::{self, Done, History};
 use super::moves::{By, Move};
-use super::schedule::{Choice, Schedule};
+use super::schedule::Choice;
 use super::step::{Kind, Step, NONE};
-use super::tree::{Astray, Tree};
+use super::tree::Tree;
 use super::worker::{Slot, Worker};
 use std::collections::VecDeque;
 use std::fmt;
 use std::ptr;
 use std::sync::Arc;
 use std::time::Instant;
+
+mod ending;
 
 /// What a thread joins: the threads of a scope, or one.
 #[derive(Clone, Copy, PartialEq)]
@@ -216,8 +218,12 @@ impl State {
         let mut done = task.done;
         let board = self.board.as_ref().filter(|_| step.kind.has_entry());
         let sums = board.and_then(|board| board.entry_sums(entries));
-        let (call, reply) = sums.unwrap_or_else(|| (sum_of(&step), pass as u64));
-        let is_same = self.history.made(&mut done, call, reply);
+        let is_same = if let Some((call, reply)) = sums {
+            self.history.made(&mut done, call, reply)
+        } else {
+            self.history.went(&mut done, sum_of(&step), pass as u64);
+            true
+        };
         self.see(&mut done, step);
         self.tasks[number].done = done;
         self.note(number, is_same, &format_args!("another message by {step}"));
@@ -422,84 +428,6 @@ impl State {
     }
 }
 
-/// How a run ends if it can't go on.
-impl State {
-    /// As [`Board::stall`].
-    fn stall(&self) -> (bool, Vec<u64>) {
-        let waits: Vec<(u64, Step)> = self
-            .tasks
-            .iter()
-            .filter(|task| task.at == At::Step)
-            .map(|task| (task.seat, task.step))
-            .collect();
-        self.board.as_ref().map(|board| board.stall(&waits)).unwrap_or_default()
-    }
-
-    fn stalled(&self) -> End {
-        let waits = self.tasks.iter().enumerate().filter_map(|(number, task)| match task.at {
-            At::Step => Some(waits(number, task.seat, task.step)),
-            At::Joins(_) => Some(Waits {
-                thread: number,
-                seat: None,
-                call: None,
-            }),
-            _ => None,
-        });
-        let (is_told, free) = self.stall();
-        End::Stalled {
-            waits: waits.collect(),
-            is_told,
-            free,
-        }
-    }
-
-    fn endless(&self) -> End {
-        let mut last: Vec<Waits> = Vec::new();
-        for &(thread, seat, step) in &self.last {
-            let step = waits(thread, seat, step);
-            if !last.contains(&step) {
-                last.push(step);
-            }
-        }
-        End::Endless {
-            steps: self.limits.steps,
-            last,
-        }
-    }
-
-    fn astray(&mut self, astray: &Astray) -> End {
-        match astray {
-            Astray::Differs { choice, before } => {
-                let now = self.moves().unwrap_or_default();
-                End::NotDeterministic(format!(
-                    "the program isn't deterministic: at step {choice}, after the same steps, the \
-                     threads were first at {}, and then at {}",
-                    listed(before),
-                    listed(&now)
-                ))
-            }
-            Astray::Unfit { choice, task } => End::Unfit(format!(
-                "the schedule is of another program: at choice {choice} it has thread {task}, \
-                 which can't go on"
-            )),
-        }
-    }
-
-    /// The schedule of the run so far.
-    pub fn schedule(&self) -> Schedule {
-        Schedule {
-            choices: self.choices.clone(),
-            tells_stalls: self.limits.tells_stalls,
-        }
-    }
-
-    /// Who has the turn, and its last step.
-    pub fn running(&self) -> String {
-        let task = &self.tasks[self.current];
-        waits(self.current, task.seat, task.step).to_string()
-    }
-}
-
 impl Joins {
     fn has(self, number: usize, task: &Task) -> bool {
         match self {
@@ -507,17 +435,4 @@ impl Joins {
             Joins::Task(joined) => number == joined,
         }
     }
-}
-
-fn waits(thread: usize, seat: u64, step: Step) -> Waits {
-    Waits {
-        thread,
-        seat: (seat != NONE).then_some(seat),
-        call: Some(step.to_string()),
-    }
-}
-
-fn listed(moves: &[Move]) -> String {
-    let each = moves.iter().map(|way| format!("{} (thread {})", way.step, way.task));
-    each.collect::<Vec<_>>().join(", ")
 }

@@ -1,0 +1,98 @@
+//! How a run ends if it can't go on.
+
+use super::{At, State};
+use crate::explore::end::{End, Waits};
+use crate::explore::moves::Move;
+use crate::explore::schedule::Schedule;
+use crate::explore::step::{Step, NONE};
+use crate::explore::tree::Astray;
+
+impl State {
+    /// As [`Board::stall`].
+    pub(super) fn stall(&self) -> (bool, Vec<u64>) {
+        let waits: Vec<(u64, Step)> = self
+            .tasks
+            .iter()
+            .filter(|task| task.at == At::Step)
+            .map(|task| (task.seat, task.step))
+            .collect();
+        self.board.as_ref().map(|board| board.stall(&waits)).unwrap_or_default()
+    }
+
+    pub(super) fn stalled(&self) -> End {
+        let waits = self.tasks.iter().enumerate().filter_map(|(number, task)| match task.at {
+            At::Step => Some(waits(number, task.seat, task.step)),
+            At::Joins(_) => Some(Waits {
+                thread: number,
+                seat: None,
+                call: None,
+            }),
+            _ => None,
+        });
+        let (is_told, free) = self.stall();
+        End::Stalled {
+            waits: waits.collect(),
+            is_told,
+            free,
+        }
+    }
+
+    pub(super) fn endless(&self) -> End {
+        let mut last: Vec<Waits> = Vec::new();
+        for &(thread, seat, step) in &self.last {
+            let step = waits(thread, seat, step);
+            if !last.contains(&step) {
+                last.push(step);
+            }
+        }
+        End::Endless {
+            steps: self.limits.steps,
+            last,
+        }
+    }
+
+    pub(super) fn astray(&mut self, astray: &Astray) -> End {
+        match astray {
+            Astray::Differs { choice, before } => {
+                let now = self.moves().unwrap_or_default();
+                End::NotDeterministic(format!(
+                    "the program isn't deterministic: at step {choice}, after the same steps, the \
+                     threads were first at {}, and then at {}",
+                    listed(before),
+                    listed(&now)
+                ))
+            }
+            Astray::Unfit { choice, task } => End::Unfit(format!(
+                "the schedule is of another program: at choice {choice} it has thread {task}, \
+                 which can't go on"
+            )),
+        }
+    }
+
+    /// The schedule of the run so far.
+    pub fn schedule(&self) -> Schedule {
+        Schedule {
+            choices: self.choices.clone(),
+            tells_stalls: self.limits.tells_stalls,
+        }
+    }
+
+    /// Who has the turn, and its last step.
+    pub fn running(&self) -> String {
+        let task = &self.tasks[self.current];
+        waits(self.current, task.seat, task.step).to_string()
+    }
+}
+
+fn waits(thread: usize, seat: u64, step: Step) -> Waits {
+    Waits {
+        thread,
+        seat: (seat != NONE).then_some(seat),
+        call: Some(step.to_string()),
+    }
+}
+
+fn listed(moves: &[Move]) -> String {
+    let each = moves.iter().map(|way| format!("{} (thread {})", way.step, way.task));
+    each.collect::<Vec<_>>().join(", ")
+}
