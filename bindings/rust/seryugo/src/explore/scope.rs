@@ -10,6 +10,15 @@ use std::sync::{Arc, Mutex, PoisonError};
 use std::thread;
 
 /// Where threads are started. They end before [`scope`] returns.
+///
+/// A thread can't borrow what the body of [`scope`] owns, which goes before the thread ends:
+///
+/// ```compile_fail,E0373
+/// seryugo::explore::scope(|threads| {
+///     let number = 5;
+///     threads.spawn(|| assert_eq!(number, 5));
+/// });
+/// ```
 #[derive(Clone, Copy)]
 pub struct Scope<'scope, 'env: 'scope> {
     threads: &'scope thread::Scope<'scope, 'env>,
