@@ -230,7 +230,9 @@ impl<H: Holds<Bytes>> Seat<'_, Bytes, H> {
     /// The mailbox for the seat's answers, and the number of its next question.
     fn next_asker<A>(&mut self) -> Result<Asker<A>, Error> {
         if self.answers.is_none() {
-            self.answers = self.board.lock().free_answers.pop();
+            // In an exploration each seat has its own: which are free depends on the order of seats.
+            let is_free = self.board.explored.is_none();
+            self.answers = is_free.then(|| self.board.lock().free_answers.pop()).flatten();
         }
         let mut answers = match self.answers.take() {
             Some(answers) => answers,
