@@ -492,6 +492,8 @@ fn clones_of_a_sender_ask_and_a_receiver_answers() {
         for thread in threads {
             assert_eq!(thread.join().unwrap(), Error::Declined);
         }
-        assert_eq!((receiver.recv(), objects(&board)), (Err(Error::Stalled), 5));
+        assert_eq!(receiver.recv(), Err(Error::Stalled));
+        // A sender that asks after another one has gone takes its mailbox.
+        assert!((2..=5).contains(&objects(&board)));
     });
 }
