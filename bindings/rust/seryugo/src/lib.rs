@@ -68,6 +68,9 @@
 //!
 //! - A call that sends takes the message, a reference to it, or a text for a `String` ([`SentAs`]).
 //!   If it fails, [`SendError`] hands the message back.
+//! - A type of yours is a message by an `impl` of two methods ([`Message`]), or by one line of the
+//!   crate `seryugo_serde` beside this one: `serde_message!(Order);`, for what serde can read and
+//!   write.
 //! - A message that was received and can't be read as the object's type is [`Error::Unreadable`],
 //!   which has its bytes and the type's name.
 //! - A name such as [`Mailbox`] is `Copy`, and belongs to the switchboard that made it. On another

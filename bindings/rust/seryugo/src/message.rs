@@ -5,8 +5,11 @@ use std::sync::Arc;
 
 /// A value that is sent as bytes, and read back from them.
 ///
-/// It is implemented for the numbers, `bool`, `char`, `()`, strings, lists and arrays of bytes,
-/// tuples of one to six messages, and [`Option`]s. Implement it for your own types:
+/// It is implemented for the numbers, `bool`, `char`, `()`, strings, lists, maps and arrays of
+/// bytes, tuples of one to six messages, and [`Option`]s.
+///
+/// For a type of yours that derives serde's `Serialize` and `Deserialize`, name the crate
+/// `seryugo_serde` beside this one, and write `serde_message!(Order);`. Or implement the two methods:
 ///
 /// ```
 /// use seryugo::{Error, Message, Switchboard};
