@@ -114,6 +114,41 @@ static inline const char *seryugo_code_text(uint32_t code)
     return code < sizeof texts / sizeof *texts ? texts[code] : "unknown code";
 }
 
+/*
+ * Which call returns which refusal, without the prefix. Every call on a handle may return WRONG_HANDLE. What a refusal leaves as it was
+ * is said at each call.
+ *
+ *     room_open, bytes_room_open            OUT_OF_BOUNDS, NO_MEMORY
+ *     new_seat                              NO_MEMORY
+ *     leave, withdraw                       GONE
+ *     a seat's call that makes an object    GONE, JOURNAL_FULL, NO_MEMORY
+ *     a seat's call on an object            GONE, NO_SUCH, WRONG_KIND, JOURNAL_FULL, NO_MEMORY; STALLED if it may block
+ *     the same with a message of bytes      OUT_OF_BOUNDS too
+ *     lane_open                             NO_SUCH, WRONG_KIND, NO_MEMORY, OUT_OF_BOUNDS
+ *     lane_send, bytes_lane_send            FULL; with bytes OUT_OF_BOUNDS, NO_MEMORY
+ *     lane_finish                           GONE
+ *     lane_close                            UNSEEN, JOURNAL_FULL, NO_MEMORY, NO_SUCH
+ *     lane_drain, lane_drop                 JOURNAL_FULL, NO_MEMORY, NO_SUCH; lane_drop STILL_OPEN
+ *     lane_abandon, feed_end                NO_SUCH
+ *     feed_open                             NO_SUCH, WRONG_KIND, JOURNAL_FULL, NO_MEMORY, OUT_OF_BOUNDS
+ *     feed_pump                             JOURNAL_FULL, NO_MEMORY, NO_SUCH
+ *     bytes_feed_recv                       NO_MEMORY
+ *     reserve                               NO_MEMORY
+ *     cut                                   BUSY
+ *     take_journal, take_journal_open       NO_MEMORY; take_journal BUSY
+ *     compact, compact_and_cut              NO_MEMORY, JOURNAL_FULL
+ *     entry, taken_entry                    NO_SUCH; with bytes NO_MEMORY
+ *     journal_text, sealed_text             NO_MEMORY, OUT_OF_BOUNDS, TOO_LONG
+ *     checker_open, reading_open            NO_MEMORY
+ *     checker_feed, checker_feed_journal    UNLAWFUL, NO_MEMORY; OUT_OF_BOUNDS, and of a journal NO_SUCH
+ *     checker_verdict                       UNLAWFUL
+ *     reading_take                          FAULT, UNLAWFUL, NO_MEMORY, OUT_OF_BOUNDS
+ *     reading_end                           TORN, and by what the reading stopped
+ *     reading_sum                           NO_MEMORY
+ *     room_restore, reading_compact         FAULT, UNLAWFUL, NO_MEMORY; room_restore OUT_OF_BOUNDS
+ *     readers                               NO_SUCH; bytes_held NO_MEMORY; is_open CLOSED; is_full JOURNAL_FULL
+ */
+
 /* A handle to a room, a lane, a feed, a checker, a reading or a journal that was taken. A call that opens it writes it, and
  * seryugo_close closes it. */
 struct seryugo {
