@@ -25,8 +25,8 @@
 
 /* The version of this header, as a text and as a number: major * 65536 + minor * 256 + patch. The library that is installed with
  * the header has the same. seryugo_version returns the number of the library that a program runs with. */
-#define SERYUGO_VERSION "0.1.0"
-#define SERYUGO_VERSION_NUMBER 256
+#define SERYUGO_VERSION "0.2.0"
+#define SERYUGO_VERSION_NUMBER 512
 
 #ifdef __cplusplus
 extern "C" {
