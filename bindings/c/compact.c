@@ -82,7 +82,7 @@ static void is_written(uint64_t from, const char *expected, int line)
     free_one(&has_text, text);
 }
 
-/* The short journal of what was read has just this text, and so many entries. The reading is spent then. */
+/* The short journal of what was read has just this text, and this many entries. The reading is spent then. */
 static void shortens(const char *expected, uint64_t entries, int line)
 {
     uint64_t count = 77;

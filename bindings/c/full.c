@@ -123,7 +123,7 @@ static void try_dropping(void)
     close_small();
 }
 
-/* The text of all pieces is a lawful journal of so many entries. */
+/* The text of all pieces is a lawful journal of this many entries. */
 static void is_lawful(uint64_t entries)
 {
     uint64_t found;

@@ -140,7 +140,7 @@ static void try_a_second_piece(void)
     close_one(&has_room, room);
 }
 
-/* Takes what the file has up to `end`, in parts of so many bytes, and returns what the last part or the end returns. */
+/* Takes what the file has up to `end`, in parts of this many bytes, and returns what the last part or the end returns. */
 static uint32_t take_parts(size_t end, size_t part)
 {
     uint32_t code = SERYUGO_DONE;
@@ -197,7 +197,7 @@ static void try_torn_texts(void)
     close_one(&has_reading, reading);
 }
 
-/* A reading of this text stops so, after so many entries and lines. It stays so, and no room and no journal is made of it. */
+/* A reading of this text stops so, after this many entries and lines. It stays so, and no room and no journal is made of it. */
 static void stops(const char *given, uint32_t code, uint64_t entries, uint64_t lines, int line)
 {
     uint64_t count = 77;

@@ -9,7 +9,7 @@
 
 #define LIMIT 65536
 
-/* The report of a script of so many bytes, which the caller frees; null where there is no memory for it. */
+/* The report of a script of this many bytes, which the caller frees; null where there is no memory for it. */
 static uint8_t *replayed(const uint8_t *script, size_t length, struct seryugo_end *end)
 {
     uint8_t *report;

@@ -51,7 +51,7 @@ class Client:
         return self.line()
 
     def says(self, count):
-        """Says so many lines, each with its number among them, and returns what comes back."""
+        """Says this many lines, each with its number among them, and returns what comes back."""
         returned = []
         for first in range(0, count, 40):
             numbers = range(first, min(first + 40, count))
@@ -236,7 +236,7 @@ class ServerCases(Cases):
         self.address = None
 
     def starts_short(self, name, entries, length):
-        """Cases: a server starts on a file with less than so many entries and bytes."""
+        """Cases: a server starts on a file with less than this many entries and bytes."""
         size = self.journal.stat().st_size
         start = time.monotonic()
         self.begin()

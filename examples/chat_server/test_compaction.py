@@ -14,7 +14,7 @@ from cases import has, wait_until  # isort: skip
 # How often the server is killed near the moment in which a file takes another one's place.
 KILLS = 5
 
-# A disk of so many kilobytes.
+# A disk of this many kilobytes.
 DISK = 1000
 
 GOES_ON = r"(?m)^chat_server: the journal can't be made short, and goes on in its file: "

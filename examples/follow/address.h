@@ -18,13 +18,13 @@ struct address address_read(const char *word);
  * process ends. */
 int address_bind(const struct address *address);
 
-/* Connects to the address within so many milliseconds, which also limit each later read and write. Returns the socket, or -1. */
+/* Connects to the address within this many milliseconds, which also limit each later read and write. Returns the socket, or -1. */
 int address_connect(const struct address *address, int milliseconds);
 
 /* Milliseconds of a clock that never goes back. */
 int64_t now(void);
 
-/* Sleeps so many milliseconds, or less if a signal comes. */
+/* Sleeps this many milliseconds, or less if a signal comes. */
 void sleep_for(int milliseconds);
 
 #endif

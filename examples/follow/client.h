@@ -7,7 +7,7 @@
 #include <stddef.h>
 
 /* Sends the lines of standard input as this client's next requests, one at a time, and prints each answer. Two requests are at
- * least so many milliseconds apart. It tries the addresses in turn. If no process answers for a minute, the process ends. If it is
+ * least this many milliseconds apart. It tries the addresses in turn. If no process answers for a minute, the process ends. If it is
  * to stop, it stops after the answer to its last request. */
 void client_run(uint64_t client, const struct address *addresses, size_t count, int milliseconds);
 

@@ -10,7 +10,7 @@
 #include <sys/socket.h>
 #include <unistd.h>
 
-/* If a client has so many bytes of answers to read, no more of its requests are read. */
+/* If a client has this many bytes of answers to read, no more of its requests are read. */
 #define UNREAD_MOST 65536
 
 void connections_open(struct connections *connections, int listener, const char *address)
@@ -65,7 +65,7 @@ static void accept_one(struct connections *connections)
     connections->all[connections->count++] = connection;
 }
 
-/* Drops so many bytes at the front of what came. */
+/* Drops this many bytes at the front of what came. */
 static void drop(struct connection *connection, size_t length)
 {
     connection->used -= length;

@@ -4,10 +4,10 @@
 
 #include "text.h"
 
-/* A line has at most so many bytes, with its line feed. */
+/* A line has at most this many bytes, with its line feed. */
 #define LINE_MOST 4096
 
-/* At most so many clients are connected. Others wait until one leaves. */
+/* At most this many clients are connected. Others wait until one leaves. */
 #define CONNECTIONS_MOST 512
 
 struct connection {
@@ -37,7 +37,7 @@ struct connections {
 /* Begins to listen at a bound socket. If that fails, the process ends. `address` is its name for the error's words. */
 void connections_open(struct connections *connections, int listener, const char *address);
 
-/* Waits so many milliseconds for clients, or not at all if a line is there, and reads what they sent. */
+/* Waits this many milliseconds for clients, or not at all if a line is there, and reads what they sent. */
 void connections_wait(struct connections *connections, int milliseconds);
 
 /* Takes the next line. Returns NULL if there is none, and else the connection, to whose answers the line's answer is appended. The

@@ -18,7 +18,7 @@ struct leader {
     struct id last;
     /* When the lease was renewed last. */
     int64_t renewed;
-    /* A short journal is made once the stream has so many entries of the journal. */
+    /* A short journal is made once the stream has this many entries of the journal. */
     uint64_t least;
     uint64_t look_at;
 };

@@ -9,7 +9,7 @@ struct lease {
     struct redis *redis;
     /* The name of this process, which no other has. */
     const char *name;
-    /* After so many milliseconds without a renewal the lease is free. */
+    /* After this many milliseconds without a renewal the lease is free. */
     int milliseconds;
 };
 

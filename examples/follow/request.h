@@ -4,7 +4,7 @@
 
 #include "text.h"
 
-/* A queue's name has at most so many bytes. */
+/* A queue's name has at most this many bytes. */
 #define QUEUE_MOST 64
 
 enum verb {

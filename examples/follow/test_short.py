@@ -7,7 +7,7 @@ import subprocess
 from service import Service, sealed
 from cases import wait_until  # noqa: I001
 
-# A stream is made short once it has so many entries of the journal.
+# A stream is made short once it has this many entries of the journal.
 FROM = 100
 
 OPTIONS = ("--compact-from", FROM)
@@ -35,7 +35,7 @@ class Short(Service):
             yield f"9 {self.last} {call}"
 
     def asks(self, place, count):
-        """Makes so many requests, in pieces, and returns the answers."""
+        """Makes this many requests, in pieces, and returns the answers."""
         answers = []
         for first in range(0, count, 20):
             requests = self.requests(min(20, count - first))
@@ -135,7 +135,7 @@ class Short(Service):
         self.end()
 
     def held(self, count):
-        """Whether Redis holds back so many entries."""
+        """Whether Redis holds back this many entries."""
         clients = self.ask_redis("CLIENT", "LIST")
         return len(re.findall(r" flags=[a-zA-Z]*b.* cmd=xadd ", clients)) == count
 

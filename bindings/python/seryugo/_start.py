@@ -20,7 +20,7 @@ class Start:
     def __init__(
         self, cut: int, length: c_uint64, is_made: Optional[Callable[[], bool]] = None
     ) -> None:
-        """Begin with a short journal of this length, which stands for so many entries."""
+        """Begin with a short journal of this length, which stands for this many entries."""
         self._cut = cut
         self._length = length
         self._is_made = is_made or (lambda: length.value != UNWRITTEN)

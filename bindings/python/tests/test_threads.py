@@ -40,7 +40,7 @@ class Waiting(unittest.TestCase):
             self.assertFalse(worker.is_alive(), "a thread sleeps on")
 
     def parked(self, board, count):
-        """Wait until so many seats are parked."""
+        """Wait until this many seats are parked."""
         end = time.monotonic() + LIMIT
         while len(board._room._parked) < count:
             self.assertLess(time.monotonic(), end)

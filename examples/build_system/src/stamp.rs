@@ -6,7 +6,7 @@ use std::time::{SystemTime, UNIX_EPOCH};
 /// How new an object is. A later one is greater.
 #[derive(Clone, Copy, Debug, PartialEq, Eq, PartialOrd, Ord)]
 pub enum Stamp {
-    /// Written so many nanoseconds after 1970, by the file's time of modification.
+    /// Written this many nanoseconds after 1970, by the file's time of modification.
     At(i64),
     /// Newer than each file: `-n` takes it for made.
     New,

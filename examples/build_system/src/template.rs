@@ -5,7 +5,7 @@ use crate::variables::Variables;
 
 /// What a text may grow to.
 const MOST_BYTES: usize = 1 << 26;
-/// A reference counts as so many bytes, since one of a variable without a value takes time too.
+/// A reference counts as this many bytes, since one of a variable without a value takes time too.
 const REFERENCE: usize = 64;
 /// How deep variables may refer to each other.
 const MOST_DEPTH: usize = 1_000;

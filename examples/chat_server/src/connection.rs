@@ -76,7 +76,7 @@ struct List {
 }
 
 impl Connections {
-    /// Adds a connection, unless there are so many. Returns `None` if there are, or if the socket has failed.
+    /// Adds a connection, unless there are this many. Returns `None` if there are, or if the socket has failed.
     pub fn add(&self, socket: TcpStream, most: u64) -> Option<Arc<Connection>> {
         let mut list = self.lock();
         if list.is_closed || list.open.len() as u64 >= most {

@@ -29,7 +29,7 @@ pub struct Room {
 }
 
 impl Room {
-    /// A room whose first messages have numbers up to `last`. Those up to `published` are published, and the channel counts so many.
+    /// A room whose first messages have numbers up to `last`. Those up to `published` are published, and the channel counts this many.
     ///
     /// Returns `None` if the channel counts more.
     pub fn new(name: Name, objects: Objects, last: u64, published: u64, counted: u64) -> Option<Room> {

@@ -11,7 +11,7 @@ use std::os::unix::fs::FileExt;
 use std::path::{Path, PathBuf};
 use std::sync::{Arc, Mutex, MutexGuard, PoisonError};
 
-/// The place of each so many-th message of a room is held in memory. A reader skips the messages between.
+/// The place of one in this many messages of a room is held in memory. A reader skips the messages between.
 const APART: u64 = 64;
 
 /// Finds messages in the file by their room's queue and their number, which is 1 for the first one.

@@ -85,7 +85,7 @@ impl JournalFile {
         wants
     }
 
-    /// Whether a short journal with so many entries is to replace what the file has.
+    /// Whether a short journal with this many entries is to replace what the file has.
     pub fn is_worth(&mut self, entries: u64) -> bool {
         self.look_at = self.look_at.max(PART * entries);
         self.entries >= PART * entries

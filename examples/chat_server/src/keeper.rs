@@ -15,7 +15,7 @@ use std::sync::mpsc::Sender;
 use std::sync::{Condvar, Mutex, MutexGuard, PoisonError, RwLock, RwLockReadGuard};
 use std::time::Duration;
 
-/// The journal is taken once it has so many entries, or once it is full.
+/// The journal is taken once it has this many entries, or once it is full.
 const PIECE: u64 = 1_000;
 
 /// It is taken once a client waits for an entry to be kept, and so much time has passed, in which others may come.
@@ -37,7 +37,7 @@ pub struct Keeper<'a> {
     calls: AtomicU64,
     /// Each call is made with a share of it. Who has all of it sees a journal to which nothing is added.
     gate: RwLock<()>,
-    /// A file has at least so many bytes before it is made short.
+    /// A file has at least this many bytes before it is made short.
     compact_from: u64,
     /// Whether a short journal is to be made.
     is_long: AtomicBool,

@@ -9,7 +9,7 @@ use std::sync::{Condvar, Mutex, MutexGuard, PoisonError};
 use std::thread::Thread;
 use std::time::{Duration, Instant};
 
-/// If so many bytes are due, a thread that pushes another line waits.
+/// If this many bytes are due, a thread that pushes another line waits.
 const MOST: usize = 1 << 16;
 
 /// How long the last lines may take.

@@ -17,7 +17,7 @@ pub struct Progress<'a, F> {
 }
 
 impl<'a, F: Read> Progress<'a, F> {
-    /// Reads a file of so many bytes.
+    /// Reads a file of this many bytes.
     pub fn new(file: F, path: &'a Path, length: u64) -> Progress<'a, F> {
         Progress {
             file: BufReader::with_capacity(1 << 16, file),

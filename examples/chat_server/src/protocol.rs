@@ -127,10 +127,7 @@ impl fmt::Display for Refusal {
             Refusal::MemberLimit(limit) => write!(f, "{limit} names have a place, and no more can"),
             Refusal::ServerFull(limit) => write!(f, "{limit} clients are connected, and no more can be"),
             Refusal::FellBehind { room, last } => {
-                write!(
-                    f,
-                    "you were too far behind, and lost your place in {room} after message {last}; /join {room} again"
-                )
+                write!(f, "you were too far behind, and lost your place in {room} after message {last}; /join {room} again")
             }
         }
     }

@@ -10,7 +10,7 @@ use std::collections::HashMap;
 use std::sync::atomic::Ordering;
 use std::sync::mpsc::Receiver;
 
-/// After so many messages, as a part of the limit, the members of a room are counted that are too far behind.
+/// After this many messages, as a part of the limit, the members of a room are counted that are too far behind.
 const PART: u64 = 10;
 
 /// Publishes, until the keeper has ended.

@@ -5,7 +5,7 @@
 //!
 //! Thread k sends to mailbox k + 1 and receives from mailbox k. Its n-th message is n. FOLDER/journal has the journal, in pieces of
 //! 10,000 entries, each with a sum. Once a piece is on the disk, a line of FOLDER/kept says so: `kept 20000 entries 538897 bytes`. With MESSAGES
-//! each thread ends after so many messages. `tests/keep_journal.sh` kills it ten times.
+//! each thread ends after this many messages. `tests/keep_journal.sh` kills it ten times.
 
 mod file;
 
@@ -46,7 +46,7 @@ fn main() -> Result<(), Box<dyn AnyError>> {
     Ok(())
 }
 
-/// Has each thread pass so many messages.
+/// Has each thread pass this many messages.
 fn pass_all(board: &Switchboard<Numbers>, messages: u64) -> Result<(), Error> {
     let mailboxes = mailboxes(board)?;
     let seats = (0..THREADS).map(|_| board.seat()).collect::<Result<Vec<_>, _>>()?;

@@ -80,7 +80,7 @@ fn ring(board: &Board) {
     });
 }
 
-/// Each of two sends so many, and one receives all.
+/// Each of two sends this many, and one receives all.
 fn senders(board: &Board, count: u64) {
     let mailbox = board.seat().unwrap().mailbox().unwrap();
     explore::scope(|threads| {

@@ -29,7 +29,7 @@ impl Appending {
         Appending { file, left: None }
     }
 
-    /// Writes a journal where the file ends. A torn piece would make all behind it unreadable, so
+    /// Writes a journal where the file ends. A torn piece would make all after it unreadable, so
     /// that none is left there.
     pub fn append<R: Room>(&mut self, journal: &Journal<R>) -> io::Result<()> {
         let end = self.file.seek(SeekFrom::End(0))?;

@@ -42,7 +42,7 @@ impl<R: Room> Inside<R> {
         self.end_hosting();
     }
 
-    /// So many seats are still to be made.
+    /// This many seats are still to be made.
     pub fn expect(&mut self, seats: u64) -> Result<(), Error> {
         if seats != 0 {
             self.be_host()?;

@@ -19,7 +19,7 @@ pub(crate) type Pass = fn() -> bool;
 /// So often a thread spins before it looks for a wake: for one pause, and then for twice as many
 /// each time.
 const SPINS: u32 = 5;
-/// In so many waits a thread doesn't look, at the most. With 64 two threads that answer each other
+/// In this many waits a thread doesn't look, at the most. With 64 two threads that answer each other
 /// slept now and then.
 const MOST_WITHOUT: u16 = 16;
 
@@ -69,7 +69,7 @@ impl<const YIELDS: u32> Backoff<YIELDS> {
 }
 
 /// What the first look sees that sees anything. Before each of the first looks the thread spins:
-/// for so many pauses, and then for twice as many each time. Before each of the others it passes,
+/// for this many pauses, and then for twice as many each time. Before each of the others it passes,
 /// until that tells it to stop.
 pub(crate) fn look<T>(
     pauses: u32,

@@ -50,7 +50,7 @@ pub struct Checker<R: Room = Bytes> {
 pub enum CheckError {
     /// The entry at this position, counted from 0, is the first that isn't lawful.
     Unlawful(u64),
-    /// This line, counted from 1, has a fault; or it says that the journal begins behind a cut.
+    /// This line, counted from 1, has a fault; or it says that the journal begins after a cut.
     Fault(u64),
     /// The reader failed. What it gave before is read: read the rest by another reader.
     Io(io::Error),
@@ -252,7 +252,7 @@ impl<R: Room> Checker<R> {
     /// short one, with the same replies, and nothing else.
     ///
     /// It begins at position 0. The seat with the highest number of the long journal made all of
-    /// its entries, so new seats have the numbers that they would have behind the long one. Lanes
+    /// its entries, so new seats have the numbers that they would have after the long one. Lanes
     /// and feeds begin at 0 again. A text that ends in the middle is taken up to its last whole
     /// line: ask [`is_whole`](Checker::is_whole) before.
     ///

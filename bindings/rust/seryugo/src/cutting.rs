@@ -12,7 +12,7 @@ use std::io;
 
 /// # The journal
 impl<R: Room> Switchboard<R> {
-    /// Takes memory for so many more entries.
+    /// Takes memory for this many more entries.
     ///
     /// ```
     /// # let board = seryugo::Switchboard::new(1_000)?;

@@ -129,7 +129,7 @@ impl<R: Room> Switchboard<R> {
         Guest::at(Arc::clone(self))
     }
 
-    /// From now on so many seats are still to be made. Each [`seat`](Switchboard::seat) and
+    /// From now on this many seats are still to be made. Each [`seat`](Switchboard::seat) and
     /// [`seat_owned`](Switchboard::seat_owned) uses one up, and so does each new half of a mailbox.
     /// Until all are made, no call fails with [`Error::Stalled`], as while a [`Guest`] is there.
     ///

@@ -11,7 +11,7 @@ use std::collections::BTreeMap;
 use std::io::{self, ErrorKind};
 use std::panic::{self, AssertUnwindSafe};
 
-/// A drain or a pump moves at most so many messages: no ring has room for more.
+/// A drain or a pump moves at most this many messages: no ring has room for more.
 const MOST_MOVED: u64 = 1024;
 
 /// What a call returns that isn't made, since nobody took the entries of the last full journal.
@@ -36,7 +36,7 @@ pub(crate) struct Inside<R: Room> {
     pub handle: Handle,
     /// How many entries the journal takes between two cuts.
     limit: u64,
-    /// The journal surely has room for so many more. Without a keeper nobody asks.
+    /// The journal surely has room for this many more. Without a keeper nobody asks.
     spare: u64,
     /// What cuts a full journal.
     keeper: Option<Keeper<R>>,
@@ -62,7 +62,7 @@ pub(crate) struct Inside<R: Room> {
 }
 
 impl<R: Room> Inside<R> {
-    /// Over a room in which no seat was made yet. Its journal takes so many entries between two
+    /// Over a room in which no seat was made yet. Its journal takes this many entries between two
     /// cuts.
     pub fn new(handle: Handle, limit: u64) -> Inside<R> {
         Inside {
@@ -368,7 +368,7 @@ impl<R: Room> Inside<R> {
         Ok(())
     }
 
-    /// Moves what it can of an open lane on which so many messages were sent, and closes the lane:
+    /// Moves what it can of an open lane on which this many messages were sent, and closes the lane:
     /// how many are lost.
     pub fn end_lane(&mut self, lane: u64, sent: u64) -> u64 {
         // A lane may end as its thread panics, so that no panic of a sink may leave this: the sink

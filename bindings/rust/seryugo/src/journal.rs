@@ -115,7 +115,7 @@ impl<R: Room> Journal<R> {
     }
 
     /// Writes the entries as text: one piece, as `docs/FORMATS.md` says under "Journals". Write the
-    /// pieces of a switchboard one behind the other, and [`Checker`](crate::Checker) and
+    /// pieces of a switchboard one after the other, and [`Checker`](crate::Checker) and
     /// [`Switchboard::restore`](crate::Switchboard::restore) read them. It flushes nothing.
     ///
     /// Not all damage of such a text is seen. That of a [sealed](Journal::write_sealed_to) one is.
@@ -158,7 +158,7 @@ impl<R: Room> Journal<R> {
     ///
     /// # Errors
     ///
-    /// Those of `write_to`; and `InvalidInput` if the position behind the last entry would be 2^64
+    /// Those of `write_to`; and `InvalidInput` if the position after the last entry would be 2^64
     /// or more.
     pub fn write_at(&self, position: u64, to: &mut impl Write) -> io::Result<()> {
         let text = Received::text_of(&mut self.handle.borrow_mut(), position).map_err(unwritten)?;

@@ -22,7 +22,7 @@ pub struct Kept {
     pub entries: u64,
     /// How many bytes it has. Cut the text there.
     pub bytes: u64,
-    /// The line that ends its last piece. Write it behind these bytes, and the text is a whole
+    /// The line that ends its last piece. Write it after these bytes, and the text is a whole
     /// journal. It is empty if the last piece has its end.
     pub ending: String,
     /// The sum of the last piece with this ending: pass it to

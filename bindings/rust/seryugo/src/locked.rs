@@ -9,7 +9,7 @@ use crate::switchboard::Switchboard;
 use crate::yields::pass_by_yielding;
 use std::sync::{MutexGuard, PoisonError, TryLockError};
 
-/// Before a thread waits for the lock, it spins and tries it: for so many pauses, and then for
+/// Before a thread waits for the lock, it spins and tries it: for this many pauses, and then for
 /// twice as many each time. Then it yields and tries it. With a quarter of the pauses, four threads
 /// that send took up to 1.4 times as long: too many looked at the lock.
 const PAUSES: u32 = 64;
@@ -87,7 +87,7 @@ impl<R: Room> Switchboard<R> {
     }
 
     /// Wakes a seat that is due, for a call of that seat or of none. A thread that is woken makes a
-    /// call, which wakes the seat after. A task may be polled late. So behind a task this wakes the
+    /// call, which wakes the seat after. A task may be polled late. So after a task this wakes the
     /// next seat too, up to the first thread.
     fn wake(&self, due: &Parker, by: Option<&Parker>) {
         let mut next = Some(due);

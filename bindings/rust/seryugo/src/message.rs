@@ -71,7 +71,7 @@ use std::sync::Arc;
     note = "implement `seryugo::Message` for it, which turns it into bytes and back"
 )]
 pub trait Message: Sized {
-    /// Writes the value behind what the list has.
+    /// Writes the value after what the list has.
     ///
     /// ```
     /// use seryugo::Message;
@@ -280,7 +280,7 @@ pub(crate) fn write_length(mut length: usize, bytes: &mut Vec<u8>) {
     bytes.push(length as u8);
 }
 
-/// Reads a message that has its length before it. The bytes behind it are left.
+/// Reads a message that has its length before it. The bytes after it are left.
 pub(crate) fn read_part<T: Message>(bytes: &mut &[u8]) -> Option<T> {
     let length = read_length(bytes)?;
     let (part, rest) = bytes.split_at_checked(length)?;

@@ -192,7 +192,7 @@ impl Parker {
         }
     }
 
-    /// The seat made a call that may park it, or made it again. So many calls were made on the
+    /// The seat made a call that may park it, or made it again. This many calls were made on the
     /// switchboard.
     #[inline]
     pub fn note_ask(&self, is_again: bool, is_parked: bool, calls: u64) {

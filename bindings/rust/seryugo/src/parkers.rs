@@ -6,7 +6,7 @@ use std::ops::Deref;
 use std::ptr::NonNull;
 use std::sync::OnceLock;
 
-/// The first part has so many parkers, and each later part twice as many as the one before.
+/// The first part has this many parkers, and each later part twice as many as the one before.
 const FIRST: usize = 8;
 /// So many that there is no memory for the last.
 const PARTS: usize = 40;

@@ -17,7 +17,7 @@ const IN_PLACE: usize = 78;
 /// A message of the library, or a journal's text. It is freed when it is dropped.
 ///
 /// Only a call that receives writes it, once. If the message lies elsewhere, the call writes
-/// `block` and `owner`. Else it writes so many bytes of `in_place`.
+/// `block` and `owner`. Else it writes this many bytes of `in_place`.
 #[repr(C)]
 pub struct Received {
     length: usize,
@@ -52,7 +52,7 @@ impl Received {
         Ok(text)
     }
 
-    /// The same with sums: behind the piece that has the first sum. Returns this piece's sum, too.
+    /// The same with sums: after the piece that has the first sum. Returns this piece's sum, too.
     pub fn sealed_text_of(
         journal: &mut Handle,
         from: u64,
@@ -71,7 +71,7 @@ impl Received {
         } else {
             self.in_place.as_ptr().cast()
         };
-        // SAFETY: the library has written so many bytes. Those elsewhere stay until they are freed.
+        // SAFETY: the library has written this many bytes. Those elsewhere stay until they are freed.
         unsafe { slice::from_raw_parts(at, self.length) }
     }
 }
@@ -108,7 +108,7 @@ impl RawPlace {
     unsafe fn copied(&self) -> Vec<u8> {
         match self.length {
             0 => Vec::new(),
-            // SAFETY: the library has written a pointer to so many bytes, which the owner keeps.
+            // SAFETY: the library has written a pointer to this many bytes, which the owner keeps.
             length => unsafe { slice::from_raw_parts(self.at, length) }.to_vec(),
         }
     }

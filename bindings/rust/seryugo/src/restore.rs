@@ -32,7 +32,7 @@ impl fmt::Display for RestoreError {
         match self {
             RestoreError::Check(error) => error.fmt(f),
             RestoreError::Torn(kept) => {
-                write!(f, "the journal ends in the middle, behind {} entries", kept.entries)
+                write!(f, "the journal ends in the middle, after {} entries", kept.entries)
             }
             RestoreError::OutOfBounds => Error::OutOfBounds.fmt(f),
         }
@@ -56,7 +56,7 @@ impl From<CheckError> for RestoreError {
 
 impl<R: Room> Switchboard<R> {
     /// Reads a journal to its end, and returns a switchboard that goes on from there: with the
-    /// objects that the journal made, and what they held behind its last entry. Its journal is cut,
+    /// objects that the journal made, and what they held after its last entry. Its journal is cut,
     /// and takes `limit` entries between two cuts.
     ///
     /// Find the objects again by their numbers ([`mailbox`](Switchboard::mailbox) and so on). The
@@ -104,7 +104,7 @@ impl<R: Room> Switchboard<R> {
     ///
     /// Before you write the next piece, cut the text to the bytes that were kept, and write their
     /// ending. If the text has sums, write the next piece by
-    /// [`Journal::write_sealed_to`](crate::Journal::write_sealed_to) behind [`Kept::sum`]. This
+    /// [`Journal::write_sealed_to`](crate::Journal::write_sealed_to) after [`Kept::sum`]. This
     /// holds of a whole text too. A piece without its end has no sum yet: a change among its lines
     /// that leaves a lawful journal isn't seen.
     ///

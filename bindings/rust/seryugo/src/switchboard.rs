@@ -100,7 +100,7 @@ impl<R: Room> Switchboard<R> {
         Ok(Switchboard::over(Handle::opened(|room| R::open(limit, room))?, limit))
     }
 
-    /// A switchboard over a room in which no seat was made yet, and whose journal takes so many
+    /// A switchboard over a room in which no seat was made yet, and whose journal takes this many
     /// entries between two cuts.
     pub(crate) fn over(handle: Handle, limit: u64) -> Switchboard<R> {
         Switchboard {
@@ -211,7 +211,7 @@ impl<R: Room> Switchboard<R> {
         self.change(None, |inside| inside.close_lane(number, lane))
     }
 
-    /// Closes a lane on which so many messages were sent: how many are lost.
+    /// Closes a lane on which this many messages were sent: how many are lost.
     pub(crate) fn end_lane(&self, number: u64, sent: u64) -> u64 {
         self.change(None, |inside| inside.end_lane(number, sent))
     }

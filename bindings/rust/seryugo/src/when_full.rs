@@ -227,7 +227,7 @@ impl Start {
     }
 }
 
-/// Cuts the journal of a room, of which a short journal was made that has so many entries. Returns
+/// Cuts the journal of a room, of which a short journal was made that has this many entries. Returns
 /// where the text begins then.
 pub(crate) fn cut_behind(room: &mut Handle, short: u64) -> Result<Start, Error> {
     done(raw::seryugo_cut_open(room))?;

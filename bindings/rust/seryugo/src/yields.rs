@@ -9,7 +9,7 @@ use std::time::{Duration, Instant};
 /// A yield that takes longer has let another thread compute for a whole time slice. Threads that
 /// only call and look take less, even if many take their turns.
 const LONG: Duration = Duration::from_millis(1);
-/// After a long yield no thread yields for so many times as long. So long yields take a small part
+/// After a long yield no thread yields for this many times as long. So long yields take a small part
 /// of the time.
 const REST: u32 = 16;
 

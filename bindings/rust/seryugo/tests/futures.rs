@@ -220,7 +220,7 @@ fn each_task_that_is_due_is_woken() {
     }
 }
 
-/// A thread that waits behind tasks is woken, and so is a task behind it, though the first tasks
+/// A thread that waits after tasks is woken, and so is a task after it, though the first tasks
 /// aren't polled.
 #[test]
 fn tasks_that_sleep_on_hold_up_no_thread() {

@@ -122,7 +122,7 @@ fn left(board: &Board) -> String {
     )
 }
 
-/// A short journal leaves what the long one leaves, and the piece that goes on behind the long one
+/// A short journal leaves what the long one leaves, and the piece that goes on after the long one
 /// follows it.
 #[test]
 fn a_short_journal_stands_for_a_long_one() {
@@ -178,7 +178,7 @@ fn kept_of(torn: &[u8]) -> usize {
         }
 }
 
-/// Each text that ends early is taken up to its last whole line. With its ending behind these it is
+/// Each text that ends early is taken up to its last whole line. With its ending after these it is
 /// a whole journal.
 #[test]
 fn a_text_may_end_anywhere() {
@@ -234,7 +234,7 @@ fn what_is_wrong_is_told() {
     }
     let restored = Board::restore(&b"journal 1\nseat 0 poll 0: none\nend 1\n"[..], LIMIT);
     assert!(matches!(restored, Err(RestoreError::Check(CheckError::Unlawful(0)))));
-    // A number of which there is none behind it.
+    // A number of which there is none after it.
     for who in ["seat", "lane", "feed"] {
         let text = format!("journal 1\n{who} {} mailbox: made 0\nend 1\n", u64::MAX);
         let restored = Board::restore(text.as_bytes(), LIMIT);

@@ -99,7 +99,7 @@ fn unreadable<T>(text: &str) -> Result<T, Error> {
     })
 }
 
-/// What can't be read is received all the same: its bytes are in the error, and what is behind it
+/// What can't be read is received all the same: its bytes are in the error, and what is after it
 /// is next.
 #[test]
 fn what_is_of_another_type_comes_as_bytes() {
@@ -236,8 +236,8 @@ fn each_refusal_hands_the_message_back() {
     assert_eq!(Error::from(refused), Error::TimedOut);
 }
 
-/// So many zeros, which take no memory before they are read. `None` if the system gives no program
-/// so many.
+/// This many zeros, which take no memory before they are read. `None` if the system gives no program
+/// this many.
 fn zeros(length: usize) -> Option<Vec<u8>> {
     let layout = Layout::array::<u8>(length).ok()?;
     // SAFETY: the layout has bytes.

@@ -156,7 +156,7 @@ fn with_room<T>(board: &Board, full: &AtomicU64, mut call: impl FnMut() -> Resul
     }
 }
 
-/// Four threads send and four receive, by a journal that takes so many entries between two cuts:
+/// Four threads send and four receive, by a journal that takes this many entries between two cuts:
 /// how often it was full.
 fn four_send_and_four_receive(limit: u64) -> u64 {
     const EACH: u64 = 3_000;

@@ -18,7 +18,7 @@ pub(crate) fn size(value: &(impl Serialize + ?Sized)) -> Result<u64, bincode::Er
     options().serialized_size(value)
 }
 
-/// Writes a value behind what the list has. If serde refuses the value, this writes bytes that
+/// Writes a value after what the list has. If serde refuses the value, this writes bytes that
 /// [`read`] refuses and [`refusal`](crate::refusal) reads. A `Message` that you implement by hand
 /// may call it.
 ///

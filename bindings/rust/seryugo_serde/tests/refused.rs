@@ -27,7 +27,7 @@ impl<'de> Deserialize<'de> for Even {
     }
 }
 
-/// The odd number is refused behind bytes that were written before.
+/// The odd number is refused after bytes that were written before.
 #[derive(Debug, PartialEq, Serialize, Deserialize)]
 struct Pair {
     name: String,

@@ -19,7 +19,7 @@ const WORKERS: usize = 4;
 /// A page's path, and the links on it. None if there is no such page.
 type Page = (String, Option<Vec<String>>);
 
-/// A site in memory, of so many pages.
+/// A site in memory, of this many pages.
 #[derive(Clone, Copy)]
 struct Site {
     pages: u64,

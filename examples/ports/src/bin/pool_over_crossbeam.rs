@@ -29,7 +29,7 @@ where
     J: Send + panic::UnwindSafe + 'static,
     A: Send + 'static,
 {
-    /// A pool of so many threads.
+    /// A pool of this many threads.
     fn new(count: usize, function: fn(J) -> A) -> Pool<J, A> {
         let (jobs, submitted) = unbounded();
         let (answered, answers) = unbounded();

@@ -36,7 +36,7 @@ where
     J: Message + panic::UnwindSafe + 'static,
     A: Message + 'static,
 {
-    /// A pool of so many threads.
+    /// A pool of this many threads.
     fn new(count: usize, function: fn(J) -> A) -> Pool<J, A> {
         let (jobs, submitted) = unbounded();
         let (answered, answers) = unbounded();

@@ -5,7 +5,7 @@ use seryugo::{Call, Entry, Error, Numbers, Reply, Who};
 use std::collections::VecDeque;
 use std::sync::{Condvar, Mutex, MutexGuard, PoisonError};
 
-/// Mailboxes by number, with a journal that takes so many entries. Its entries say what those of a
+/// Mailboxes by number, with a journal that takes this many entries. Its entries say what those of a
 /// switchboard say.
 pub struct Mailboxes {
     inside: Mutex<Inside>,

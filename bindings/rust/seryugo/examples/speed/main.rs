@@ -12,7 +12,7 @@
 //! values of types. `pairs1` does it without a lock, by hand alone, as `cml_bench` does it on a
 //! board. So does `cast8`, where eight readers receive each message of one thread. In `pipe2` one
 //! thread sends to another, and in `fanin4` four to one. In `token8` and `token63` a token goes
-//! round so many threads, and in `server32` and `server128` eight workers serve so many clients.
+//! round this many threads, and in `server32` and `server128` eight workers serve this many clients.
 //! These four take a tenth of the messages, since a thread sleeps and is woken for each.
 //!
 //! The crate `speed_of_peers` beside this one measures crossbeam-channel and tokio too.

@@ -2,7 +2,7 @@
 
 use std::time::Duration;
 
-/// A way of passing so many messages, and how long that took.
+/// A way of passing this many messages, and how long that took.
 pub type Way = (&'static str, fn(u64) -> Duration);
 
 /// What the program's words ask for.

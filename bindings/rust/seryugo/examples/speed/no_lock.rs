@@ -19,7 +19,7 @@ const WHO: Who = Who::Seat(0);
 /// The number under which the journal names the mailbox.
 const MAILBOX: u64 = 0;
 
-/// A mailbox, with a journal that takes so many entries.
+/// A mailbox, with a journal that takes this many entries.
 struct Mailbox<M> {
     messages: VecDeque<M>,
     journal: Vec<Entry<M>>,

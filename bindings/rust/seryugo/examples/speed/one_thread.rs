@@ -13,7 +13,7 @@ pub const WAYS: [Way; 4] = [
     ("mpsc", by_mpsc),
 ];
 
-/// The journal is cut behind so many messages, so that its memory is used again.
+/// The journal is cut after this many messages, so that its memory is used again.
 const CUT: u64 = 10_000;
 
 fn by_lock_waking_always(messages: u64) -> Duration {

@@ -5,7 +5,7 @@ use seryugo::{Call, Error, Reply, Who};
 use std::collections::VecDeque;
 use std::sync::{Condvar, Mutex, MutexGuard, PoisonError};
 
-/// One queue, with a journal that takes so many entries. Its entries say what those of a
+/// One queue, with a journal that takes this many entries. Its entries say what those of a
 /// switchboard say.
 pub struct Queue<M> {
     inside: Mutex<Inside<M>>,

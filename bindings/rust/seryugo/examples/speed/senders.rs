@@ -1,4 +1,4 @@
-//! So many threads send, and one receives all: each sender's messages in its order.
+//! This many threads send, and one receives all: each sender's messages in its order.
 
 use super::queue::{Queue, Waking};
 use super::Way;

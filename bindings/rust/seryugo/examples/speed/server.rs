@@ -1,4 +1,4 @@
-//! Eight threads serve requests that arrive in one mailbox. So many clients ask, and each waits at
+//! Eight threads serve requests that arrive in one mailbox. This many clients ask, and each waits at
 //! its mailbox for the answer before it asks again.
 
 use super::mailboxes::Mailboxes;

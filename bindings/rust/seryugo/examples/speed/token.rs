@@ -1,4 +1,4 @@
-//! A token goes round so many threads: each receives it at its own mailbox, and sends it to the
+//! A token goes round this many threads: each receives it at its own mailbox, and sends it to the
 //! next. All others wait.
 
 use super::mailboxes::Mailboxes;

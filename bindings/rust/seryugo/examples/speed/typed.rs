@@ -20,7 +20,7 @@ pub const STRINGS: [Way; 3] = [
     ("by hand, as Arc<str>", string_by_hand),
 ];
 
-/// The journal is cut behind so many messages, so that its memory is used again.
+/// The journal is cut after this many messages, so that its memory is used again.
 const CUT: u64 = 10_000;
 
 const TEXT: &str = "a string that has 32 bytes of it";

@@ -2,7 +2,7 @@
 //! that leaves out none.
 //!
 //! An outcome is what each seat has called and was answered, in its order, and how the run ended.
-//! `SERYUGO_PROGRAMS=10000 cargo test --release --lib comparison` compares so many programs.
+//! `SERYUGO_PROGRAMS=10000 cargo test --release --lib comparison` compares this many programs.
 
 use super::board::{sum_of, Pass};
 use super::choose::{mix, Random};

@@ -8,7 +8,7 @@ use super::choose::mix;
 use std::collections::HashMap;
 use std::hash::{BuildHasherDefault, Hasher};
 
-/// It keeps at most so many histories.
+/// It keeps at most this many histories.
 const MOST: usize = 2_000_000;
 
 /// What each thread's history was followed by, in all runs.

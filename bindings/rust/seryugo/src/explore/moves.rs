@@ -56,7 +56,7 @@ impl Move {
             return true;
         }
         match (self.step.kind, other.step.kind) {
-            // A port that is empty has a message behind it.
+            // A port that is empty has a message after it.
             (Kind::Recv | Kind::Poll, Kind::Multicast) => self.is_full,
             (Kind::Copy | Kind::Close, Kind::Multicast) => true,
             (_, Kind::Port) => true,

@@ -49,7 +49,7 @@ mod system {
     pub(super) fn pin() -> Option<Processors> {
         let processor = usize::try_from(sched_getcpu()).ok().filter(|number| *number < MOST)?;
         let mut before: Processors = [0; MOST / BITS];
-        // SAFETY: the call writes at most so many bytes.
+        // SAFETY: the call writes at most this many bytes.
         let code = unsafe { sched_getaffinity(OWN, size_of::<Processors>(), &raw mut before) };
         let mut one: Processors = [0; MOST / BITS];
         one[processor / BITS] |= 1 << (processor % BITS);
@@ -58,7 +58,7 @@ mod system {
 
     /// Lets the thread run on these.
     pub(super) fn allow(processors: &Processors) -> bool {
-        // SAFETY: the call reads so many bytes.
+        // SAFETY: the call reads this many bytes.
         unsafe { sched_setaffinity(OWN, size_of::<Processors>(), processors) == 0 }
     }
 }

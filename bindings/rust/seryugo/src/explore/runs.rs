@@ -15,7 +15,7 @@ use crate::switchboard::Switchboard;
 use std::panic::{self, catch_unwind, AssertUnwindSafe};
 use std::sync::{Arc, Once};
 
-/// Runs a program until a run ends badly, every order was run, or there were so many runs.
+/// Runs a program until a run ends badly, every order was run, or there were this many runs.
 ///
 /// The program is given a new switchboard in each run. It starts its threads by
 /// [`scope`](super::scope). It must be deterministic: if the threads go on in the same order, it

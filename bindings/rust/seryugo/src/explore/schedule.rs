@@ -30,7 +30,7 @@ pub(crate) struct Schedule {
     pub tells_stalls: bool,
 }
 
-/// If the same choice follows so many times or more, the line has their count.
+/// If the same choice follows this many times or more, the line has their count.
 const MANY: usize = 4;
 
 impl fmt::Display for Schedule {

@@ -9,9 +9,9 @@ use crate::switchboard::Switchboard;
 use std::sync::Arc;
 use std::time::{Duration, Instant};
 
-/// It looks for a shorter schedule with so many preemptions at the most,
+/// It looks for a shorter schedule with this many preemptions at the most,
 const PREEMPTIONS: u32 = 2;
-/// in so many runs for each bound, and no longer than this in all.
+/// in this many runs for each bound, and no longer than this in all.
 const RUNS: u64 = 2_000;
 const TIME: Duration = Duration::from_secs(1);
 

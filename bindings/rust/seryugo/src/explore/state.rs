@@ -107,7 +107,7 @@ impl Watched {
     }
 }
 
-/// So many of the last steps tell of a run without an end.
+/// This many of the last steps tell of a run without an end.
 const LAST: usize = 64;
 
 impl State {

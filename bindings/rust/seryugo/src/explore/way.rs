@@ -146,7 +146,7 @@ impl Way {
         }
     }
 
-    /// Every order of at most so many preemptions, within the same limits.
+    /// Every order of at most this many preemptions, within the same limits.
     pub(crate) fn bounded(&self, preemptions: u32) -> Way {
         Way {
             order: Order::Every { sleeps: false },

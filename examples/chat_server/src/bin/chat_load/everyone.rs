@@ -1,4 +1,4 @@
-//! Many clients at once, each of which says so many messages.
+//! Many clients at once, each of which says this many messages.
 
 use crate::member::{Member, Tally};
 use crate::verdict::check_room;
