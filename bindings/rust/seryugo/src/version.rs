@@ -94,9 +94,10 @@ mod tests {
         assert_eq!(check(), Ok(()));
         for library in [
             Version::new(0, 0, 0),
-            Version::new(0, 1, 1),
-            Version::new(0, 2, 0),
-            Version::new(1, 1, 0),
+            Version::new(0, 1, 0),
+            Version::new(0, 2, 1),
+            Version::new(0, 3, 0),
+            Version::new(1, 2, 0),
         ] {
             let error = expect(library).unwrap_err();
             let text = error.to_string();
