@@ -388,18 +388,18 @@ changed() {
 
 # What the program says of each case, as journal_judge.awk shows it. This script has a part of the cases.
 says='
-    told=$1
+    told=$(mktemp "$1.XXXXXX") || exit 1 # not named by the process: a long run sees its number again
     program=$2
     shift 2
     for file; do
-        output=$(timeout 60 "$program" check --state < "$file" 2> "$told.$$.errors")
+        output=$(timeout 60 "$program" check --state < "$file" 2> "$told.errors")
         status=$?
-        errors=$(cat "$told.$$.errors")
+        errors=$(cat "$told.errors")
         echo "== $file"
         [ -z "$output" ] || echo "$output"
         echo "status $status $errors"
-    done > "$told.$$"
-    rm "$told.$$.errors"
+    done > "$told"
+    rm "$told.errors"
 '
 
 # Program and judge say the same of each case, and some cases have each verdict.
