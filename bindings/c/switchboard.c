@@ -271,7 +271,7 @@ static void each_call_of_bytes(void)
     puts("each call on bytes");
 }
 
-/* Two threads: one waits at a mailbox, and is woken by what the other sends on a lane of its own. */
+/* Two threads: one waits at a mailbox, and is woken by what the other sends on its lane. */
 static void lanes(void)
 {
     struct seryugo_switchboard board;

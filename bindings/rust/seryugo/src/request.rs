@@ -185,7 +185,7 @@ const ASKER_LENGTH: usize = 16;
 /// Who asked a [`Request`], and which of its questions. It is answered once, from a seat of the
 /// switchboard of which it was received.
 ///
-/// It is a message of its own. So a server may send it on without the question:
+/// It is a message too. So a server may send it on without the question:
 ///
 /// ```
 /// use seryugo::{Asker, Error, Switchboard};

@@ -8,7 +8,7 @@ use std::sync::Arc;
 use std::thread::{self, JoinHandle};
 use std::time::Duration;
 
-/// A channel with a switchboard of its own, whose journal is dropped.
+/// A channel and its switchboard, whose journal is dropped.
 fn unbounded<T: Message>() -> (Sender<T>, Receiver<T>) {
     let board = Switchboard::new(4_096).expect("memory").when_full(WhenFull::Drop);
     Arc::new(board).unbounded().expect("memory")

@@ -73,7 +73,7 @@ impl Random {
         Random { seed, state: seed }
     }
 
-    /// Each run has numbers of its own.
+    /// The seed and the run's number alone say which numbers follow.
     fn begin(&mut self, run: u64) {
         self.state = mix(self.seed, run);
     }

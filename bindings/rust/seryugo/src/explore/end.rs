@@ -60,7 +60,7 @@ impl End {
         *self != End::Done
     }
 
-    /// Whether the other end is as this one, but for what the numbers are.
+    /// Whether the other end is as this one, whatever the numbers are.
     pub(crate) fn is_like(&self, other: &End) -> bool {
         match (self, other) {
             (End::Panicked { message, .. }, End::Panicked { message: other, .. }) => {

@@ -75,8 +75,8 @@ impl History {
         done.sum = mix(done.sum, other.sum);
     }
 
-    /// A thread comes to this step, or to its end. `false`: it came to another one after the same
-    /// history.
+    /// A thread is about to make this step, or to end. `false`: after the same history it was about
+    /// to do something else.
     pub fn comes_to(&mut self, done: Done, step: u64) -> bool {
         self.is_followed(mix(done.sum, 2), step)
     }

@@ -102,7 +102,7 @@ impl Play {
         })
     }
 
-    /// The thread that calls this comes to a step, and waits until it may make it.
+    /// The calling thread is about to make a step, and waits until it may.
     #[cold]
     pub fn pass(&self, board: &dyn Board, seat: u64, step: Step, is_timed: bool) -> Pass {
         let mut state = self.lock();
@@ -165,7 +165,7 @@ impl Play {
             return;
         }
         watched.is_reported = true;
-        // The text is for whoever sees a test that doesn't end, whose output is kept.
+        // If a test doesn't end and its output is kept, this text says why.
         let _ = writeln!(
             io::stderr(),
             "explore: for {:?} there was no call after that of {}. It computes, or waits for what \

@@ -181,7 +181,7 @@ impl State {
         }
     }
 
-    /// A thread comes to a step.
+    /// A thread is about to make a step.
     pub fn arrive(&mut self, task: usize, seat: u64, step: Step, is_timed: bool) {
         self.settle(task);
         let channel = match (&self.board, Move::is_on_port(step)) {

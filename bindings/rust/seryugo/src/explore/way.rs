@@ -11,7 +11,7 @@ use std::time::Duration;
 ///
 /// | | runs | finds |
 /// |---|---|---|
-/// | [`Way::every`] | each order, but those that leave the same as another one | every bad end, if it comes to its end |
+/// | [`Way::every`] | one of all orders that leave the same | every bad end, if the exploration ends |
 /// | [`Way::random`] | at each step any thread that can go on | most bugs within some hundred runs |
 /// | [`Way::priorities`] | the thread of the highest priority, which changes a few times | bugs of long runs that need few changes of threads |
 /// | [`Way::again`] | one schedule | the same end |
