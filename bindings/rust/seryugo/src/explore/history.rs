@@ -77,7 +77,7 @@ impl History {
 
     /// A thread is about to make this step, or to end. `false`: after the same history it was about
     /// to do something else.
-    pub fn comes_to(&mut self, done: Done, step: u64) -> bool {
+    pub fn is_next(&mut self, done: Done, step: u64) -> bool {
         self.is_followed(mix(done.sum, 2), step)
     }
 

@@ -251,7 +251,7 @@ impl State {
 
     fn note_next(&mut self, task: usize, next: u64, to: &dyn fmt::Display) {
         if self.is_checked() {
-            let is_same = self.history.comes_to(self.tasks[task].done, next);
+            let is_same = self.history.is_next(self.tasks[task].done, next);
             self.note(task, is_same, to);
         }
     }
