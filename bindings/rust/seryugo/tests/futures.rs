@@ -3,7 +3,9 @@
 
 mod common;
 
-use common::{block_on, let_them_wait, seats, within_a_minute, Board, Mailbox, Random, Seat};
+use common::{
+    block_on, let_them_wait, poll_once, seats, within_a_minute, Board, Mailbox, Random, Seat,
+};
 use seryugo::{Error, Switchboard};
 use std::collections::VecDeque;
 use std::future::Future;
@@ -13,10 +15,6 @@ use std::sync::{Arc, Condvar, Mutex};
 use std::task::{Context, Poll, Wake, Waker};
 use std::thread;
 use std::time::Duration;
-
-fn poll_once<F: Future>(future: Pin<&mut F>) -> Poll<F::Output> {
-    future.poll(&mut Context::from_waker(Waker::noop()))
-}
 
 /// Counts how often it is woken.
 #[derive(Default)]

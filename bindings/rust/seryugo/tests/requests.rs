@@ -2,44 +2,18 @@
 
 mod common;
 
-use common::{block_on, let_them_wait, within_a_minute};
+use common::{answered, asking, block_on, is_waiting, let_them_wait, within_a_minute};
 use seryugo::{
     Asker, Bytes, Call, Error, Holds, Kind, Mailbox, Message, Misfit, Missing, Object, Request,
     Seat, Switchboard,
 };
-use std::future::Future;
 use std::mem;
 use std::panic::{self, AssertUnwindSafe};
-use std::pin::Pin;
 use std::sync::Arc;
-use std::task::{Context, Poll, Waker};
 use std::thread;
 use std::time::{Duration, Instant};
 
 type Lengths = Mailbox<Request<String, u64>>;
-
-fn poll_once<F: Future>(future: Pin<&mut F>) -> Poll<F::Output> {
-    future.poll(&mut Context::from_waker(Waker::noop()))
-}
-
-/// A question that was asked.
-fn asking<F: Future>(future: F) -> Pin<Box<F>> {
-    let mut future = Box::pin(future);
-    assert!(is_waiting(&mut future));
-    future
-}
-
-fn is_waiting<F: Future>(future: &mut Pin<Box<F>>) -> bool {
-    poll_once(future.as_mut()).is_pending()
-}
-
-/// What a question was answered, which is there.
-fn answered<F: Future>(mut future: Pin<Box<F>>) -> F::Output {
-    match poll_once(future.as_mut()) {
-        Poll::Ready(answer) => answer,
-        Poll::Pending => panic!("it waits"),
-    }
-}
 
 /// Asks, and gives up at once.
 fn ask_in_vain(seat: &mut Seat<'_>, lengths: Lengths, question: &str) {

@@ -2,39 +2,13 @@
 
 mod common;
 
-use common::{let_them_wait, within_a_minute, Random};
+use common::{answered, asking, is_waiting, let_them_wait, within_a_minute, Random};
 use seryugo::{Checker, Error, Mailbox, Object, Request, Seat, Switchboard, WhenFull};
-use std::future::Future;
-use std::pin::Pin;
 use std::sync::{Arc, Mutex};
-use std::task::{Context, Poll, Waker};
 use std::thread;
 use std::time::Duration;
 
 type Doubles = Mailbox<Request<u64, u64>>;
-
-fn poll_once<F: Future>(future: Pin<&mut F>) -> Poll<F::Output> {
-    future.poll(&mut Context::from_waker(Waker::noop()))
-}
-
-/// A question that was asked.
-fn asking<F: Future>(future: F) -> Pin<Box<F>> {
-    let mut future = Box::pin(future);
-    assert!(is_waiting(&mut future));
-    future
-}
-
-fn is_waiting<F: Future>(future: &mut Pin<Box<F>>) -> bool {
-    poll_once(future.as_mut()).is_pending()
-}
-
-/// What a question was answered, which is there.
-fn answered<F: Future>(mut future: Pin<Box<F>>) -> F::Output {
-    match poll_once(future.as_mut()) {
-        Poll::Ready(answer) => answer,
-        Poll::Pending => panic!("it waits"),
-    }
-}
 
 /// The questions that a server receives, with nobody's answer.
 fn asked(seat: &mut Seat<'_>, doubles: Doubles) -> Vec<u64> {

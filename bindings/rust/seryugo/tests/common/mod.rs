@@ -7,7 +7,7 @@ pub mod calls;
 
 use seryugo::{Numbers, Switchboard};
 use std::future::Future;
-use std::pin::pin;
+use std::pin::{pin, Pin};
 use std::sync::mpsc::{self, RecvTimeoutError};
 use std::sync::Arc;
 use std::task::{Context, Poll, Wake, Waker};
@@ -81,5 +81,29 @@ pub fn block_on<T>(future: impl Future<Output = T>) -> T {
             Poll::Ready(answer) => return answer,
             Poll::Pending => thread::park(),
         }
+    }
+}
+
+/// Polls a future, and wakes nobody.
+pub fn poll_once<F: Future>(future: Pin<&mut F>) -> Poll<F::Output> {
+    future.poll(&mut Context::from_waker(Waker::noop()))
+}
+
+pub fn is_waiting<F: Future>(future: &mut Pin<Box<F>>) -> bool {
+    poll_once(future.as_mut()).is_pending()
+}
+
+/// A question that was asked.
+pub fn asking<F: Future>(future: F) -> Pin<Box<F>> {
+    let mut future = Box::pin(future);
+    assert!(is_waiting(&mut future));
+    future
+}
+
+/// What a question was answered, which is there.
+pub fn answered<F: Future>(mut future: Pin<Box<F>>) -> F::Output {
+    match poll_once(future.as_mut()) {
+        Poll::Ready(answer) => answer,
+        Poll::Pending => panic!("it waits"),
     }
 }
