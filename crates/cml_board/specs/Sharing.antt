@@ -27,7 +27,7 @@ module _ {M : Type 0} where
     pub kept : new.kept ≡ old.kept
     pub places : (key : ℕ) → place_at new key ≡ place_at old key
 
-  -- the object has such a log in place of its own
+  -- the object has such a log instead of the one it had
   pub record HasSameLog (old new : Object M (Log M)) : Type 0 where
     pub was : Log M
     pub found : log_in old ≡ Some was

@@ -2,7 +2,7 @@ ghost use Rattle.std.specs.Prelude.{◌≡◌, ℕ, ◌+◌, ◌-◌, ◌%◌, �
 ghost use Rattle.std.specs.Prelude.{IfSome, IfNone, IsSome};
 ghost use Rattle.std.specs.Prelude.{length, slice_get, slice_set, option_copied};
 ghost use Rattle.std.proofs.Common.{rules};
-ghost use Rattle.slab.specs.Slab.{ContainsKey};
+ghost use Rattle.slab.specs.Slab.{ContainsKey, HasRoomFor};
 ghost use Rattle.cml_log.specs.{chunk_of, cursor_at, end_of, log_of, trimmed, with_place, IsAhead, IsTrim, IsWhole};
 
 use crate::chain::Chain;
@@ -17,6 +17,17 @@ use std::marker::{Model, Send};
 struct Cursor {
     at: Address,
     place: u64,
+}
+
+// Makes room for one cursor more. For the first it is exact, since a mailbox has no other.
+fn make_room(cursors: &mut Slab<Cursor>) -> Result<(), AllocError>
+    ensures room { OnOk result (HasRoomFor cursors.new 1) }
+    ensures rest_kept { cursors.new ≡ record cursors.old { capacity = cursors.new.capacity } }
+{
+    if cursors.is_empty() {
+        return cursors.reserve_exact(1);
+    }
+    cursors.reserve(1)
 }
 
 // Moves the cursor under a key.
@@ -137,7 +148,7 @@ impl<T: Drop, const N: usize> MessageLog<T> for ChunkLog<T, N> {
             at: self.chain.end(),
             place: self.chain.next(),
         };
-        self.cursors.reserve(1)?;
+        make_room(&mut self.cursors)?;
         // So that one cursor more in its chunk can be counted.
         let _ = self.cursors.capacity();
         self.chain.enter(cursor.at);
@@ -151,7 +162,7 @@ impl<T: Drop, const N: usize> MessageLog<T> for ChunkLog<T, N> {
         ensures counts { KeepsCounted self.old self.new }
     {
         let original = self.cursors[k.0];
-        self.cursors.reserve(1)?;
+        make_room(&mut self.cursors)?;
         let _ = self.cursors.capacity();
         self.chain.enter(original.at);
         Ok(Key(self.cursors.insert_reserved(original)))

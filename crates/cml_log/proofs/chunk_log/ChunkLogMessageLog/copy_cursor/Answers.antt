@@ -8,9 +8,9 @@ use Rattle.cml_log.proofs.chunk_log.ChunkLogMessageLog.copy_cursor.Goals as goal
 
 pub enter-requires : goal.enter-requires
 enter-requires g c =
-    let slots : c.reserve.new.self.slots ≡ c.self.inside.cursors.slots = ap (λ s. s.slots) c.reserve.ensures.rest_kept in
-    let room : count_by is_some c.self.inside.cursors.slots + 1 ≤ c.reserve.new.self.capacity =
-    subst (λ s. count_by is_some s + 1 ≤ c.reserve.new.self.capacity) slots c.in_ok-reserve.ensures.room in
+    let slots : c.make_room.new.cursors.slots ≡ c.self.inside.cursors.slots = ap (λ s. s.slots) c.make_room.ensures.rest_kept in
+    let room : count_by is_some c.self.inside.cursors.slots + 1 ≤ c.make_room.new.cursors.capacity =
+    subst (λ s. count_by is_some s + 1 ≤ c.make_room.new.cursors.capacity) slots c.in_ok-make_room.ensures.room in
     let few = standing-le g.row.N c.index-original.result.now.at.number c.self.inside.cursors.slots in (
       omega arith,
       (
@@ -21,7 +21,7 @@ enter-requires g c =
 
 pub invariant_of-self-2 : goal.invariant_of-self-2
 invariant_of-self-2 g c =
-    let slots : c.reserve.new.self.slots ≡ c.self.inside.cursors.slots = ap (λ s. s.slots) c.reserve.ensures.rest_kept in
+    let slots : c.make_room.new.cursors.slots ≡ c.self.inside.cursors.slots = ap (λ s. s.slots) c.make_room.ensures.rest_kept in
     record {
       is_trim = opened_trim g.row.N c.self.inside.chain c.self.inside.cursors.slots c.self.invariant.is_trim
           c.insert_reserved.new.self.slots c.insert_reserved.result (c.index-original.result.now) c.enter.new.self
@@ -41,7 +41,7 @@ invariant_of-self-2 g c =
 
 pub returns-clause-ok : goal.returns-clause-ok
 returns-clause-ok g c =
-    let slots : c.reserve.new.self.slots ≡ c.self.inside.cursors.slots = ap (λ s. s.slots) c.reserve.ensures.rest_kept in
+    let slots : c.make_room.new.cursors.slots ≡ c.self.inside.cursors.slots = ap (λ s. s.slots) c.make_room.ensures.rest_kept in
     let place = sym (place_shown g.row.N c.self.inside.chain c.self.inside.cursors.slots c.k.inside.0 c.index-original.result.now
     c.index-original.ensures) ∙ ap (λ k. place_of (log_of g.row.N c.self.inside.chain c.self.inside.cursors.slots) k) c.k.view_is in
     subst (λ m. Opens m.log (log_of g.row.N c.enter.new.self c.insert_reserved.new.self.slots) c.insert_reserved.result
