@@ -3,3 +3,4 @@ mod ReadingLemmas
 mod NameLemmas
 mod FollowingLemmas
 mod DrawingLemmas
+mod JournalLemmas

@@ -1,5 +1,5 @@
 -- What the drawing of a report reads and writes, by how it ends.
-use Rattle.std.specs.Prelude.{ℕ, ◌+◌, ◌-◌, ◌^◌, ◌⊎◌, min, List, ◌≡◌, Option, Some, unwrap_or, ⊤}
+use Rattle.std.specs.Prelude.{ℕ, ◌+◌, ◌-◌, ◌^◌, ◌⊎◌, min, List, ◌≡◌, Option, Some, unwrap_or, true, ⊤}
 use Rattle.std.specs.Io.KnownBytes.{Consumes, IsAtEnd, Appends, Keeps}
 use Rattle.cml_grammar.specs.{IsReadUpTo, Fault as ScriptFault, fault_of, Lines, IsScript}
 use Rattle.cml_chart.specs.declared.report.faults.Fault.{Fault}
@@ -11,6 +11,7 @@ use Rattle.cml_chart.specs.declared.chart.Course.{Course}
 use Rattle.cml_chart.specs.declared.ending.Ending.{Ending}
 use Rattle.cml_chart.specs.declared.ending.Ending.TheVariants as ending
 use Rattle.cml_chart.specs.Following.{IsCourse, lines_fault}
+use Rattle.cml_chart.specs.Telling.{IsReportIn, is_journal}
 
 -- These were the reader's next bytes, and no byte is left; or there are too many for a report.
 abbrev pub IsRead : Option (List ℕ) → Option (List ℕ) → List ℕ → Type 0
@@ -27,13 +28,16 @@ last_of order = unwrap_or order.to (min (first_of order + 499) (2 ^ 64 - 1))
 abbrev pub bounds_of : Order → ℕ → ℕ × ℕ
 bounds_of order count = let end = min count (last_of order) in (min end (first_of order - 1), end)
 
--- All of the reader's bytes were read, they are a report, of the script where there is one, and this is the course that was drawn.
+-- All of the reader's bytes were read, they are a report or a journal, of the script where there is one, and this is the course that
+-- was drawn.
 pub record IsDrawnOf (script : Option Lines) (old new : Option (List ℕ)) : Type 0 where
   pub text : List ℕ
   pub read : Consumes old new text
   pub whole : IsAtEnd new
+  pub report : List ℕ
+  pub is_in : IsReportIn text report
   pub course : Course
-  pub says : told text ≡ shown_report course.report
+  pub says : told report ≡ shown_report course.report
   pub is_course : IsCourse script course
 
 -- the lines are no report, or there is a fault in what they report
@@ -44,7 +48,11 @@ IsFaulty script text fault = (told text ≡ wrong fault)
 
 -- how it ends where nothing was drawn
 abbrev pub EndsUndrawn : Option Lines → Option (List ℕ) → Option (List ℕ) → Ending → Type 0
-EndsUndrawn script old new (ending.Fault fault) = (text : List ℕ) × IsRead old new text × IsFaulty script text fault
+EndsUndrawn script old new (ending.Fault fault) =
+    (text : List ℕ) × IsRead old new text × (report : List ℕ) × IsReportIn text report × IsFaulty script report fault
+EndsUndrawn script old new (ending.JournalFault line what) = (text : List ℕ) × IsRead old new text × (is_journal text ≡ true)
+EndsUndrawn script old new (ending.Torn line) = (text : List ℕ) × IsRead old new text × (is_journal text ≡ true)
+EndsUndrawn script old new (ending.Unlawful at) = (text : List ℕ) × IsRead old new text × (is_journal text ≡ true)
 EndsUndrawn script old new ending.ReadFault = ⊤
 EndsUndrawn script old new ending.NoMemory = ⊤
 EndsUndrawn script old new _ = ⊥

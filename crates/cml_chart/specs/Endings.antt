@@ -31,6 +31,9 @@ abbrev pub status : Ending → ℕ
 status ending.Done = 0
 status (ending.Fault fault) = 2
 status (ending.ScriptFault fault) = 2
+status (ending.JournalFault line what) = 2
+status (ending.Torn line) = 2
+status (ending.Unlawful at) = 7
 status ending.ScriptReadFault = 4
 status ending.ReadFault = 4
 status ending.WriteFault = 4

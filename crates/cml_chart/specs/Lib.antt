@@ -6,6 +6,7 @@ pub mod Columns
 pub mod Chart
 pub mod Plan
 pub mod Following
+pub mod Telling
 pub mod CommandLine
 pub mod Drawing
 pub mod Endings
@@ -22,10 +23,15 @@ pub use Chart.{IsChart, arrow_of, chart_fault, joined, shown_row, titles_of, unk
 pub use Plan.{IsPlan, begins, declared_in, feed_in, feeds_in, is_apart, made_at, object_in, objects_in, own_in, own_steps, port_in}
 pub use Plan.{shown_made, target_in, targets_in, thread_in, threads_in}
 pub use Following.{IsCourse, deeds_of, follow, is_made, lines_fault, pass, strange_thing, things_of, threads_behind}
+pub use Telling.{EndsReplay, EndsUntold, IsReplayed, IsReportIn, IsTelling, IsToldAs, IsToldBy, IsWholeJournal, Replays, copy_name, counted}
+pub use Telling.{doer_name, front_word, has_row, held_state, held_text, is_journal, is_of_bytes, is_of_numbers, journal_report, kind_word}
+pub use Telling.{lost_by, lost_copies, lost_copy, object_name, object_state, owed_or_closed, port_by, port_field, port_made, port_state}
+pub use Telling.{channel_state, mailbox_state, told_call}
+pub use Telling.{doer_by, is_giving, is_got, is_no_feed, is_receiving, is_shown_by, report_or, ring_name, row, row_count, row_text, rows, shown_word, state_by, told_below, told_object, told_objects, told_reply}
 pub use CommandLine.{IsAsked, IsFlag, IsRow, TellsNumber, drawing_usage, faults_of, numbered_rule, options_in, script_rule, text_rule}
 pub use CommandLine.{usage}
-pub use Drawing.{Draws, DrawsGiven, EndsUndrawn, EndsUnread, IsDrawnOf, IsGiven, IsRead, bounds_of}
-pub use Endings.{ending_of_fault, ending_of_script_fault, is_shown, status}
+pub use Drawing.{Draws, DrawsGiven, EndsUndrawn, EndsUnread, IsDrawnOf, IsFaulty, IsGiven, IsRead, bounds_of}
+pub use Endings.{ending_of_fault, ending_of_what, ending_of_script_fault, is_shown, status}
 pub use declared.chart.Course.{Course}
 pub use declared.report.Report.{Report}
 pub use declared.report.faults.Fault.{Fault}

@@ -7,15 +7,19 @@ use clap::{Arg, ArgAction, ArgMatches, Command, Error, value_parser};
 use std::alloc::{AllocError, Global};
 use std::convert::AsStr;
 
-const ABOUT: &str = "Draws the report on standard input as a sequence chart, on standard output";
+const ABOUT: &str =
+    "Draws the report or the journal on standard input as a sequence chart, on standard output";
 
 const LONG_ABOUT: &str =
-    "Draws the report on standard input as a sequence chart, on standard output.
+    "Draws the report or the journal on standard input as a sequence chart, on standard output.
 
 The chart has a column for each thread, lane, feed and object, and a row for each line of the
 report's first part: an arrow between the column of who did it and that of the object. An arrow is
 dashed if a call found nothing. Under each object is how it was left, and at the foot how the
 run ended. A report of cml run or cml replay is such a report.
+
+A journal, as cml check takes it, is drawn too. Its seats are seat0, seat1 and so on, and its objects
+mailbox0, channel1 and so on, by their numbers. The journal must be lawful.
 
 With --script the chart has a column for each thread of the script. Under each thread that has steps
 left is its next step: the one after the last that the report has.
@@ -27,11 +31,12 @@ const AFTER_HELP: &str = "Example:
 
 Exit status:
   0  the chart was written (also for help)
-  2  the input is no report, or not one of the script: standard error names the first line that
-     isn't one of it; or the script has a fault
+  2  the input is no report and no journal, or not one of the script: standard error names the
+     first line that isn't one of it; or the script has a fault
   3  the words of the command line are not understood
   4  standard input or the script can't be read, or standard output can't be written
-  5  no memory";
+  5  no memory
+  7  the journal is not lawful";
 
 /// How a report is to be drawn, and which of its rows.
 #[derive(Clone, Copy)]

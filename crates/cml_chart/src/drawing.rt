@@ -7,6 +7,7 @@ ghost use Rattle.cml_chart.specs.{bounds_of, Draws, DrawsGiven, IsDrawnOf, IsGiv
 use crate::chart::{Course, course_of};
 use crate::command_line::Order;
 use crate::ending::Ending;
+use crate::journal::{report_or, told_report};
 use crate::marks::{add_declared, add_drawn};
 use crate::picture::Picture;
 use crate::plain::draw_plain;
@@ -84,7 +85,8 @@ fn picture<R: Read>(
         (λ ending. EndsUndrawn (option_map (λ s. s.now) script.entry) (R.remaining reader.old) (R.remaining reader.new) ending) }
 {
     let text = read_all(alloc, reader, Ending::ReadFault)?;
-    let report = read_report(alloc, &text)?;
+    let told = told_report(alloc, &text)?;
+    let report = read_report(alloc, report_or(&text, &told))?;
     let course = course_of(alloc, script, report)?;
     let picture = draw_course(alloc, script, &course, order)?;
     Ok(picture)

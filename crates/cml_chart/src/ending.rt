@@ -17,6 +17,15 @@ pub(crate) enum Ending {
     Fault(Fault),
     #[error("{0}")]
     ScriptFault(cml_grammar::Fault),
+    /// The line of a journal, and what is wrong with it.
+    #[error("journal: line {0}: {1}")]
+    JournalFault(u64, cml_journal::What),
+    /// The last piece of a journal has no end. This many lines have ended.
+    #[error("journal: torn after line {0}")]
+    Torn(u64),
+    /// The first entry of a journal that isn't lawful, by its position.
+    #[error("journal: not lawful at {0}")]
+    Unlawful(u64),
     #[error("cml_chart: script read failed")]
     ScriptReadFault,
     #[error("cml_chart: read failed")]
@@ -73,7 +82,11 @@ impl cml_shell::Ending for Ending {
     fn status(&self) -> u8 {
         match self {
             Ending::Done => 0,
-            Ending::Fault(_) | Ending::ScriptFault(_) => 2,
+            Ending::Fault(_)
+            | Ending::ScriptFault(_)
+            | Ending::JournalFault(_, _)
+            | Ending::Torn(_) => 2,
+            Ending::Unlawful(_) => 7,
             Ending::ScriptReadFault | Ending::ReadFault | Ending::WriteFault => 4,
             Ending::NoMemory => 5,
         }

@@ -6,6 +6,7 @@ mod command_line;
 mod drawing;
 mod ending;
 mod following;
+mod journal;
 mod marks;
 mod picture;
 mod plain;
