@@ -16,6 +16,7 @@ lock go meanwhile.
 """
 
 from ._appending import append_to
+from ._at_once import HAS_EXTENSION
 from ._keeping import drop_entries
 from ._kept import Kept
 from ._restoring import compacted
@@ -62,6 +63,7 @@ __all__ = [
     "Entry",
     "Fault",
     "Gone",
+    "HAS_EXTENSION",
     "IVar",
     "Journal",
     "JournalFull",

@@ -6,8 +6,9 @@ import threading
 import weakref
 from collections import deque
 from ctypes import byref, c_bool, c_uint64
-from typing import TYPE_CHECKING, Any, Callable, Deque, Dict, Optional, Set, Tuple, TypeVar
+from typing import TYPE_CHECKING, Any, Callable, Deque, Dict, List, Optional, Set, Tuple, TypeVar
 
+from . import _at_once as at_once
 from . import _calls as calls
 from . import _library as library
 from . import errors
@@ -18,6 +19,7 @@ from ._start import Start, at_nothing
 
 if TYPE_CHECKING:
     from ._keeping import Keeper
+    from .journal import Journal
 
 T = TypeVar("T")
 
@@ -45,6 +47,8 @@ class Room:
         self.lock = new_lock()
         # What cuts a full journal, if that isn't left to the switchboard's owner.
         self.keeper: Optional[Keeper] = None
+        # The journal that the keeper has cut and not handed over yet, if there is one.
+        self.unwritten: List[Journal] = []
         # Where the text begins to which journals are added.
         self._text = at_nothing()
         # The messages' type of each object, by its number.
@@ -57,6 +61,10 @@ class Room:
         self._parked: Set[int] = set()
         # Seats that were dropped and haven't left yet.
         self._dropped: Deque[int] = deque()
+        # What the extension has of this room.
+        self.fast = at_once.room_of(
+            room, self.lock, self._parked, self._dropped, self.unwritten
+        )
         # Where the library writes a message, and the seat that is due.
         self._message = library.Bytes()
         self._at_message = byref(self._message)
@@ -243,6 +251,11 @@ class Room:
     def listen_no_more(self, seat: int) -> None:
         """Have a seat's bell rung again."""
         self.within(lambda: self._listeners.pop(seat, None))
+
+    def ring(self, seat: int) -> None:
+        """Wake the thread of a seat that is due. After an exception its caller calls `recover`."""
+        with self.lock:
+            self._ring(seat)
 
     def recover(self, *seats: int) -> None:
         """After an exception in a call, withdraw the call of this seat, and wake all that wait."""

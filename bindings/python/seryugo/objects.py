@@ -5,6 +5,7 @@ from __future__ import annotations
 from ctypes import c_uint64
 from typing import Any, Callable, Generic, Type
 
+from . import _at_once as at_once
 from . import _library as library
 from . import errors
 from ._messages import Codec, T
@@ -18,7 +19,7 @@ class Object(Unpicklable, Generic[T]):
     A `Seat` makes it, and makes the calls on it.
     """
 
-    __slots__ = ("number", "_name", "_room", "_codec", "_encode", "_decode")
+    __slots__ = ("number", "_name", "_room", "_codec", "_encode", "_decode", "_place")
 
     _codec: Codec[T]
     _encode: Callable[[T], bytes]
@@ -33,6 +34,7 @@ class Object(Unpicklable, Generic[T]):
         self._codec = codec
         self._encode = codec.encode
         self._decode = codec.decode
+        self._place = at_once.object_of(room.fast, number, codec)
 
     @property
     def type(self) -> Type[T]:

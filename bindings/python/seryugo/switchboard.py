@@ -307,7 +307,7 @@ class Switchboard(Unpicklable):
 
     def _keep_by(self, sink: Optional[Sink]) -> None:
         if sink is not None:
-            self._room.keeper = Keeper(sink)
+            self._room.keeper = Keeper(sink, self._room.unwritten)
 
     def _taken(self, take: Callable[..., int]) -> Journal:
         room = self._room
