@@ -17,7 +17,7 @@ use std::time::{Duration, Instant};
 /// The mailbox that takes the answers to a seat's questions, and how many it asked. After the seat
 /// another one has it, which numbers its questions on: so it takes no late answer as its own.
 pub(crate) struct Answers {
-    mailbox: u64,
+    pub mailbox: u64,
     asked: u64,
 }
 
@@ -223,16 +223,14 @@ impl<H: Holds<Bytes>> Seat<'_, Bytes, H> {
         <Bytes as Carries<Q>>::with_sent(question, |piece| bytes.extend_from_slice(piece));
         done(self.call(Give::Send.on(mailbox), |room, seat| {
             Bytes::give(Give::Send, room, seat, mailbox, &bytes)
-        }))?;
+        })?)?;
         Ok(asker)
     }
 
     /// The mailbox for the seat's answers, and the number of its next question.
     fn next_asker<A>(&mut self) -> Result<Asker<A>, Error> {
         if self.answers.is_none() {
-            // In an exploration each seat has its own: which are free depends on the order of seats.
-            let is_free = self.board.explored.is_none();
-            self.answers = is_free.then(|| self.board.lock().free_answers.pop()).flatten();
+            self.answers = self.board.answers_for(self.number());
         }
         let mut answers = match self.answers.take() {
             Some(answers) => answers,

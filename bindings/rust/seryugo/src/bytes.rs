@@ -3,6 +3,7 @@
 use crate::calls::{Calls, Give, Read};
 use crate::entry::Entry;
 use crate::error::Error;
+use crate::explore;
 use crate::message::Message;
 use crate::raw::{Handle, Opening};
 use crate::received::{RawEntry, Received};
@@ -128,6 +129,16 @@ impl Calls for Bytes {
     #[inline]
     fn feed_recv(feed: &mut Handle, to: &mut Received) -> u32 {
         seryugo_bytes_feed_recv(feed, to)
+    }
+
+    const OTHER_VERSIONS: [&'static str; 2] = ["1", "3"];
+
+    fn word(message: &Vec<u8>) -> String {
+        explore::word_of(message)
+    }
+
+    fn message_of(word: &str) -> Option<Vec<u8>> {
+        explore::bytes_of(word)
     }
 
     fn entry(room: &mut Handle, at: u64) -> Result<Entry<Bytes>, Error> {

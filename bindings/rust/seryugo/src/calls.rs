@@ -63,6 +63,19 @@ pub trait Calls: Sized {
     fn lane_send(lane: &mut Handle, message: Self::Sent<'_>) -> u32;
     fn feed_recv(feed: &mut Handle, to: &mut Self::Received) -> u32;
 
+    /// The versions of a journal's text whose messages are the other kind's.
+    const OTHER_VERSIONS: [&'static str; 2];
+
+    /// The word of a message in a journal's text.
+    fn word(message: &Self::Message) -> String
+    where
+        Self: Room;
+
+    /// The message of such a word.
+    fn message_of(word: &str) -> Option<Self::Message>
+    where
+        Self: Room;
+
     /// The entry at a position of a room's journal.
     fn entry(room: &mut Handle, at: u64) -> Result<Entry<Self>, Error>
     where

@@ -15,7 +15,7 @@ use std::alloc::{handle_alloc_error, Layout};
 /// assert_eq!(board.entry(0).map(|entry| entry.who), Some(Who::Seat(seat.number())));
 /// # Ok::<(), seryugo::Error>(())
 /// ```
-#[derive(Clone, Copy, Debug, PartialEq, Eq, Hash)]
+#[derive(Clone, Copy, Debug, PartialEq, Eq, PartialOrd, Ord, Hash)]
 pub enum Who {
     /// A seat.
     Seat(u64),
@@ -146,6 +146,16 @@ impl Who {
 }
 
 impl<M> Call<M> {
+    /// The message that it gives.
+    pub(crate) fn message(&self) -> Option<&M> {
+        match self {
+            Call::MVarInit(message) => Some(message),
+            Call::Send(_, message) | Call::Multicast(_, message) => Some(message),
+            Call::Put(_, message) | Call::Swap(_, message) => Some(message),
+            _ => None,
+        }
+    }
+
     pub(crate) fn of(
         kind: u32,
         object: u64,

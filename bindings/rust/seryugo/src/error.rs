@@ -1,5 +1,6 @@
 //! Why a call failed.
 
+use crate::explore::Diverged;
 use crate::kind::{Misfit, Missing};
 use crate::raw::code;
 use crate::version::Version;
@@ -78,6 +79,11 @@ pub enum Error {
         /// The message's bytes.
         bytes: Vec<u8>,
     },
+    /// The switchboard is [rerun](crate::explore::rerun), and the run isn't the journal's any more.
+    /// Each call fails so from there on.
+    Diverged(Box<Diverged>),
+    /// The switchboard is [rerun](crate::explore::rerun), and all entries of the journal were made.
+    RerunEnded,
     /// The library that is linked isn't of the version that this crate wants. No call was made.
     Version {
         /// The version of the library.
@@ -154,6 +160,7 @@ impl Error {
             Error::NoMemory | Error::TimedOut | Error::Unseen => true,
             Error::Gone | Error::NoSuch(_) | Error::WrongKind(_) | Error::Stalled => false,
             Error::OutOfBounds | Error::TooLong | Error::Declined => false,
+            Error::Diverged(_) | Error::RerunEnded => false,
             Error::Unreadable { .. } | Error::Version { .. } | Error::Unknown(_) => false,
         }
     }
@@ -181,6 +188,8 @@ impl fmt::Display for Error {
             }
             Error::TimedOut => "the time limit passed before there was an answer",
             Error::Declined => "a server has declined to answer the question",
+            Error::Diverged(diverged) => return diverged.fmt(f),
+            Error::RerunEnded => "the rerun has made all entries of the journal",
             Error::Unreadable { wanted, bytes } => {
                 let (length, plural) = (bytes.len(), if bytes.len() == 1 { "" } else { "s" });
                 return write!(

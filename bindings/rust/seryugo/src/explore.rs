@@ -31,6 +31,9 @@
 //! The text of what was found has the end of the bad run, its schedule, and its journal. A test
 //! that is to stay clean says `assert!(found.is_clean(), "{found}")`.
 //!
+//! [`rerun`] runs a program with threads of the system, in the order of a journal that another run
+//! wrote: one that was explored, or one in production.
+//!
 //! `docs/EXPLORE.md` says what is explored and what is not: above all, mark by [`aside`] what
 //! threads share beside the switchboard.
 
@@ -38,12 +41,15 @@ mod board;
 mod choose;
 #[cfg(test)]
 mod comparison;
+mod conductor;
 mod end;
 mod found;
 mod history;
 mod moves;
+mod panics;
 mod pinned;
 mod play;
+mod rerun;
 mod runs;
 mod schedule;
 mod scope;
@@ -54,11 +60,13 @@ mod tree;
 mod way;
 mod worker;
 
-pub(crate) use play::Play;
+pub(crate) use conductor::Conductor;
+pub(crate) use rerun::{bytes_of, word_of, RerunLane};
 pub(crate) use step::{Kind, Step};
 
 pub use end::{End, Waits};
 pub use found::{Bad, Found};
+pub use rerun::{rerun, Diverged, Reran, Rerun, RerunError, Stop};
 pub use runs::{again, explore};
 pub use scope::{aside, scope, Scope, Thread};
 pub use way::Way;

@@ -1,6 +1,7 @@
 //! Feeds.
 
 use crate::calls::received;
+use crate::entry::Who;
 use crate::error::Error;
 use crate::names::{Channel, Port};
 use crate::owned::Holds;
@@ -54,7 +55,7 @@ impl<R: Room, T, H: Holds<R>> Feed<'_, R, T, H> {
                 raw::seryugo_feed_open(room, channel, capacity, feed, &mut number)
             })
         };
-        let mut handle = board.change(None, |inside| inside.enter(open))?;
+        let mut handle = board.open_feed(channel, |inside| inside.enter(open))?;
         let port = written(|port| raw::seryugo_feed_port(&mut handle, port))?;
         Ok(Feed {
             port: board.name(port),
@@ -155,6 +156,7 @@ impl<R: Room, T, H: Holds<R>> Drop for Feed<'_, R, T, H> {
     fn drop(&mut self) {
         let number = self.number;
         self.board.change(None, |inside| raw::seryugo_feed_end(&mut inside.handle, number));
+        self.board.leaves(Who::Feed(number));
     }
 }
 

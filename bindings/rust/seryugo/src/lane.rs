@@ -1,6 +1,7 @@
 //! Lanes.
 
 use crate::error::{handing_back, Error, SendError};
+use crate::explore::RerunLane;
 use crate::names::Named;
 use crate::owned::Holds;
 use crate::raw::{self, done, Handle};
@@ -9,6 +10,7 @@ use crate::sent_as::SentAs;
 use crate::switchboard::Switchboard;
 use std::fmt;
 use std::marker::PhantomData;
+use std::sync::Arc;
 
 /// A lane, on which one thread sends without the lock. End it by [`close`](Lane::close), which
 /// loses nothing.
@@ -45,7 +47,7 @@ use std::marker::PhantomData;
 /// ```
 pub struct Lane<'a, R: Room, T, H: Holds<R> = &'a Switchboard<R>> {
     board: H,
-    handle: Handle,
+    ring: Ring<R>,
     number: u64,
     /// How many messages were sent on it.
     sent: u64,
@@ -54,15 +56,23 @@ pub struct Lane<'a, R: Room, T, H: Holds<R> = &'a Switchboard<R>> {
     kind: PhantomData<&'a R>,
 }
 
+/// The ring on which a lane sends.
+enum Ring<R: Room> {
+    Own(Handle),
+    /// The rerun of the switchboard has it.
+    Rerun(Arc<RerunLane<R>>),
+}
+
 impl<'a, R: Room, T, H: Holds<R>> Lane<'a, R, T, H> {
     /// Opens a lane at a switchboard.
     pub(crate) fn at(board: H, target: impl Named, capacity: usize) -> Result<Self, Error> {
         board.refuse_if_explored("lanes");
         let target = board.here(target)?;
         let (handle, number) = board.lock().open_lane(target, capacity)?;
+        let ring = board.lane_again(number, handle).map_or_else(Ring::Own, Ring::Rerun);
         Ok(Lane {
             board,
-            handle,
+            ring,
             number,
             sent: 0,
             is_closed: false,
@@ -110,7 +120,10 @@ impl<'a, R: Room, T, H: Holds<R>> Lane<'a, R, T, H> {
     where
         R: Carries<T>,
     {
-        let sent = done(R::with_sent(&message, |sent| R::lane_send(&mut self.handle, sent)));
+        let sent = match &mut self.ring {
+            Ring::Own(lane) => done(R::with_sent(&message, |sent| R::lane_send(lane, sent))),
+            Ring::Rerun(lane) => self.board.lane_sends(lane, R::kept(&message)),
+        };
         self.sent += u64::from(sent.is_ok());
         handing_back(sent, message)
     }
@@ -132,7 +145,10 @@ impl<'a, R: Room, T, H: Holds<R>> Lane<'a, R, T, H> {
     ///
     /// `JournalFull`, `NotKept` and `NoMemory`: no message has moved.
     pub fn drain(&mut self) -> Result<u64, Error> {
-        self.board.drain(self.number)
+        match &self.ring {
+            Ring::Own(_) => self.board.drain(self.number),
+            Ring::Rerun(lane) => self.board.lane_drains(lane),
+        }
     }
 
     /// Moves all that was sent into the journal, and closes the lane. If a message is refused, the
@@ -162,13 +178,19 @@ impl<'a, R: Room, T, H: Holds<R>> Lane<'a, R, T, H> {
     /// [`cut_open`](Switchboard::cut_open), and close the lane again.
     #[must_use = "a lane that wasn't closed loses messages when it is dropped"]
     pub fn close(mut self) -> Result<(), UnclosedLane<'a, R, T, H>> {
-        // A lane that is open on both sides can be ended.
-        raw::seryugo_lane_finish(&mut self.handle);
+        if let Ring::Own(lane) = &mut self.ring {
+            // A lane that is open on both sides can be ended.
+            raw::seryugo_lane_finish(lane);
+        }
         self.close_finished()
     }
 
     fn close_finished(mut self) -> Result<(), UnclosedLane<'a, R, T, H>> {
-        match self.board.close_lane(self.number, &mut self.handle) {
+        let closed = match &mut self.ring {
+            Ring::Own(lane) => self.board.close_lane(self.number, lane),
+            Ring::Rerun(lane) => self.board.lane_closes(lane),
+        };
+        match closed {
             Ok(()) => {
                 self.is_closed = true;
                 Ok(())
@@ -179,7 +201,10 @@ impl<'a, R: Room, T, H: Holds<R>> Lane<'a, R, T, H> {
 
     fn end(&mut self) -> u64 {
         self.is_closed = true;
-        self.board.end_lane(self.number, self.sent)
+        match &self.ring {
+            Ring::Own(_) => self.board.end_lane(self.number, self.sent),
+            Ring::Rerun(lane) => self.board.lane_ends(lane, self.sent),
+        }
     }
 }
 

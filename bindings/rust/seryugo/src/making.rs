@@ -102,7 +102,7 @@ impl<R: Room, H: Holds<R>> Seat<'_, R, H> {
         let code = self.call(Kind::Copy.on(port), |room, seat| {
             raw::seryugo_copy_port(room, seat, port, &mut number)
         });
-        let is_open = done_or(code, code::CLOSED)?;
+        let is_open = done_or(code?, code::CLOSED)?;
         Ok(is_open.then(|| self.board.name(number)))
     }
 
@@ -126,7 +126,7 @@ impl<R: Room, H: Holds<R>> Seat<'_, R, H> {
         let port = self.here(port)?;
         let code =
             self.call(Kind::Close.on(port), |room, seat| raw::seryugo_close_port(room, seat, port));
-        done_or(code, code::CLOSED).map_err(|error| error.misfit(Misfit::Feed(port)))
+        done_or(code?, code::CLOSED).map_err(|error| error.misfit(Misfit::Feed(port)))
     }
 
     /// Makes an empty i-variable.
@@ -203,7 +203,7 @@ impl<R: Room, H: Holds<R>> Seat<'_, R, H> {
         call: impl FnOnce(&mut Handle, u64, &mut u64) -> u32,
     ) -> Result<N, Error> {
         let mut number = 0;
-        done(self.call(step, |room, seat| call(room, seat, &mut number)))?;
+        done(self.call(step, |room, seat| call(room, seat, &mut number))?)?;
         Ok(self.board.name(number))
     }
 }

@@ -122,6 +122,16 @@ impl Calls for Numbers {
         seryugo_feed_recv(feed, to)
     }
 
+    const OTHER_VERSIONS: [&'static str; 2] = ["2", "4"];
+
+    fn word(message: &u64) -> String {
+        message.to_string()
+    }
+
+    fn message_of(word: &str) -> Option<u64> {
+        word.parse().ok()
+    }
+
     fn entry(room: &mut Handle, at: u64) -> Result<Entry<Numbers>, Error> {
         entry_of(|entry| seryugo_entry(room, at, entry))
     }

@@ -315,10 +315,10 @@ impl<A: Message> Asker<A> {
             <Bytes as Carries<A>>::with_sent(answer, |piece| bytes.extend_from_slice(piece));
         }
         let mailbox = self.mailbox;
-        let sent = done(seat.call(Give::Send.on(mailbox), |room, seat| {
+        let code = seat.call(Give::Send.on(mailbox), |room, seat| {
             Bytes::give(Give::Send, room, seat, mailbox, &bytes)
-        }));
-        sent.map_err(|error| match seat.board.kind(mailbox) {
+        });
+        code.and_then(done).map_err(|error| match seat.board.kind(mailbox) {
             Ok(is) => error.misfit(Misfit::Kind {
                 number: mailbox,
                 is,

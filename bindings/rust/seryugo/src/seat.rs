@@ -2,6 +2,7 @@
 
 use crate::asking::Answers;
 use crate::calls::{received, Give, Read};
+use crate::entry::Who;
 use crate::error::{handing_back, Error, SendError};
 use crate::explore::Step;
 use crate::kind::Misfit;
@@ -85,6 +86,7 @@ impl<R: Room, H: Holds<R>> Seat<'_, R, H> {
         let mut inside = board.lock();
         let parker = board.parkers.make(inside.next_place()).ok_or(Error::NoMemory)?;
         let number = inside.new_seat()?;
+        board.seat_comes(number);
         // SAFETY: no parker moves, and the seat uses it while it has `board`, which keeps it.
         let parker = unsafe { ParkerAt::new(parker) };
         drop(inside);
@@ -140,11 +142,12 @@ impl<R: Room, H: Holds<R>> Seat<'_, R, H> {
         R: Carries<T>,
     {
         let sent = self.here(mailbox).and_then(|mailbox| {
-            done(R::with_sent(&message, |sent| {
+            let code = R::with_sent(&message, |sent| {
                 self.call(Give::Send.on(mailbox), |room, seat| {
                     R::give(Give::Send, room, seat, mailbox, sent)
                 })
-            }))
+            });
+            done(code?)
         });
         handing_back(sent, message)
     }
@@ -175,11 +178,12 @@ impl<R: Room, H: Holds<R>> Seat<'_, R, H> {
         R: Carries<T>,
     {
         let sent = self.here(channel).and_then(|channel| {
-            done(R::with_sent(&message, |sent| {
+            let code = R::with_sent(&message, |sent| {
                 self.call(Give::Multicast.on(channel), |room, seat| {
                     R::give(Give::Multicast, room, seat, channel, sent)
                 })
-            }))
+            });
+            done(code?)
         });
         handing_back(sent, message)
     }
@@ -246,7 +250,7 @@ impl<R: Room, H: Holds<R>> Seat<'_, R, H> {
                     R::give(Give::Put, room, seat, variable, sent)
                 })
             });
-            done_or(code, code::PUT)
+            done_or(code?, code::PUT)
         });
         handing_back(put, message)
     }
@@ -321,17 +325,25 @@ impl<R: Room, H: Holds<R>> Seat<'_, R, H> {
         R: Carries<T>,
     {
         let mut found = R::nothing();
-        match self.call(step, |room, seat| call(room, seat, &mut found)) {
+        match self.call(step, |room, seat| call(room, seat, &mut found))? {
             code::NOTHING => Ok(None),
             code => received::<R, T>(code, found).map(Some),
         }
     }
 
+    /// Makes a call that never blocks. `Err`: a rerun doesn't let it be made.
     #[inline]
-    pub(crate) fn call(&mut self, step: Step, call: impl FnOnce(&mut Handle, u64) -> u32) -> u32 {
+    pub(crate) fn call(
+        &mut self,
+        step: Step,
+        call: impl FnOnce(&mut Handle, u64) -> u32,
+    ) -> Result<u32, Error> {
         let seat = self.ready();
-        self.board.pass(seat, step);
-        self.board.change(Some(&self.parker), |inside| inside.enter(|room| call(room, seat)))
+        let call = |room: &mut Handle| call(room, seat);
+        if let Some(conductor) = &self.board.conductor {
+            return self.board.call_conducted(conductor, &self.parker, seat, step, call);
+        }
+        Ok(self.board.change(Some(&self.parker), |inside| inside.enter(call)))
     }
 
     /// The seat's number, once it may call: a future that was forgotten left it waiting, or a call
@@ -363,6 +375,7 @@ impl<R: Room, H: Holds<R>> Drop for Seat<'_, R, H> {
             raw::seryugo_leave(&mut inside.handle, seat);
             inside.free_answers.extend(answers);
         });
+        self.board.leaves(Who::Seat(seat));
     }
 }
 

@@ -2,7 +2,7 @@
 
 use crate::apart::Apart;
 use crate::error::Error;
-use crate::explore::Play;
+use crate::explore::Conductor;
 use crate::feed::Feed;
 use crate::inside::Inside;
 use crate::kind::Missing;
@@ -16,7 +16,7 @@ use crate::version;
 use std::fmt;
 use std::marker::PhantomData;
 use std::sync::atomic::{AtomicU64, Ordering};
-use std::sync::{Arc, Mutex, PoisonError};
+use std::sync::{Mutex, PoisonError};
 
 /// Objects, the journal of every call that was accepted, and the seats from which threads call.
 ///
@@ -44,8 +44,8 @@ pub struct Switchboard<R: Room = Bytes> {
     pub(crate) parkers: Parkers,
     /// No other switchboard of the process has it. The names of the objects have it too.
     number: u64,
-    /// The exploration that has it.
-    pub(crate) explored: Option<Arc<Play>>,
+    /// Who decides when its calls are made, if it is explored or rerun.
+    pub(crate) conductor: Option<Conductor<R>>,
     kind: PhantomData<fn() -> R>,
 }
 
@@ -107,7 +107,7 @@ impl<R: Room> Switchboard<R> {
             inside: Apart(Mutex::new(Inside::new(handle, limit))),
             parkers: Parkers::new(),
             number: MADE.fetch_add(1, Ordering::Relaxed),
-            explored: None,
+            conductor: None,
             kind: PhantomData,
         }
     }
@@ -197,13 +197,11 @@ impl<R: Room> Switchboard<R> {
     /// `NoSuch`: no open lane has this number. `JournalFull`, `NotKept` and `NoMemory`: no message
     /// has moved.
     pub fn drain(&self, lane: u64) -> Result<u64, Error> {
-        let drained = self.change(None, |inside| inside.drain(lane));
+        let drained = match self.follower() {
+            None => self.change(None, |inside| inside.drain(lane)),
+            Some(follower) => self.drained_again(follower, lane),
+        };
         drained.map_err(|error| error.missing(Missing::Lane(lane)))
-    }
-
-    /// Receives what the feed of this number is owed.
-    pub(crate) fn pump(&self, feed: u64) -> Result<u64, Error> {
-        self.change(None, |inside| inside.pump(feed))
     }
 
     /// Closes a lane that has ended, once all of its messages have moved.

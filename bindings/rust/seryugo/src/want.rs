@@ -49,6 +49,8 @@ impl<R: Room> Want<'_, R> {
 pub(crate) enum Refused {
     Code(u32),
     TimedOut,
+    /// A rerun doesn't let it be made.
+    Failed(Error),
 }
 
 impl From<Refused> for Error {
@@ -57,6 +59,7 @@ impl From<Refused> for Error {
         match refused {
             Refused::Code(code) => Error::of_code(code),
             Refused::TimedOut => Error::TimedOut,
+            Refused::Failed(error) => error,
         }
     }
 }
@@ -97,7 +100,9 @@ impl<'a, R: Room, H: Holds<R>> Seat<'a, R, H> {
     #[inline]
     pub(crate) fn wait(&mut self, want: Want<'_, R>) -> Answer<R> {
         let seat = self.ready();
-        self.board.pass_to_wait(seat, want.step(), false)?;
+        if let Some(answer) = self.conducted(want, false) {
+            return answer;
+        }
         let mut received = R::nothing();
         let mut code =
             self.board.ask(&self.parker, false, |room| want.ask(room, seat, false, &mut received));
@@ -113,6 +118,22 @@ impl<'a, R: Room, H: Holds<R>> Seat<'a, R, H> {
         answer::<R>(code, received)
     }
 
+    /// Lets an exploration or a rerun decide when the call is made. `None`: make it now, as any
+    /// other.
+    #[inline]
+    fn conducted(&mut self, want: Want<'_, R>, is_timed: bool) -> Option<Answer<R>> {
+        let conductor = self.board.conductor.as_ref()?;
+        let (seat, mut received) = (self.number(), R::nothing());
+        let asked = self.board.ask_conducted(conductor, seat, want.step(), is_timed, |inside| {
+            inside.ask_at_last(seat, false, |room| want.ask(room, seat, false, &mut received))
+        });
+        match asked {
+            Ok(None) => None,
+            Ok(Some(code)) => Some(answer::<R>(code, received)),
+            Err(refused) => Some(Err(refused)),
+        }
+    }
+
     /// The same, but no longer than this. A limit that no clock reaches is none.
     pub(crate) fn wait_for(&mut self, want: Want<'_, R>, timeout: Duration) -> Answer<R> {
         match Instant::now().checked_add(timeout) {
@@ -125,7 +146,9 @@ impl<'a, R: Room, H: Holds<R>> Seat<'a, R, H> {
     /// is parked, it withdraws it before others have the lock.
     pub(crate) fn wait_until(&mut self, want: Want<'_, R>, deadline: Instant) -> Answer<R> {
         let seat = self.ready();
-        self.board.pass_to_wait(seat, want.step(), true)?;
+        if let Some(answer) = self.conducted(want, true) {
+            return answer;
+        }
         let mut received = R::nothing();
         let mut is_again = false;
         let mut is_last = deadline <= Instant::now();
@@ -153,7 +176,7 @@ impl<'a, R: Room, H: Holds<R>> Seat<'a, R, H> {
 
     /// The same as a future.
     pub(crate) fn waiting<'m>(&mut self, want: Want<'m, R>) -> Waiting<'_, 'a, 'm, R, H> {
-        self.board.refuse_if_explored("futures");
+        self.board.refuse_if_conducted("futures");
         self.ready();
         Waiting { seat: self, want }
     }

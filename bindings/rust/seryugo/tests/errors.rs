@@ -1,5 +1,6 @@
 //! What errors say to a person, and which calls may be made again.
 
+use seryugo::explore::Diverged;
 use seryugo::{Error, Kind, Misfit, Missing, Object, Switchboard, Version};
 use std::any::type_name;
 
@@ -29,6 +30,12 @@ fn each() -> Vec<Error> {
         Error::TooLong,
         Error::TimedOut,
         Error::Declined,
+        Error::Diverged(Box::new(Diverged {
+            position: 7,
+            expected: "seat 0 send 0 5: done".to_string(),
+            found: "seat 0 leaves".to_string(),
+        })),
+        Error::RerunEnded,
         Error::Unreadable {
             wanted: "u64",
             bytes: vec![1, 2],

@@ -1,7 +1,6 @@
 //! What an exploration asks and makes of a switchboard.
 
 use super::moves::Move;
-use super::play::Play;
 use super::step::{Kind, Step, NONE};
 use crate::calls::Read;
 use crate::entry::Entry;
@@ -9,7 +8,6 @@ use crate::objects::Reader;
 use crate::raw::{self, code, written, Handle};
 use crate::room::Room;
 use crate::switchboard::Switchboard;
-use crate::want::Refused;
 use std::hash::{DefaultHasher, Hash, Hasher};
 
 /// How a step ends.
@@ -155,68 +153,4 @@ impl Move {
     pub(crate) fn is_on_port(step: Step) -> bool {
         matches!(step.kind, Kind::Recv | Kind::Poll | Kind::Close | Kind::Copy | Kind::Look)
     }
-}
-
-/// In an exploration each of these waits until it is this thread's turn. Otherwise it is a branch.
-impl<R: Room> Switchboard<R> {
-    /// Before a call that never blocks.
-    #[inline]
-    pub(crate) fn pass(&self, seat: u64, step: Step) {
-        if let Some(play) = &self.explored {
-            play.pass(self, seat, step, false);
-        }
-    }
-
-    /// Before a call that may block. If it returns `Ok`, it doesn't.
-    #[inline]
-    pub(crate) fn pass_to_wait(
-        &self,
-        seat: u64,
-        step: Step,
-        is_timed: bool,
-    ) -> Result<(), Refused> {
-        match &self.explored {
-            None => Ok(()),
-            Some(play) => match play.pass(self, seat, step, is_timed) {
-                Pass::Go => Ok(()),
-                Pass::TimedOut => Err(Refused::TimedOut),
-                Pass::Stalled => Err(Refused::Code(code::STALLED)),
-            },
-        }
-    }
-
-    /// Before what an object has is read.
-    #[inline]
-    pub(crate) fn pass_to_look(&self, object: u64) {
-        self.pass(NONE, Kind::Look.on(object));
-    }
-
-    /// Before the journal is read or cut.
-    #[inline]
-    pub(crate) fn pass_to_look_at_all(&self) {
-        self.pass(NONE, Kind::LookAtAll.on(NONE));
-    }
-
-    /// Before what an exploration doesn't know.
-    ///
-    /// # Panics
-    ///
-    /// In an exploration.
-    #[inline]
-    pub(crate) fn refuse_if_explored(&self, what: &str) {
-        if self.explored.is_some() {
-            refuse(what);
-        }
-    }
-
-    /// Has this exploration choose who calls.
-    pub(crate) fn explored_by(mut self, play: std::sync::Arc<Play>) -> Switchboard<R> {
-        self.explored = Some(play);
-        self
-    }
-}
-
-#[cold]
-fn refuse(what: &str) -> ! {
-    panic!("an exploration doesn't know {what} yet: use the calls of seats that block")
 }

@@ -1,7 +1,12 @@
 //! What an exploration has found.
 
 use super::end::End;
+use super::rerun::{Reran, Rerun, RerunError};
+use super::schedule::Schedule;
+use crate::room::Room;
+use crate::switchboard::Switchboard;
 use std::fmt;
+use std::sync::Arc;
 
 /// What [`explore`](super::explore) has found. Its text is what a failing test shows.
 #[derive(Clone, Debug)]
@@ -89,6 +94,47 @@ impl Bad {
     pub fn journal(&self) -> &str {
         &self.journal
     }
+
+    /// Runs the program again with threads of the system, in the order of the journal, and compares
+    /// the end. See [`Rerun`].
+    ///
+    /// ```
+    /// use seryugo::explore::{explore, Way};
+    /// use seryugo::Switchboard;
+    /// use std::sync::Arc;
+    ///
+    /// let program = |board: &Arc<Switchboard>| {
+    ///     let mut seat = board.seat().unwrap();
+    ///     let letters = seat.mailbox::<String>().unwrap();
+    ///     seat.recv(letters).unwrap();
+    /// };
+    /// let found = explore(Way::every(), 1_000, program);
+    /// let reran = found.bad().unwrap().rerun(program)?;
+    /// assert!(reran.is_same(), "{reran}");
+    /// assert_eq!(reran.stops()[0].to_string(), "seat 0 at recv 0");
+    /// # Ok::<(), seryugo::explore::RerunError>(())
+    /// ```
+    ///
+    /// # Errors
+    ///
+    /// The journal can't be followed, as if the run ended before the library could write it.
+    ///
+    /// # Panics
+    ///
+    /// As [`Rerun::run`].
+    pub fn rerun<R: Room>(
+        &self,
+        program: impl FnOnce(&Arc<Switchboard<R>>),
+    ) -> Result<Reran, RerunError> {
+        let rerun = Rerun::read(self.journal.as_bytes())?;
+        let rerun = match Schedule::read(&self.schedule) {
+            Some(Schedule {
+                tells_stalls: true, ..
+            }) => rerun.ends_as_told(&self.end),
+            _ => rerun.ends_as(&self.end),
+        };
+        Ok(rerun.run(program))
+    }
 }
 
 impl fmt::Display for Found {
@@ -119,6 +165,7 @@ impl fmt::Display for Bad {
             journal,
             ..
         } = self;
-        write!(f, "{end}\nto run it again: explore::again(\"{schedule}\", program)\n{journal}")
+        writeln!(f, "{end}\nto run it again: explore::again(\"{schedule}\", program)")?;
+        write!(f, "to rerun its journal with threads of the system: bad.rerun(program)\n{journal}")
     }
 }

@@ -2,13 +2,14 @@
 
 use super::board::{Board, Pass};
 use super::end::End;
+use super::panics::said;
 use super::state::{At, Joins, State, Watched};
 use super::step::Step;
 use super::worker::{was_stopped, Ended, Job, Worker};
 use std::any::Any;
 use std::cell::RefCell;
 use std::io::{self, Write};
-use std::panic::{catch_unwind, resume_unwind, AssertUnwindSafe, PanicHookInfo};
+use std::panic::{catch_unwind, resume_unwind, AssertUnwindSafe};
 use std::sync::atomic::{AtomicU64, Ordering};
 use std::sync::{Arc, Mutex, MutexGuard, PoisonError};
 use std::thread;
@@ -62,18 +63,8 @@ pub(crate) fn keeps_panics() -> Option<bool> {
 }
 
 /// Keeps where a panic was, and what it said.
-pub(crate) fn keep_said(panic: &PanicHookInfo<'_>) {
-    let said = said(panic.payload());
-    let said = match panic.location() {
-        Some(place) => format!("{}:{}: {said}", place.file(), place.line()),
-        None => said.to_string(),
-    };
+pub(crate) fn keep_said(said: String) {
     let _ = SAID.try_with(|kept| kept.replace(Some(said)));
-}
-
-fn said(panic: &(dyn Any + Send)) -> &str {
-    let text = panic.downcast_ref::<String>().map(String::as_str);
-    text.or_else(|| panic.downcast_ref::<&str>().copied()).unwrap_or("it said nothing")
 }
 
 impl Play {

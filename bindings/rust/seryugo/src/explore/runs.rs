@@ -1,8 +1,10 @@
 //! The runs of an exploration.
 
 use super::board::Board;
+use super::conductor::Conductor;
 use super::end::End;
 use super::found::{Bad, Found};
+use super::panics::keep_panics;
 use super::pinned::Pinned;
 use super::play::{self, Play};
 use super::schedule::Schedule;
@@ -12,8 +14,8 @@ use super::way::{Order, Way};
 use super::worker::Slot;
 use crate::room::Room;
 use crate::switchboard::Switchboard;
-use std::panic::{self, catch_unwind, AssertUnwindSafe};
-use std::sync::{Arc, Once};
+use std::panic::{catch_unwind, AssertUnwindSafe};
+use std::sync::Arc;
 
 /// Runs a program until a run ends badly, every order was run, or there were this many runs.
 ///
@@ -128,7 +130,7 @@ impl Explorer {
     /// Runs the program once.
     pub fn run<R: Room>(&self, run: u64, program: &impl Fn(&Arc<Switchboard<R>>)) -> Run {
         let board = Switchboard::<R>::open(self.way.limits.entries).expect("a switchboard");
-        let board = Arc::new(board.explored_by(Arc::clone(&self.play)));
+        let board = Arc::new(board.conducted_by(Conductor::Exploration(Arc::clone(&self.play))));
         self.play.lock().begin(Arc::clone(&board) as Arc<dyn Board>, &self.main, run);
         play::enter(&self.play, 0);
         let ended = catch_unwind(AssertUnwindSafe(|| program(&board)));
@@ -182,21 +184,4 @@ impl Drop for Explorer {
     fn drop(&mut self) {
         self.play.end();
     }
-}
-
-/// From now on the panics of threads that are explored are kept, and not printed.
-fn keep_panics() {
-    static ONCE: Once = Once::new();
-    ONCE.call_once(|| {
-        let printed = panic::take_hook();
-        panic::set_hook(Box::new(move |panic| {
-            let is_loud = play::keeps_panics();
-            if is_loud.is_some() {
-                play::keep_said(panic);
-            }
-            if is_loud != Some(false) {
-                printed(panic);
-            }
-        }));
-    });
 }

@@ -2,6 +2,7 @@
 //! board.
 
 use crate::calls::{Give, Read};
+use crate::entry::Call;
 use std::fmt;
 
 /// The number of no object, and of no seat.
@@ -92,6 +93,32 @@ impl Kind {
 pub(crate) struct Step {
     pub kind: Kind,
     pub object: u64,
+}
+
+impl Step {
+    /// The step of a call that is in a journal.
+    pub fn of<M>(call: &Call<M>) -> Step {
+        match call {
+            Call::NewMailbox => Kind::Mailbox.makes(),
+            Call::NewChannel => Kind::Channel.makes(),
+            Call::NewPort(channel) => Kind::Port.on(*channel),
+            Call::CopyPort(port) => Kind::Copy.on(*port),
+            Call::ClosePort(port) => Kind::Close.on(*port),
+            Call::NewIVar => Kind::IVar.makes(),
+            Call::NewMVar => Kind::MVar.makes(),
+            Call::MVarInit(_) => Kind::MVarInit.makes(),
+            Call::Send(mailbox, _) => Kind::Send.on(*mailbox),
+            Call::Multicast(channel, _) => Kind::Multicast.on(*channel),
+            Call::Recv(source) => Kind::Recv.on(*source),
+            Call::RecvPoll(source) => Kind::Poll.on(*source),
+            Call::Put(variable, _) => Kind::Put.on(*variable),
+            Call::Get(variable) => Kind::Get.on(*variable),
+            Call::GetPoll(variable) => Kind::GetPoll.on(*variable),
+            Call::Take(variable) => Kind::Take.on(*variable),
+            Call::TakePoll(variable) => Kind::TakePoll.on(*variable),
+            Call::Swap(variable, _) => Kind::Swap.on(*variable),
+        }
+    }
 }
 
 impl fmt::Display for Step {

@@ -1,9 +1,11 @@
 //! Programs with a bug: each is found, and its schedule finds it again.
 
+use crate::buggy::{
+    closed_port, double_take, flag, late_port, lost_update, lost_wake, no_end, two_locks,
+};
 use crate::programs::{philosophers, seat, Board};
 use seryugo::explore::{self, again, explore, End, Found, Way};
 use seryugo::Error;
-use std::sync::atomic::{AtomicBool, Ordering::SeqCst};
 use std::time::Duration;
 
 /// A program with a bug: every way finds it, and its schedule leads there again.
@@ -35,7 +37,7 @@ fn panics(program: impl Fn(&Board), says: &str) {
     let End::Panicked { message, .. } = found.bad().unwrap().end() else {
         panic!("{found}")
     };
-    assert!(message.contains(says) && message.contains("bugs.rs:"), "{message}");
+    assert!(message.contains(says) && message.contains("explore/bug"), "{message}");
 }
 
 /// It ends with threads that wait at these calls.
@@ -55,114 +57,35 @@ fn philosophers_who_all_take_the_left_fork() {
 
 #[test]
 fn two_locks_in_both_orders() {
-    let program = |board: &Board| {
-        let mut main = seat(board);
-        let locks = [main.mvar_init(0).unwrap(), main.mvar_init(0).unwrap()];
-        explore::scope(|threads| {
-            for (first, second) in [(locks[0], locks[1]), (locks[1], locks[0])] {
-                let mut seat = seat(board);
-                threads.spawn(move || {
-                    for _ in 0..3 {
-                        seat.take(first).unwrap();
-                        seat.take(second).unwrap();
-                        seat.put(second, 0).unwrap();
-                        seat.put(first, 0).unwrap();
-                    }
-                });
-            }
-        });
-    };
-    stalls(program, &["take 1", "take 0"]);
+    stalls(two_locks, &["take 1", "take 0"]);
 }
 
 #[test]
 fn a_lost_update() {
-    let program = |board: &Board| {
-        let mut main = seat(board);
-        let account = main.mvar_init(100).unwrap();
-        explore::scope(|threads| {
-            for sum in [10, 20, 30] {
-                let mut seat = seat(board);
-                threads.spawn(move || {
-                    let held = seat.get(account).unwrap();
-                    seat.swap(account, held + sum).unwrap();
-                });
-            }
-        });
-        assert_eq!(main.take(account), Ok(160), "an update is lost");
-    };
-    panics(program, "an update is lost");
+    panics(lost_update, "an update is lost");
 }
 
 #[test]
 fn two_that_take_what_both_have_seen() {
-    let program = |board: &Board| {
-        let job = seat(board).mvar_init(7).unwrap();
-        explore::scope(|threads| {
-            for _ in 0..2 {
-                let mut seat = seat(board);
-                threads.spawn(move || {
-                    if seat.get_poll(job).unwrap().is_some() {
-                        seat.take(job).unwrap();
-                    }
-                });
-            }
-        });
-    };
-    stalls(program, &["take 0"]);
+    stalls(double_take, &["take 0"]);
 }
 
 #[test]
 fn a_port_that_comes_too_late() {
-    let program = |board: &Board| {
-        let mut main = seat(board);
-        let (channel, ready) = (main.channel().unwrap(), main.mailbox().unwrap());
-        let (mut one, mut other) = (seat(board), seat(board));
-        explore::scope(|threads| {
-            threads.spawn(move || {
-                one.send(ready, 1).unwrap();
-                let port = one.port(channel).unwrap();
-                assert_eq!(one.recv(port), Ok(Some(0)), "the first message is missed");
-            });
-            threads.spawn(move || {
-                other.recv(ready).unwrap();
-                (0..3).for_each(|message| other.multicast(channel, message).unwrap());
-            });
-        });
-    };
     // It gets a later message, or none.
-    let found = found(program);
+    let found = found(late_port);
     let end = found.bad().unwrap().end();
     assert!(matches!(end, End::Panicked { .. } | End::Stalled { .. }), "{found}");
 }
 
 #[test]
 fn a_message_to_a_port_that_is_closed() {
-    let program = |board: &Board| {
-        let mut main = seat(board);
-        let channel = main.channel().unwrap();
-        let port = main.port(channel).unwrap();
-        let (mut sends, mut closes) = (seat(board), seat(board));
-        explore::scope(|threads| {
-            threads.spawn(move || sends.multicast(channel, 5).unwrap());
-            threads.spawn(move || closes.close(port).unwrap());
-            assert_eq!(main.recv(port), Ok(Some(5)), "the message came too late");
-        });
-    };
-    panics(program, "the message came too late");
+    panics(closed_port, "the message came too late");
 }
 
 #[test]
 fn a_receiver_that_nobody_tells_of_the_end() {
-    let program = |board: &Board| {
-        let letters = seat(board).mailbox().unwrap();
-        explore::scope(|threads| {
-            let (mut sends, mut receives) = (seat(board), seat(board));
-            threads.spawn(move || (0..3).for_each(|letter| sends.send(letters, letter).unwrap()));
-            threads.spawn(move || while receives.recv(letters).unwrap() < 3 {});
-        });
-    };
-    let found = found(program);
+    let found = found(no_end);
     let End::Stalled { is_told, .. } = found.bad().unwrap().end() else {
         panic!("{found}")
     };
@@ -187,35 +110,6 @@ fn a_seat_that_stays_free() {
     assert!(found.to_string().contains("block for ever, without `Stalled`: seat 0 is free"));
 }
 
-/// The one that waits says so only after it has looked.
-fn flag(board: &Board, aside: impl Fn() + Sync) {
-    let mut main = seat(board);
-    let (wakes, one, other) =
-        (main.mailbox().unwrap(), main.mailbox().unwrap(), main.mailbox().unwrap());
-    let (is_full, waits) = (AtomicBool::new(false), AtomicBool::new(false));
-    let (mut taker, mut giver) = (seat(board), seat(board));
-    explore::scope(|threads| {
-        threads.spawn(|| {
-            taker.send(one, 1).unwrap();
-            aside();
-            let looked = is_full.load(SeqCst);
-            aside();
-            if !looked {
-                waits.store(true, SeqCst);
-                taker.recv(wakes).unwrap();
-            }
-        });
-        threads.spawn(|| {
-            giver.send(other, 1).unwrap();
-            aside();
-            is_full.store(true, SeqCst);
-            if waits.load(SeqCst) {
-                giver.send(wakes, 1).unwrap();
-            }
-        });
-    });
-}
-
 #[test]
 fn a_flag_beside_the_board_that_is_marked() {
     stalls(|board| flag(board, || explore::aside(0)), &["recv 0"]);
@@ -227,28 +121,6 @@ fn a_flag_beside_the_board_that_is_not_marked() {
     let found = explore(Way::every(), 10_000, |board| flag(board, || ()));
     println!("{found}");
     assert!(found.is_clean() && found.beside().is_some(), "{found}");
-}
-
-/// Whether the other one sends depends on a flag, and the two use no object together before.
-fn lost_wake(board: &Board) {
-    let mut main = seat(board);
-    let (wakes, one, other) =
-        (main.mailbox().unwrap(), main.mailbox().unwrap(), main.mailbox().unwrap());
-    let waits = AtomicBool::new(false);
-    let (mut taker, mut giver) = (seat(board), seat(board));
-    explore::scope(|threads| {
-        threads.spawn(|| {
-            taker.send(one, 1).unwrap();
-            waits.store(true, SeqCst);
-            taker.recv(wakes).unwrap();
-        });
-        threads.spawn(|| {
-            giver.send(other, 1).unwrap();
-            if waits.load(SeqCst) {
-                giver.send(wakes, 1).unwrap();
-            }
-        });
-    });
 }
 
 #[test]

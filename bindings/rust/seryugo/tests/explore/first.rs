@@ -1,6 +1,6 @@
 //! The tests of `docs/EXPLORE.md`, word for word.
 
-use seryugo::explore::{again, explore, scope, Way};
+use seryugo::explore::{again, explore, scope, Rerun, Way};
 use seryugo::{Numbers, Switchboard};
 use std::sync::Arc;
 
@@ -41,6 +41,22 @@ fn a_payment_is_lost() {
     assert_eq!(once_more.bad().unwrap().journal(), bad.journal());
 }
 
+#[test]
+fn a_payment_is_lost_with_threads_of_the_system() {
+    let found = explore(Way::every(), 1_000, bank);
+    let reran = found.bad().unwrap().rerun(bank).unwrap();
+    assert!(reran.is_same(), "{reran}");
+    assert!(reran.panics()[0].contains("a payment is lost"));
+}
+
+#[test]
+fn a_journal_of_another_process_is_followed() {
+    let journal = &explore(Way::every(), 1_000, bank).bad().unwrap().journal().to_string();
+    let reran = Rerun::read(journal.as_bytes()).unwrap().run(bank);
+    assert!(reran.is_followed(), "{reran}");
+    println!("{reran}");
+}
+
 /// What the page shows of it.
 #[test]
 fn the_page_shows_what_is_found() {
@@ -54,6 +70,7 @@ const SHOWN: &str = "run 2 of every order: thread 0 panicked at src/bank.rs:14: 
   left: 110
  right: 130
 to run it again: explore::again(\"122\", program)
+to rerun its journal with threads of the system: bad.rerun(program)
 journal 1
 seat 0 mvar 100: made 0
 seat 1 get 0: 100

@@ -1,8 +1,13 @@
 //! Programs that are explored: with a bug, and without one.
 
 mod asking;
+mod buggy;
 mod bugs;
 mod clean;
+mod diverging;
 mod ends;
 mod first;
 mod programs;
+mod real_runs;
+mod reruns;
+mod rings;

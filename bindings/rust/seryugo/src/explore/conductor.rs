@@ -1,0 +1,203 @@
+//! Who decides when the calls of a switchboard are made: an exploration, or a rerun.
+
+use super::board::Pass;
+use super::play::Play;
+use super::rerun::{Caller, Entering, Follower, WaitKind, Waits};
+use super::step::{Kind, Step, NONE};
+use crate::asking::Answers;
+use crate::entry::{Call, Who};
+use crate::error::Error;
+use crate::inside::Inside;
+use crate::parker::Parker;
+use crate::raw::{code, Handle};
+use crate::room::{Bytes, Room};
+use crate::switchboard::Switchboard;
+use crate::want::Refused;
+use std::sync::Arc;
+
+/// Who decides when the calls of a switchboard are made.
+pub(crate) enum Conductor<R: Room> {
+    Exploration(Arc<Play>),
+    Rerun(Arc<Follower<R>>),
+}
+
+impl<R: Room> Switchboard<R> {
+    /// Has this one decide when the calls are made.
+    pub(crate) fn conducted_by(mut self, conductor: Conductor<R>) -> Switchboard<R> {
+        self.conductor = Some(conductor);
+        self
+    }
+
+    /// Makes a call of a seat that never blocks once it may be made.
+    #[cold]
+    pub(crate) fn call_conducted(
+        &self,
+        conductor: &Conductor<R>,
+        by: &Parker,
+        seat: u64,
+        step: Step,
+        call: impl FnOnce(&mut Handle) -> u32,
+    ) -> Result<u32, Error> {
+        let entering = match conductor {
+            Conductor::Exploration(play) => {
+                play.pass(self, seat, step, false);
+                None
+            }
+            Conductor::Rerun(follower) => {
+                follower.enter(Caller::of_seat(seat, step), WaitKind::Made)?
+            }
+        };
+        let call = |inside: &mut Inside<R>| inside.enter(call);
+        match entering {
+            None => Ok(self.change(Some(by), call)),
+            Some(entering) => self.make_again(entering, call),
+        }
+    }
+
+    /// Makes a call whose entry is next in a rerun.
+    fn make_again(
+        &self,
+        entering: Entering<'_, R>,
+        call: impl FnOnce(&mut Inside<R>) -> u32,
+    ) -> Result<u32, Error> {
+        let (code, made) = self.change(None, |inside| {
+            let code = call(inside);
+            (code, entering.made(inside))
+        });
+        let follower = entering.follower();
+        let code = entering.end(code, made)?;
+        if follower.plan.has_lanes() {
+            self.move_lanes(follower);
+        }
+        Ok(code)
+    }
+
+    /// The same of a call that may block. `None`: it may be made as any other.
+    #[cold]
+    pub(crate) fn ask_conducted(
+        &self,
+        conductor: &Conductor<R>,
+        seat: u64,
+        step: Step,
+        is_timed: bool,
+        call: impl FnOnce(&mut Inside<R>) -> u32,
+    ) -> Result<Option<u32>, Refused> {
+        let kind = if is_timed {
+            WaitKind::MayPass
+        } else {
+            WaitKind::Blocks
+        };
+        match conductor {
+            Conductor::Exploration(play) => match play.pass(self, seat, step, is_timed) {
+                Pass::Go => Ok(None),
+                Pass::TimedOut => Err(Refused::TimedOut),
+                Pass::Stalled => Err(Refused::Code(code::STALLED)),
+            },
+            Conductor::Rerun(follower) => {
+                let entering = follower.enter(Caller::of_seat(seat, step), kind)?;
+                let made = entering.map(|entering| self.make_again(entering, call));
+                made.transpose().map_err(Refused::Failed)
+            }
+        }
+    }
+
+    /// Before what an object has is read.
+    #[inline]
+    pub(crate) fn pass_to_look(&self, object: u64) {
+        self.pass(Kind::Look.on(object));
+    }
+
+    /// Before the journal is read or cut.
+    #[inline]
+    pub(crate) fn pass_to_look_at_all(&self) {
+        self.pass(Kind::LookAtAll.on(NONE));
+    }
+
+    /// In an exploration this waits until it is this thread's turn. Otherwise it is a branch.
+    #[inline]
+    fn pass(&self, step: Step) {
+        if let Some(Conductor::Exploration(play)) = &self.conductor {
+            play.pass(self, NONE, step, false);
+        }
+    }
+
+    /// Before what an exploration doesn't know.
+    ///
+    /// # Panics
+    ///
+    /// In an exploration.
+    #[inline]
+    pub(crate) fn refuse_if_explored(&self, what: &str) {
+        if let Some(Conductor::Exploration(_)) = &self.conductor {
+            refuse("an exploration", what);
+        }
+    }
+
+    /// Before what neither an exploration nor a rerun knows.
+    ///
+    /// # Panics
+    ///
+    /// In one of them.
+    #[inline]
+    pub(crate) fn refuse_if_conducted(&self, what: &str) {
+        self.refuse_if_explored(what);
+        if self.conductor.is_some() {
+            refuse("a rerun", what);
+        }
+    }
+
+    /// The rerun that has this switchboard.
+    pub(crate) fn follower(&self) -> Option<&Arc<Follower<R>>> {
+        match &self.conductor {
+            Some(Conductor::Rerun(follower)) => Some(follower),
+            _ => None,
+        }
+    }
+
+    /// A seat was made.
+    pub(crate) fn seat_comes(&self, seat: u64) {
+        if let Some(follower) = self.follower() {
+            follower.seat_comes(seat);
+        }
+    }
+
+    /// This one makes no more calls.
+    pub(crate) fn leaves(&self, who: Who) {
+        if let Some(follower) = self.follower() {
+            follower.leaves(who);
+        }
+    }
+}
+
+#[cold]
+fn refuse(who: &str, what: &str) -> ! {
+    panic!("{who} doesn't know {what} yet: use the calls of seats that block")
+}
+
+impl Switchboard<Bytes> {
+    /// Where a seat that asks for the first time may have its questions answered. `None`: it makes
+    /// a mailbox.
+    pub(crate) fn answers_for(&self, seat: u64) -> Option<Answers> {
+        match &self.conductor {
+            None => self.lock().free_answers.pop(),
+            // Which are free depends on the order of seats.
+            Some(Conductor::Exploration(_)) => None,
+            Some(Conductor::Rerun(follower)) => self.answers_again(follower, seat),
+        }
+    }
+
+    /// The same as in the first run: the seat's next entry is a question, which names the mailbox,
+    /// or makes one. The seat that had it before leaves in time.
+    fn answers_again(&self, follower: &Follower<Bytes>, seat: u64) -> Option<Answers> {
+        let Call::Send(_, question) = follower.next_call_of(seat)? else {
+            return None;
+        };
+        let mailbox = u64::from_le_bytes(*question.first_chunk()?);
+        let waits = Waits::of_seat(seat);
+        follower.wait_for(None, &waits, || {
+            let free = &mut self.lock().free_answers;
+            let at = free.iter().position(|answers| answers.mailbox == mailbox)?;
+            Some(free.swap_remove(at))
+        })
+    }
+}

@@ -1,0 +1,116 @@
+//! A call that makes its entry of the journal again.
+
+use super::follower::{Follower, Turn};
+use super::line::line_of;
+use super::threads;
+use super::waits::{Caller, WaitKind, Waits};
+use crate::entry::Entry;
+use crate::error::Error;
+use crate::inside::Inside;
+use crate::raw::code;
+use crate::room::Room;
+use crate::want::Refused;
+
+/// A call whose entry is next.
+pub(crate) struct Entering<'f, R: Room> {
+    follower: &'f Follower<R>,
+    position: usize,
+    caller: Caller,
+}
+
+impl<R: Room> Follower<R> {
+    /// Waits until the caller's next entry is next. `None`: all entries were made, and the call goes
+    /// on freely.
+    #[inline]
+    pub fn enter(
+        &self,
+        caller: Caller,
+        kind: WaitKind,
+    ) -> Result<Option<Entering<'_, R>>, Refused> {
+        let thread = threads::calls_in(&self.notes);
+        let maker = self.maker(caller.who);
+        if let Some(maker) = maker {
+            maker.used_by(thread);
+        }
+        let position = self.position_of(maker);
+        let own = self.plan.entries.get(position);
+        if kind == WaitKind::MayPass && own.is_some_and(|own| own.step != caller.step) {
+            return Err(Refused::TimedOut);
+        }
+        let waits = Waits {
+            caller,
+            kind,
+            thread,
+        };
+        match self.wait(maker, position, &waits) {
+            Turn::Own => Ok(Some(Entering {
+                follower: self,
+                position,
+                caller,
+            })),
+            Turn::End => self.goes_on(caller).map(|()| None).map_err(Refused::Failed),
+            Turn::Failed(error) => Err(Refused::Failed(error)),
+            Turn::GivenUp if kind == WaitKind::Blocks => Err(Refused::Code(code::STALLED)),
+            Turn::GivenUp => Err(Refused::TimedOut),
+        }
+    }
+}
+
+impl<'f, R: Room> Entering<'f, R> {
+    pub fn follower(&self) -> &'f Follower<R> {
+        self.follower
+    }
+
+    /// The entry that the call has made, while it has the lock.
+    #[inline]
+    pub fn made(&self, inside: &mut Inside<R>) -> Option<Entry<R>> {
+        R::entry(&mut inside.handle, self.position as u64).ok()
+    }
+
+    /// The call was made, and returned this code and this entry. `Ok`: it is the journal's, or the
+    /// library has refused the call, as it has in the first run.
+    #[inline]
+    pub fn end(self, code: u32, made: Option<Entry<R>>) -> Result<u32, Error> {
+        let follower = self.follower;
+        match made {
+            Some(made) if made == follower.plan.entries[self.position].entry => {
+                follower.advance(self.position)?;
+                Ok(code)
+            }
+            Some(made) => Err(follower.fails(self.position, line_of(&made))),
+            None => Ok(self.refused(code)),
+        }
+    }
+
+    /// The entries that the call has made, which are this many.
+    pub fn made_from(&self, inside: &mut Inside<R>, count: u64) -> Vec<Entry<R>> {
+        let first = self.position as u64;
+        let room = &mut inside.handle;
+        (first..first + count).map_while(|position| R::entry(room, position).ok()).collect()
+    }
+
+    /// The call has made these entries.
+    pub fn end_each(&self, made: Vec<Entry<R>>) -> Result<(), Error> {
+        (self.position..).zip(made).try_for_each(|(position, made)| {
+            let own = self.follower.plan.entries.get(position);
+            match own.is_some_and(|own| own.entry == made) {
+                true => self.follower.advance(position),
+                false => Err(self.follower.fails(position, line_of(&made))),
+            }
+        })
+    }
+
+    #[cold]
+    fn refused(self, code: u32) -> u32 {
+        let code = if code == code::PARKED {
+            code::STALLED
+        } else {
+            code
+        };
+        if let Some(maker) = self.follower.maker(self.caller.who) {
+            let why = Error::of_code(code);
+            maker.refused(format!("{}: refused, since {why}", self.caller));
+        }
+        code
+    }
+}
