@@ -1,31 +1,33 @@
 #!/bin/sh
 # Everything. `rt ci` proves every crate, has the prover refuse the wrong edits in must-fail, and runs tests and programs; it
 # skips what it has passed on this machine before. Then the built programs are tried from outside, several steps at once: the
-# tables of calls, also with the journal cut after each line; the guide's code against the sources, and each link; each request for memory
-# refused in turn; logs and journals that are cut, which are not to grow; threads that wait for each other; scripts, faults and
-# charts; journals as text, also compacted; simulated queues; the page of figures, without measuring any; and the libraries for C,
-# which are built, installed, and used from C, Rust and Python, also by programs that are killed and go on. The last line is
-# `N passed, M failed`.
+# tables of calls, also with the journal cut after each line; the guide's code against the sources, each link, and the pages of
+# HTML; each request for memory refused in turn; logs and journals that are cut, which are not to grow; threads that wait for
+# each other; scripts, faults and charts; all endings of scripts; journals as text, also compacted; simulated queues; the page
+# of figures, without measuring any; and the libraries for C, which are built, installed, and used from C, Rust and Python, also
+# by programs that are killed and go on. The last line is `N passed, M failed`.
 cd "$(dirname "$0")/.." || exit 1
 
 # The steps after `rt ci`, those that take longest first.
-steps='libraries refused program waiting memory compact cuts calls guide links chart journals queueing speed'
+steps='libraries refused explore program waiting memory compact cuts calls html guide links chart journals queueing speed'
 
 step() {
     rows=crates/cml_rows/out/cml_rows
     bench=crates/cml_bench/out/cml_bench
     cml=crates/cml/out/cml
     chart=crates/cml_chart/out/cml_chart
+    endings=crates/cml_endings/out/cml_endings
     case $1 in
         libraries) sh tests/archives.sh && sh tests/libraries.sh ;;
-        refused) sh tests/refused.sh crates/cml_guide/out/cml_guide "$rows" "$cml" "$chart" ;;
+        refused) sh tests/refused.sh crates/cml_guide/out/cml_guide "$rows" "$cml" "$chart" "$endings" ;;
         program) sh tests/program.sh "$cml" ;;
         chart) sh tests/chart.sh "$chart" ;;
         journals | compact) sh "tests/$1.sh" "$cml" ;;
+        explore) sh tests/explore.sh "$endings" "$cml" ;;
         calls | cuts) sh "tests/$1.sh" "$rows" ;;
         memory) sh tests/memory.sh "$bench" ;;
         waiting) sh tests/waiting.sh "$bench" "$cml" ;;
-        guide | links | speed) sh "tests/$1.sh" ;;
+        guide | html | links | speed) sh "tests/$1.sh" ;;
         queueing) sh tests/queueing.sh crates/cml_queueing/out/cml_queueing "$cml" "$chart" ;;
     esac
 }

@@ -32,11 +32,11 @@ is_clean() { valgrind -q --error-exitcode=99 --leak-check=full --errors-for-leak
 replay_from_c() {
     check 'a program in C that replays is built' compile replay "$replay"
     [ -x "$work/replay" ] || return
-    for example in examples/*.cml; do
+    for example in examples/scripts/*.cml; do
         check "$example, from C" replays "$example"
     done
     if has valgrind 'a replay without a fault of memory'; then
-        check 'a replay without a fault of memory' is_clean "$work/replay" < examples/hello_mailbox.cml
+        check 'a replay without a fault of memory' is_clean "$work/replay" < examples/scripts/hello_mailbox.cml
     fi
 }
 

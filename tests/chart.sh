@@ -2,7 +2,7 @@
 # The built program that draws charts, from outside: `sh tests/chart.sh PROGRAM`. Each example's report gives with its script the
 # chart beside it, and some give the SVG beside them, byte for byte; then rows that are chosen, wrong words, texts that are no
 # reports, or none of the script, scripts with faults, the next steps of threads, a long report and one of too many bytes,
-# texts with bytes that XML has a meaning for, and streams that fail. If python3 is there, a real XML reader reads each SVG.
+# texts with bytes that XML has a meaning for, journals beside the report that a plain program tells them by, and streams that fail. If python3 is there, a real XML reader reads each SVG.
 # The last line is `N passed, M failed`.
 LC_ALL=C
 export LC_ALL
@@ -29,7 +29,7 @@ for text in root.iter("{http://www.w3.org/2000/svg}text"):
 }
 
 examples() {
-    for report in examples/*.report; do
+    for report in examples/scripts/*.report; do
         name=${report%.report}
         run --text --script "$name.cml" < "$report"
         if [ "$status" = 0 ] && cmp -s "$work/out" "$name.chart"; then pass; else fail "$name.chart"; fi
@@ -52,13 +52,13 @@ fault() {
 faults() {
     run < /dev/null
     expect "an empty file" 2 none "report: line 1: no end line"
-    head -c 100 examples/philosophers.report > "$work/in"
+    head -c 100 examples/scripts/philosophers.report > "$work/in"
     run < "$work/in"
     expect "a report that is cut within a line" 2 none "report: line 5: no line end"
-    head -n 7 examples/philosophers.report > "$work/in"
+    head -n 7 examples/scripts/philosophers.report > "$work/in"
     run < "$work/in"
     expect "a report that is cut between lines" 2 none "report: line 8: no end line"
-    sed 5d examples/philosophers.report > "$work/in"
+    sed 5d examples/scripts/philosophers.report > "$work/in"
     run < "$work/in"
     expect "a report that lacks a line" 2 none "report: line 47: no line of a report"
     printf 'A\tsend m 5: done\n' > "$work/in"
@@ -130,19 +130,19 @@ scripts() {
     strange "a lane to another object" "$ringed" "lane 0 multicast c 2: done / $ringed_rest / end: stalled 4 left 1" "line 1: not of this script"
     strange "a feed of another number" "$ringed" "feed 1 recv f: 2 / $ringed_rest / end: stalled 4 left 1" "line 1: not of this script"
     strange "a lane in a script that has none" "$pair" "lane 0 send m 5: done / $rest / end: stalled 1 left 4" "line 1: not of this script"
-    run --script examples/swap.cml < examples/stalled.report
+    run --script examples/scripts/swap.cml < examples/scripts/stalled.report
     expect "a report of another example" 2 none "report: line 1: not of this script"
     script "cml 1 / mailbox m / mailbox m" > "$work/script"
-    run --script "$work/script" < examples/stalled.report
+    run --script "$work/script" < examples/scripts/stalled.report
     expect "a script with a fault" 2 none "script: line 3: name taken"
     : > "$work/script"
-    run --script "$work/script" < examples/stalled.report
+    run --script "$work/script" < examples/scripts/stalled.report
     expect "an empty script" 2 none "script: line 1: bad header"
-    run --script "$work/nothing" < examples/stalled.report
+    run --script "$work/nothing" < examples/scripts/stalled.report
     expect "a script that is not there" 4 none "cml_chart: script read failed"
-    run --script . < examples/stalled.report
+    run --script . < examples/scripts/stalled.report
     expect "a folder for a script" 4 none "cml_chart: script read failed"
-    run --script examples/stalled.cml < /dev/null
+    run --script examples/scripts/stalled.cml < /dev/null
     expect "an empty file with a script" 2 none "report: line 1: no end line"
     run --script
     expect "no name of a script" 3 none some
@@ -186,10 +186,10 @@ words() {
     expect "a word that is said twice" 3 none some
     run --help < /dev/null
     expect "help" 0 some none
-    run --text --from 2 --to 3 < examples/hello_mailbox.report
-    { sed -n '1,2p;4,5p' examples/hello_mailbox.chart; echo "2 of 5 rows, after row 1"; sed -n '8,$p' examples/hello_mailbox.chart; } > "$work/want"
+    run --text --from 2 --to 3 < examples/scripts/hello_mailbox.report
+    { sed -n '1,2p;4,5p' examples/scripts/hello_mailbox.chart; echo "2 of 5 rows, after row 1"; sed -n '8,$p' examples/scripts/hello_mailbox.chart; } > "$work/want"
     if cmp -s "$work/out" "$work/want"; then pass; else fail "from the second row to the third"; fi
-    run --text --from 7 < examples/hello_mailbox.report
+    run --text --from 7 < examples/scripts/hello_mailbox.report
     expect "rows that are not there" 0 some none
 }
 
@@ -233,11 +233,67 @@ texts() {
     if grep -qF "send <b>&amp;\"'" "$work/out"; then pass; else fail "texts as they stand"; fi
 }
 
+# drawn_as_told CASE FILE: of the journal in a file the program draws what it draws of the report that the model tells it by.
+drawn_as_told() {
+    awk -v journal="$2" -f tests/models/calls.awk -f tests/models/journal_judge.awk -f tests/models/journal_report.awk > "$work/told"
+    run --text --to 100000 < "$work/told"
+    expect "$1, as the model tells it" 0 some none
+    mv "$work/out" "$work/want"
+    run --text --to 100000 < "$2"
+    if [ "$status" = 0 ] && cmp -s "$work/out" "$work/want"; then pass; else fail "$1: $(cat "$work/err")"; fi
+}
+
+# no_journal CASE LINES STATUS ERR: these lines begin as a journal does, and are none that is drawn.
+no_journal() {
+    script "$2" > "$work/in"
+    run < "$work/in"
+    expect "$1" "$3" none "$4"
+}
+
+journals() {
+    for journal in examples/scripts/*.journal; do
+        drawn_as_told "$journal" "$journal"
+    done
+    for seed in 1 2 3 4 5 6 7 8 9 10 11 12 13 14 15 16 17 18 19 20; do
+        awk -v seed=$seed -v count=60 -f tests/models/calls.awk -f tests/models/journal_judge.awk -f tests/models/some_journals.awk > "$work/journal"
+        drawn_as_told "random journal $seed" "$work/journal"
+    done
+    { printf 'journal 2\nseat 0 mailbox: made 0\nseat 0 send 0 ='; head -c 100000 /dev/zero | tr '\0' a; printf ': done\nseat 1 recv 0: ='
+        head -c 100000 /dev/zero | tr '\0' a; printf '\nseat 1 send 0 =: done\nend 4\n'; } > "$work/journal"
+    drawn_as_told "a long message, and an empty one" "$work/journal"
+    ringed_journal='journal 1 / seat 0 mailbox: made 0 / seat 0 channel: made 1 / feed 0 port 1: made 2 / lane 0 send 0 5: done / lane 1 multicast 1 6: done / feed 0 recv 2: 6 / seat 3 recv 0: 5 / end 7'
+    script "$ringed_journal" > "$work/journal"
+    drawn_as_told "lanes and a feed" "$work/journal"
+    if head -n 1 "$work/out" | grep -q '^seat3 *lane 0 *lane 1 *feed 0 *mailbox0 *channel1 *port2 '; then pass; else fail "columns of lanes and a feed"; fi
+    run < "$work/journal"
+    expect "a journal as SVG" 0 some none
+    well_formed "a journal as SVG"
+    script "journal 3 / seat 0 mailbox: made 0" > "$work/journal"
+    sum=$(sha256sum < "$work/journal")
+    echo "end 1 ${sum%% *}" >> "$work/journal"
+    drawn_as_told "a sealed journal" "$work/journal"
+    sed 's/seat 0/seat 1/' "$work/journal" > "$work/in"
+    run < "$work/in"
+    expect "a sealed journal that was changed" 2 none "journal: line 3: wrong sum"
+    no_journal "an unlawful journal" "journal 1 / seat 0 mailbox: made 0 / seat 0 send 0 5: done / seat 0 recv 0: 6 / end 3" 7 "journal: not lawful at 2"
+    no_journal "a call that would wait" "journal 1 / seat 0 mailbox: made 0 / seat 0 recv 0: 6 / end 2" 7 "journal: not lawful at 1"
+    no_journal "an object that is not there" "journal 1 / seat 0 send 0 5: done / end 1" 7 "journal: not lawful at 0"
+    no_journal "a journal with a fault" "journal 1 / seat 0 mailbox: made 0 / seat 0 sent 0 5: done / end 2" 2 "journal: line 3: unknown word"
+    no_journal "a torn journal" "journal 2 / seat 0 mailbox: made 0" 2 "journal: torn after line 2"
+    no_journal "a journal that begins after a cut" "journal 1 / from 5 / end 5" 2 "journal: line 2: gap"
+    no_journal "a journal of another version" "journal 5 / end 0" 2 "report: line 1: no line of a report"
+    script "journal 1 / end 0" > "$work/in"
+    run < "$work/in"
+    expect "a journal of nothing" 0 some none
+    run --script examples/scripts/swap.cml < examples/scripts/swap.journal
+    expect "a journal with a script" 2 none "report: line 1: not of this script"
+}
+
 streams() {
     run < .
     expect "a folder for input" 4 none "cml_chart: read failed"
     if [ -w /dev/full ]; then
-        timeout 60 "$program" < examples/swap.report > /dev/full 2> "$work/err"
+        timeout 60 "$program" < examples/scripts/swap.report > /dev/full 2> "$work/err"
         status=$?
         : > "$work/out"
         expect "no room for output" 4 none "cml_chart: write failed"
@@ -257,5 +313,6 @@ marks
 words
 sizes
 texts
+journals
 streams
 count

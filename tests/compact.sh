@@ -122,7 +122,7 @@ each_front() {
 }
 
 fronts() {
-    for journal in examples/*.journal; do
+    for journal in examples/scripts/*.journal; do
         each_front "$journal" 3
     done
     for version in 1 2; do

@@ -2,8 +2,8 @@
 # What bindings/install.sh installs: `sh tests/install.sh ROOMS [REPLAY]`, with the archives of cml_c and cml_script_c. It installs
 # them into a new folder. There programs of bindings/c are built by pkg-config, with the shared library and with the static
 # one. The crate in Rust finds the library, and so do the crates beside it, for serde and for tokio. The package for Python is
-# tested, and installed by pip. Then bindings/try.sh installs the library without a proof. What isn't there is named and counts
-# for nothing. The last line is `N passed, M failed`.
+# tested, and installed by pip, both with its extension in C and without. Then bindings/try.sh installs the library without a
+# proof. What isn't there is named and counts for nothing. The last line is `N passed, M failed`.
 . "$(dirname "$0")/lib/cases.sh"
 rooms=$(absolute "$1")
 replay=${2:+$(absolute "$2")}
@@ -145,8 +145,8 @@ built_elsewhere() {
 
 # The library for scripts writes the report beside the script.
 replays() {
-    (library=seryugo_script && built replay < examples/hello_mailbox.cml) > "$work/report" &&
-        cmp "$work/report" examples/hello_mailbox.report
+    (library=seryugo_script && built replay < examples/scripts/hello_mailbox.cml) > "$work/report" &&
+        cmp "$work/report" examples/scripts/hello_mailbox.report
 }
 
 from_c() {
@@ -192,10 +192,10 @@ cargo_does() {
         --manifest-path "$work/rust/$crate/Cargo.toml" "$@"
 }
 
-# Each program of examples/ports does over the crate what it does over crossbeam-channel.
+# Each program of examples/programs/ports does over the crate what it does over crossbeam-channel.
 ports() {
-    mkdir "$work/examples" "$work/bindings" && cp -r examples/ports "$work/examples/ports" &&
-        ln -s "$work/rust" "$work/bindings/rust" && cargo_does test ../examples/ports
+    mkdir -p "$work/examples/programs" "$work/bindings" && cp -r examples/programs/ports "$work/examples/programs" &&
+        ln -s "$work/rust" "$work/bindings/rust" && cargo_does test ../examples/programs/ports
 }
 
 # The version that the crate wants. It opens a switchboard only if the library has that one.
@@ -274,9 +274,41 @@ peer() {
     done
 }
 
-# in_python WORD..: in the package's folder, with the installed library.
-in_python() {
-    (cd bindings/python && SERYUGO_PREFIX="$prefix" PYTHONDONTWRITEBYTECODE=1 PYTHONPATH=. timeout 120 python3 "$@")
+# in_folder FOLDER WORD..: Python in this folder of the package, with the installed library.
+in_folder() {
+    (
+        cd "$1" || exit
+        shift
+        SERYUGO_PREFIX="$prefix" PYTHONDONTWRITEBYTECODE=1 PYTHONPATH=. timeout 300 "$@"
+    )
+}
+
+# in_python WORD..: the package without its extension.
+in_python() { in_folder bindings/python env SERYUGO_PURE_PYTHON=1 python3 "$@"; }
+
+# in_extended WORD..: the package with its extension.
+in_extended() { in_folder "$work/extended" python3 "$@"; }
+
+# compiles_the_extension FOLDER WORDS: in place, in a new copy of the package, with these words for the compiler.
+compiles_the_extension() {
+    cp -r bindings/python "$1" && find "$1" -name '*.so' -exec rm {} + && CFLAGS=$2 python3 "$1/build_backend.py"
+}
+
+# can_be_extended PYTHON WHAT: whether this Python can have the extension. Otherwise the part WHAT of the test is left out.
+can_be_extended() {
+    if (cd bindings/python && PYTHONDONTWRITEBYTECODE=1 "$1" -c 'import build_extension; exit(build_extension.why_not())'); then
+        return
+    fi 2> "$work/words"
+    echo "left out: $2: $(cat "$work/words")"
+    return 1
+}
+
+# The calls of the extension, with the sanitizers of addresses and of undefined behaviour, which see nothing of the library.
+sanitized() {
+    compiles_the_extension "$work/sanitized" '-g -O1 -fsanitize=address,undefined -fno-sanitize-recover=undefined' || return
+    in_folder "$work/sanitized" env PYTHONMALLOC=malloc ASAN_OPTIONS=detect_leaks=0 \
+        LD_PRELOAD="$(cc -print-file-name=libasan.so) $(cc -print-file-name=libubsan.so)" \
+        python3 -m unittest tests.test_at_once.ByWhich tests.test_at_once.TheSame tests.test_messages tests.test_calls
 }
 
 # page FILE: the first example in Python of a page is examples/letters.py.
@@ -299,16 +331,22 @@ building_python() {
     return 1
 }
 
-# by_pip PYTHON: the package as pip builds and installs it into a new environment, without a network.
+# by_pip PYTHON WORD ANSWER TAG: the package as pip builds and installs it into a new environment, without a network. While it is built
+# SERYUGO_PURE_PYTHON has this word. Whether it has the extension then is this answer, and its wheel had a tag that begins so.
 by_pip() {
+    rm -rf "$work/package" "$work/venv"
     cp -r bindings/python "$work/package" && "$1" -m venv "$work/venv" &&
-        "$work/venv/bin/python" -m pip install --quiet --no-index "$work/package" || return
+        SERYUGO_PURE_PYTHON=$2 "$work/venv/bin/python" -m pip install --quiet --no-index "$work/package" || return
     (
         cd "$work/venv" && SERYUGO_PREFIX=$prefix && export SERYUGO_PREFIX || exit
-        prints "$version" bin/python -c "import seryugo; assert '$work/venv' in seryugo.__file__; print(seryugo.__version__)" &&
+        prints "$version $3" bin/python -c "import seryugo; assert '$work/venv' in seryugo.__file__
+print(seryugo.__version__, seryugo.HAS_EXTENSION)" && grep -q "^Tag: $4" lib/python*/site-packages/seryugo-*.dist-info/WHEEL &&
             prints 'Ben received hello' bin/python "$work/package/examples/letters.py"
     )
 }
+
+# The package is built also if nothing can compile the extension.
+by_pip_without_a_compiler() { CC=/nowhere/cc by_pip "$1" '' False py3-none-any; }
 
 # The package has types, and so has a program that uses it: what is received has the type of its object.
 typed() {
@@ -326,8 +364,19 @@ END
             ! mypy --strict --cache-dir "$work/types" "$work/untyped.py" > "$work/words" && grep -q 'untyped.py:8: error' "$work/words")
 }
 
+extended_python() {
+    can_be_extended python3 'the extension for Python' || return
+    check 'the extension for Python is compiled' compiles_the_extension "$work/extended" '-Wall -Wextra -Werror -pedantic'
+    check 'the package with its extension' prints True in_extended -c 'import seryugo; print(seryugo.HAS_EXTENSION)'
+    check 'the tests in Python with the extension' in_extended -W error::ResourceWarning -m unittest
+    check 'messages are timed in Python with the extension' in_extended examples/speed.py 2
+    check 'nothing wrong with an address: the extension' sanitized
+}
+
 from_python() {
+    check 'the package without its extension' prints False in_python -c 'import seryugo; print(seryugo.HAS_EXTENSION)'
     check 'the tests in Python' in_python -W error::ResourceWarning -m unittest
+    extended_python
     check 'a mailbox and two threads in Python' prints 'Ben received hello' in_python examples/letters.py
     if has pkg-config 'Python by pkg-config'; then
         check 'from Python, by pkg-config' prints 'Ben received hello' by_pkg_config
@@ -335,7 +384,11 @@ from_python() {
     check 'messages are timed in Python' in_python examples/speed.py 2
     check 'the version at run time, from Python' prints "$version" version_in_python
     if python=$(building_python); then
-        check 'the package by pip' by_pip "$python"
+        check 'the package by pip' by_pip "$python" 1 False py3-none-any
+        check 'the package by pip without a compiler' by_pip_without_a_compiler "$python"
+        if can_be_extended "$python" 'the package by pip with its extension'; then
+            check 'the package by pip with its extension' by_pip "$python" '' True 'cp3[0-9]*-cp3'
+        fi
     else
         echo 'left out: the package by pip: no python3 has venv and ensurepip'
     fi

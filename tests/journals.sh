@@ -91,7 +91,7 @@ lawful() {
         'journal 2 / seat 0 mailbox: made 0 / seat 1 send 0 =a%20b%25%00%FF: done / seat 1 recv 0: =a%20b%25%00%FF / seat 1 mvar =: made 1 / end 4'
     told 'bytes that are a reply' 0 'lawful 3' none \
         'journal 2 / seat 0 mailbox: made 0 / seat 1 send 0 =none: done / seat 1 poll 0: =none / end 3'
-    for journal in examples/*.journal; do
+    for journal in examples/scripts/*.journal; do
         run check < "$journal"
         expect "$journal" 0 some none
     done
@@ -126,7 +126,7 @@ states() {
         'journal 2 / seat 0 mailbox: made 0 / seat 0 mvar =%20: made 1 / seat 0 send 0 =x: done / end 3'
     run check --state < /dev/null
     expect 'the state of nothing' 2 none 'journal: torn after line 0'
-    for journal in examples/*.journal; do
+    for journal in examples/scripts/*.journal; do
         report=${journal%.journal}.report
         [ -f "$report" ] || continue
         run check --state < "$journal"
@@ -374,7 +374,7 @@ change() { awk -v to="$work/cases/$1" -v step="$2" -f tests/models/calls.awk -f 
 changed() {
     step=1
     [ -z "$few" ] || step=7
-    change requests "$step" < examples/requests.journal
+    change requests "$step" < examples/scripts/requests.journal
     script "$all" | change all "$step"
     each_call 1 | change each $((step * 29))
     script "$pieces" | change pieces "$step"

@@ -1,6 +1,6 @@
 #!/bin/sh
 # A process that keeps its journal, killed ten times: `sh tests/keep_journal.sh ROOMS CHECK WORD..`, with the archive of cml_c, and
-# the command that checks a journal. The program is examples/keep_journal, in Rust. Each run goes on from the file that the runs
+# the command that checks a journal. The program is examples/programs/keep_journal, in Rust. Each run goes on from the file that the runs
 # before left, and is killed at a random time. In the end the journal is lawful, and has each message that was sent and received
 # once, in order; and what was acknowledged is there, byte for byte, from each run on. The last line is `N passed, M failed`.
 LC_ALL=C
@@ -24,11 +24,11 @@ most=2000000
 
 # build: the program, from a copy, so that nothing is left beside its sources.
 build() {
-    mkdir "$work/examples"
+    mkdir -p "$work/examples/programs"
     cp -r bindings "$work/bindings"
-    cp -r examples/keep_journal "$work/examples/keep_journal"
+    cp -r examples/programs/keep_journal "$work/examples/programs"
     SERYUGO_ARCHIVES=$(dirname "$rooms") SERYUGO_KIT=$kit CARGO_TARGET_DIR=$work/target \
-        cargo build --release --quiet --offline --manifest-path "$work/examples/keep_journal/Cargo.toml" || return
+        cargo build --release --quiet --offline --manifest-path "$work/examples/programs/keep_journal/Cargo.toml" || return
     program=$work/target/release/keep_journal
 }
 

@@ -13,7 +13,7 @@ cd "$(dirname "$0")/.." || exit 1
 . tests/lib/runs.sh
 
 examples() {
-    for example in examples/*.cml; do
+    for example in examples/scripts/*.cml; do
         if has_rings "$example"; then
             needs_run "$example" "$example"
         else
@@ -152,7 +152,7 @@ each_message() {
 
 # Each example as a script of the other version.
 other_versions() {
-    for example in examples/*.cml; do
+    for example in examples/scripts/*.cml; do
         sed '1s/cml 2/cml 3/; 1s/cml 1/cml 2/; 1s/cml 3/cml 1/' "$example" | od -An -v -tu1 | awk '
             BEGIN { printf "65536" }
             { for (i = 1; i <= NF; i++) printf " %d", $i }
@@ -281,9 +281,9 @@ usages() {
     done
     mkdir "$work/a path"
     ln -s "$program" "$work/a path/cml"
-    "$work/a path/cml" replay < examples/lock.cml > "$work/out" 2> "$work/err"
+    "$work/a path/cml" replay < examples/scripts/lock.cml > "$work/out" 2> "$work/err"
     status=$?
-    expect 'a name with a space' 0 "$(cat examples/lock.report)" none
+    expect 'a name with a space' 0 "$(cat examples/scripts/lock.report)" none
 }
 
 # most_entries COMMAND: without a limit a journal takes 65,536 entries.
@@ -309,16 +309,16 @@ troubles() {
     run "$1" < "$work"
     expect "a folder as input, by $1" 4 none 'cml: read failed'
     if [ -c /dev/full ]; then
-        "$program" "$1" < examples/lock.cml > /dev/full 2> "$work/err"
+        "$program" "$1" < examples/scripts/lock.cml > /dev/full 2> "$work/err"
         status=$?
         : > "$work/out"
         expect "a full device, by $1" 4 none 'cml: write failed'
     fi
-    "$program" "$1" < examples/lock.cml >&- 2> "$work/err"
+    "$program" "$1" < examples/scripts/lock.cml >&- 2> "$work/err"
     status=$?
     : > "$work/out"
     expect "a closed output, by $1" 4 none 'cml: write failed'
-    { sleep 1; "$program" "$1" < examples/lock.cml 2> "$work/err"; echo $? > "$work/status"; } | true
+    { sleep 1; "$program" "$1" < examples/scripts/lock.cml 2> "$work/err"; echo $? > "$work/status"; } | true
     status=$(cat "$work/status")
     expect "a closed pipe, by $1" 4 none 'cml: write failed'
     awk 'BEGIN { print "cml 1\nmailbox m\nthread A"; for (i = 0; i < 80000; i++) print "A send m 5" }' > "$work/in"
@@ -468,7 +468,7 @@ for command in replay run; do
     troubles "$command"
 done
 streams
-for example in examples/late_reader.cml examples/swap.cml; do
+for example in examples/scripts/late_reader.cml examples/scripts/swap.cml; do
     one_byte_changed "$example" < "$example"
 done
 script 'cml 2 / mvar v =5 / mailbox m / thread A / A swap v ok / A send m #x / A recv m / A get v' > "$work/in"

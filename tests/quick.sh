@@ -3,7 +3,7 @@
 # here, even where it breaks a contract; `rt ci` refuses that.
 #
 # It compiles the programs and the crate of tests as `rt try` does (tests/lib/tried.sh). It runs each test function, the tables of
-# calls, those with cuts too, the guide, each example with its report and its chart, each fault, the page of figures without
+# calls, those with cuts too, the guide, each example with its report, its endings and its chart, each fault, the page of figures without
 # measuring any, and the library from C. As many steps run at once as there are processors. `sh tests/quick.sh NAME..` runs some
 # steps alone. The last line is `N passed, M failed`.
 top=$(cd "$(dirname "$0")/.." && pwd) || exit 1
@@ -14,6 +14,7 @@ kit=$(dirname "$(rt doc)")
 # The steps, those that take longest first. Each prints lines `N passed, M failed`, and before them what failed.
 steps() {
     echo cml
+    echo explore
     echo cml_rows
     echo cml_c
     echo cml_tests
@@ -31,6 +32,11 @@ step() {
         cml)
             build_once cml || return
             sh tests/program.sh "$program" few && sh tests/journals.sh "$program" few && sh tests/compact.sh "$program"
+            ;;
+        explore)
+            build_once cml || return
+            cml=$program
+            build_once cml_endings && sh tests/explore.sh "$program" "$cml" few
             ;;
         cml_chart) build_once cml_chart && sh tests/chart.sh "$program" ;;
         cml_rows)
@@ -112,7 +118,7 @@ calls_from_c() {
 replays_from_c() {
     has_c || return
     build_with_c cml_script_c replay || return
-    for report in examples/*.report; do
+    for report in examples/scripts/*.report; do
         does "$(basename "$report")" replays "${report%.report}"
     done
 }

@@ -1,10 +1,10 @@
 #!/bin/sh
-# tests/refused.sh GUIDE ROWS CML CHART: runs the built programs once for each allocation that they make, and lets that
+# tests/refused.sh GUIDE ROWS CML CHART ENDINGS: runs the built programs once for each allocation that they make, and lets that
 # one fail. All except the guide run once more with all later ones failing too. Each run must end, whatever fails.
 #
 # The guide prints of each example what it prints with memory, or that there was no memory, or the result for another
 # thread: a stall, or the same result without that thread's last entries. The tables of calls of tests/tables/board, tests/tables/floors
-# and tests/tables/halls, what `cml` does with scripts and journals, and `cml_chart` with reports, are looked at by
+# and tests/tables/halls, what `cml` and `cml_endings` do with scripts and journals, and `cml_chart` with reports, are looked at by
 # tests/lib/refuse_each.sh.
 #
 # It needs a C compiler for what refuses (`cc`, or CC); where there is none it tells that it was left out.
@@ -14,6 +14,7 @@ guide=$(absolute "$1")
 rows=$(absolute "$2")
 cml=$(absolute "$3")
 chart=$(absolute "$4")
+endings=$(absolute "$5")
 cd "$(dirname "$0")/.." || exit 1
 expected=$(pwd)/crates/cml_guide/stdout
 cc=${CC:-cc}
@@ -71,21 +72,22 @@ sweeps() {
         for table in tests/tables/board/*.rows tests/tables/floors/*.rows tests/tables/halls/*.rows; do
             echo "table $how $table $rows"
         done
-        for script in examples/*.cml tests/tables/all_lines.cml "$work/each_call.cml"; do
+        for script in examples/scripts/*.cml tests/tables/all_lines.cml "$work/each_call.cml"; do
             grep -q '^\(lane\|feed\) ' "$script" || echo "replay $how $script $cml replay"
             echo "run $how $script $cml run"
             echo "threads $how $script $cml run"
         done
         for name in chat_room three_philosophers ticker; do
-            echo "chart $how examples/$name.report $chart --script examples/$name.cml"
+            echo "chart $how examples/scripts/$name.report $chart --script examples/scripts/$name.cml"
         done
-        echo "chart $how examples/hello_mailbox.report $chart --text"
+        echo "chart $how examples/scripts/hello_mailbox.report $chart --text"
         for name in greeting hello_mailbox; do
-            echo "written $how examples/$name.cml $cml replay --journal"
+            echo "written $how examples/scripts/$name.cml $cml replay --journal"
+            echo "explored $how examples/scripts/$name.cml $endings"
         done
         for name in letters requests; do
-            echo "journal $how examples/$name.journal $cml check"
-            echo "compact $how examples/$name.journal $cml compact"
+            echo "journal $how examples/scripts/$name.journal $cml check"
+            echo "compact $how examples/scripts/$name.journal $cml compact"
         done
         echo "faulty $how $work/faulty.journal $cml check"
     done

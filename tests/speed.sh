@@ -15,6 +15,9 @@ has_the_tables() {
         diff "$tables/tables.txt" -
 }
 
+# All figures, with the least and the most.
+has_every_figure() { diff "$tables/every.tsv" "$work/page/speed.tsv"; }
+
 # No brace of the page is left unfilled.
 is_filled() { ! grep -n '[{}]' "$work/page/SPEED.md"; }
 
@@ -38,6 +41,7 @@ names() {
 if has python3 'the page of figures'; then
     check 'a page is written' writes_the_page
     check 'its tables' has_the_tables
+    check 'all figures' has_every_figure
     check 'nothing of it is left out' is_filled
     check 'its chart' has_the_bars
 fi

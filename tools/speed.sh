@@ -1,6 +1,6 @@
 #!/bin/sh
-# Writes docs/SPEED.md and docs/speed.svg: what a message costs through the library and by other ways, measured by turns in one run
-# on this machine. `sh tools/speed.sh` takes about ten minutes. Let nothing run beside it. These words may follow:
+# Writes docs/SPEED.md, docs/speed.svg and docs/speed.tsv: what a message costs through the library and by other ways, measured by
+# turns in one run on this machine. `sh tools/speed.sh` takes about ten minutes. Let nothing run beside it. These words may follow:
 #
 #   --prefix PREFIX        the library that bindings/install.sh installed, if not in SERYUGO_PREFIX or where pkg-config finds it
 #   --bench PROGRAM        the proved cml_bench, if not crates/cml_bench/out/cml_bench
@@ -119,4 +119,4 @@ while [ "$round" -le "$rounds" ]; do
     round=$((round + 1))
 done
 [ -z "$kept" ] || cp "$figures" "$kept" || fail "the figures are not kept in $kept"
-PYTHONDONTWRITEBYTECODE=1 python3 tools/speed/page.py "$figures" "$into" && echo "wrote $into/SPEED.md and $into/speed.svg"
+PYTHONDONTWRITEBYTECODE=1 python3 tools/speed/page.py "$figures" "$into" && echo "wrote $into/SPEED.md, speed.svg and speed.tsv"

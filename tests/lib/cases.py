@@ -1,4 +1,4 @@
-"""What the tests of the programs in `examples/` share: a folder, programs that run and are stopped
+"""What the tests of the programs in `examples/programs` share: a folder, programs that run and are stopped
 at the end, and the count of cases.
 
 Each `subTest` is a case. The last line is `N passed, M failed`.

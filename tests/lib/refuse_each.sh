@@ -8,6 +8,7 @@
 #   texts    the same where the messages are texts, each written in quotes
 #   replay   a script by `cml replay`: its report, or status 5, nothing written and `cml: no memory`
 #   written  a script by `cml replay --journal`: its journal, or the same
+#   explored a script by `cml_endings`: its endings, or the same
 #   run      a script by `cml run`: a report of some order of its threads, or the same
 #   threads  the same where threads are refused, and not memory: with no report
 #   chart    a report by `cml_chart`: its chart, or status 5, nothing written and `cml_chart: no memory`
@@ -87,7 +88,7 @@ in_order_or_short() {
 # none: so only the last run, in which all were, has one. A chart or a verdict is that of a run without refusals too, with status 0.
 report_stands() {
     case $kind in
-        chart | journal | compact | written) cmp -s "$room/report" "$1" && [ "$status" = 0 ]; return ;;
+        chart | journal | compact | written | explored) cmp -s "$room/report" "$1" && [ "$status" = 0 ]; return ;;
         replay) cmp -s "$room/report" "$1" ;;
         run) in_order_or_short "$1" ;;
         threads) [ "$number" -eq "$last" ] && in_some_order 65536 "$input" "$1" ;;
@@ -118,7 +119,7 @@ judge_script() {
 }
 
 case $kind in
-    replay | chart | journal | compact | written) "$@" < "$input" > "$room/report" ;;
+    replay | chart | journal | compact | written | explored) "$@" < "$input" > "$room/report" ;;
     faulty) "$@" < "$input" 2> "$room/report" ;;
 esac
 number=1

@@ -58,7 +58,7 @@ lawful_run() {
 
 # The examples in any order of their threads; and the reports beside those that only `run` takes are of some order.
 run_examples() {
-    for example in examples/*.cml; do
+    for example in examples/scripts/*.cml; do
         lawful_run "$example"
         if has_rings "$example"; then
             possible "the report beside $example" 65536 "$example" "${example%.cml}.report"
@@ -71,7 +71,7 @@ run_examples() {
 }
 
 # The example with the most threads.
-busiest() { grep -c '^thread ' examples/*.cml | sort -t : -k 2 -n | tail -n 1 | sed 's|:.*||'; }
+busiest() { grep -c '^thread ' examples/scripts/*.cml | sort -t : -k 2 -n | tail -n 1 | sed 's|:.*||'; }
 
 # many_runs SCRIPT COUNT: so many runs of it, looked at together.
 many_runs() {
@@ -226,8 +226,8 @@ runs() {
     order_tables
     run_examples
     many_runs "$(busiest)" 200
-    many_runs examples/philosophers.cml 200
-    many_runs examples/philosophers_without_stall.cml 200
+    many_runs examples/scripts/philosophers.cml 200
+    many_runs examples/scripts/philosophers_without_stall.cml 200
     many_runs tests/tables/lanes_and_feeds.cml 1000
     crowds
     run_orders

@@ -10,8 +10,8 @@ keep() {
     [ -z "$3" ] || ln -s "$3" "$work/$1/cml"
 }
 
-# build NAME PREFIX TREE: the programs in C and in Rust with this installed library and this checkout's crate. What measures is
-# always that of here, so that two builds do the same.
+# build NAME PREFIX TREE: the programs in C and in Rust with this installed library and this checkout's crate, and a copy of its
+# package for Python, with its extension if it has one. What measures is always that of here, so that two builds do the same.
 build() {
     built=$work/$1
     mkdir -p "$built/seryugo/examples"
@@ -20,7 +20,9 @@ build() {
     cp -r bindings/rust/seryugo/examples/speed bindings/rust/seryugo/examples/journals.rs "$built/seryugo/examples"
     cp -r bindings/rust/speed_of_peers "$built"
     echo "$2" > "$built/prefix"
-    echo "$3/bindings/python" > "$built/python"
+    cp -r "$3/bindings/python" "$built/package" && find "$built/package" -name '*.so' -exec rm {} + || return
+    python3 "$built/package/build_backend.py" > /dev/null || echo 'left out: the extension for Python' >&2
+    echo "$built/package" > "$built/python"
     cc -O2 -I "$2/include" bindings/c/speed.c "$2/lib/libseryugo.a" -o "$built/speed_in_c" || return
     cargo_builds seryugo --example journals && cp "$built/target/release/examples/journals" "$built" || return
     if has_peers; then

@@ -1,4 +1,4 @@
-"""Writes SPEED.md and speed.svg: `page.py FIGURES FOLDER`, with the figures of tools/speed.sh.
+"""Writes SPEED.md, speed.svg and speed.tsv: `page.py FIGURES FOLDER`, with the figures of tools/speed.sh.
 
 The words of the page are in page.md beside this file. Here is what fills its braces.
 """
@@ -47,22 +47,14 @@ def compared(figures, rows, unit, others=(), scale=1):
     return table(["Workload", "Way"], [unit, *before, *(others[at] for at in shown)], cells)
 
 
-def spread(figures, setting):
-    """Return a table of all figures of a setting, with the least and the most of the rounds."""
-    cells = []
-    for (of, build, workload, way), found in figures.all.items():
-        if of == setting:
-            middle = figures.median(of, build, workload, way)
-            shown = [number(figure) for figure in (middle, min(found), max(found))]
-            cells.append([f"`{workload}`", way.replace("_", ", "), build, *shown])
-    return table(["Workload", "Way", "Build"], ["ns", "least", "most"], cells)
-
-
 def every(figures):
-    """Return the tables of all figures, each with its setting."""
-    return "\n\n".join(
-        f"{setting.capitalize()}:\n\n{spread(figures, setting)}" for setting in figures.settings()
-    )
+    """Return all figures, one a line, with the least and the most of the rounds, after a line of headings."""
+    lines = [("setting", "workload", "way", "build", "median_ns", "least_ns", "most_ns")]
+    for (setting, build, workload, way), found in figures.all.items():
+        middle = figures.median(setting, build, workload, way)
+        shown = [number(figure).replace(",", "") for figure in (middle, min(found), max(found))]
+        lines.append((setting, workload, way.replace("_", ", "), build, *shown))
+    return "".join("\t".join(line) + "\n" for line in lines)
 
 
 def parts(figures):
@@ -84,12 +76,11 @@ def parts(figures):
     found["Python"] = compared(figures, in_python, "µs", QUEUES, 1e3)
     found["scripts"] = compared(figures, scripts, "ms", (), 1e6)
     found["journals"] = compared(figures, journals, "ns")
-    found["every"] = every(figures)
     return found
 
 
 def main():
-    """Write both files."""
+    """Write the files."""
     source, folder = sys.argv[1], pathlib.Path(sys.argv[2])
     with open(source, encoding="utf-8") as lines:
         figures = Figures(lines)
@@ -98,6 +89,7 @@ def main():
         page = page.replace("{" + name + "}", words)
     folder.mkdir(parents=True, exist_ok=True)
     (folder / "SPEED.md").write_text(page, encoding="utf-8")
+    (folder / "speed.tsv").write_text(every(figures), encoding="utf-8")
     picture = chart.draw(figures.compared(FREE), PEERS)
     (folder / "speed.svg").write_text(picture, encoding="utf-8")
 

@@ -8,7 +8,7 @@ import sys
 import time
 
 FOLDER = pathlib.Path(__file__).resolve().parent
-sys.path.insert(0, str(FOLDER.parents[1] / "tests/lib"))
+sys.path.insert(0, str(FOLDER.parents[2] / "tests/lib"))
 from cases import TOP, Cases  # noqa: E402
 
 GRAPH = FOLDER / "graph.awk"
@@ -58,7 +58,7 @@ class BuildSystem(Cases):
         }
         words = ["cargo", word, "--release", "--quiet", "--offline"]
         ran = cls.run_program(
-            *words, cwd=cls.work / "copy/examples/build_system", env=named, seconds=900
+            *words, cwd=cls.work / "copy/examples/programs/build_system", env=named, seconds=900
         )
         if ran.status != 0:
             raise AssertionError(f"cargo {word}: {ran.said()}{ran.errors()}")
@@ -66,7 +66,7 @@ class BuildSystem(Cases):
     @classmethod
     def build(cls):
         """Builds the program from a copy, so that nothing is left beside it, and runs its tests."""
-        for part in "bindings/rust", "examples/build_system":
+        for part in "bindings/rust", "examples/programs/build_system":
             shutil.copytree(TOP / part, cls.work / "copy" / part)
         cls.cargo("build")
         cls.cargo("test")

@@ -1,6 +1,6 @@
 # The programs of bindings/c, with a library that bindings/install.sh has installed. Run it at the top of the repository:
 #
-#     cml_make -j4 -f examples/build_system/bindings_c.mk PREFIX="$HOME/.local"
+#     cml_make -j4 -f examples/programs/build_system/bindings_c.mk PREFIX="$HOME/.local"
 #
 # If the library for scripts is installed too, `replay` is a goal.
 

@@ -14,7 +14,7 @@ import threading
 import time
 
 FOLDER = pathlib.Path(__file__).resolve().parent
-sys.path.insert(0, str(FOLDER.parents[1] / "tests/lib"))
+sys.path.insert(0, str(FOLDER.parents[2] / "tests/lib"))
 from cases import Cases, wait_until  # noqa: E402
 
 PLACES = (1, 2, 3)

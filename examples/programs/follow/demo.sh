@@ -1,5 +1,5 @@
 #!/bin/sh
-# A leader is killed, and the next one has all that was put: `sh examples/follow/demo.sh`, with the library where pkg-config finds
+# A leader is killed, and the next one has all that was put: `sh examples/programs/follow/demo.sh`, with the library where pkg-config finds
 # it. Redis and two servers run on ports from 7100 on, or from the number that is named.
 set -e
 cd "$(dirname "$0")"

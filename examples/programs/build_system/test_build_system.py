@@ -19,7 +19,7 @@ from building import BuildSystem, write_graph  # noqa: I001
 from makefiles import Makefiles
 from cases import TOP, has, left_out, main
 
-C_PROGRAMS = "examples/build_system/bindings_c.mk"
+C_PROGRAMS = "examples/programs/build_system/bindings_c.mk"
 
 
 def is_in_order(folder):

@@ -14,7 +14,7 @@ import sys
 import time
 
 FOLDER = pathlib.Path(__file__).resolve().parent
-sys.path.insert(0, str(FOLDER.parents[1] / "tests/lib"))
+sys.path.insert(0, str(FOLDER.parents[2] / "tests/lib"))
 from cases import TOP, Cases, wait_until  # noqa: E402
 
 
@@ -112,7 +112,7 @@ class ServerCases(Cases):
             "SERYUGO_KIT": str(pathlib.Path(kit).parent / "c"),
             "CARGO_TARGET_DIR": str(cls.work / "target"),
         }
-        manifest = cls.work / "examples/chat_server/Cargo.toml"
+        manifest = cls.work / "examples/programs/chat_server/Cargo.toml"
         words = ["cargo", word, "--release", "--quiet", "--offline", "--manifest-path", manifest]
         return cls.run_program(*words, seconds=900, env={**os.environ, **named})
 
@@ -120,7 +120,7 @@ class ServerCases(Cases):
     def build(cls):
         """Builds the server and its clients, and returns their folder."""
         shutil.copytree(TOP / "bindings", cls.work / "bindings")
-        sources = cls.work / "examples/chat_server"
+        sources = cls.work / "examples/programs/chat_server"
         sources.mkdir(parents=True)
         for part in "Cargo.toml", "Cargo.lock":
             shutil.copy(FOLDER / part, sources)
