@@ -17,7 +17,7 @@ compile() {
 
 # What the program in C does with a script is what cml does with it.
 replays() {
-    "$work/replay" < "$1" > "$work/report" 2> "$work/errors"
+    timeout 60 "$work/replay" < "$1" > "$work/report" 2> "$work/errors"
     status=$?
     if [ -s "$work/errors" ]; then
         [ $status -eq 2 ] && [ ! -s "$work/report" ]
@@ -27,7 +27,7 @@ replays() {
 }
 
 # Without a fault of memory.
-is_clean() { valgrind -q --error-exitcode=99 --leak-check=full --errors-for-leak-kinds=definite "$@"; }
+is_clean() { timeout 1200 valgrind -q --error-exitcode=99 --leak-check=full --errors-for-leak-kinds=definite "$@"; }
 
 replay_from_c() {
     check 'a program in C that replays is built' compile replay "$replay"
@@ -43,7 +43,7 @@ replay_from_c() {
 # refused PROGRAM N: with its N-th request for memory refused, a program that makes each call ends with status 5: the call that
 # asked fails, and all that was opened before is closed.
 refused() {
-    REFUSE=$2 TOLD="$work/met" LD_PRELOAD="$work/refuse.so" "$work/$1"
+    timeout 60 env REFUSE="$2" TOLD="$work/met" LD_PRELOAD="$work/refuse.so" "$work/$1"
     [ $? -eq 5 ]
 }
 
@@ -142,7 +142,7 @@ cargo_does() {
     command=$1
     shift
     SERYUGO_ARCHIVES="$(dirname "$rooms"):$(dirname "$replay")" SERYUGO_KIT="$kit" \
-        cargo "$command" --manifest-path "$work/bindings/rust/seryugo/Cargo.toml" --quiet --offline "$@"
+        timeout 1200 cargo "$command" --manifest-path "$work/bindings/rust/seryugo/Cargo.toml" --quiet --offline "$@"
 }
 
 # The README's ten lines do what it says.

@@ -164,7 +164,7 @@ from_c() {
 
 # letters VARIABLE=VALUE: the crate finds what is installed by this variable. It needs no other crate.
 letters() {
-    env "$1" CARGO_TARGET_DIR="$work/target" cargo run --manifest-path "$work/rust/seryugo/Cargo.toml" --quiet --offline \
+    env "$1" CARGO_TARGET_DIR="$work/target" timeout 1200 cargo run --manifest-path "$work/rust/seryugo/Cargo.toml" --quiet --offline \
         --example letters > "$work/letters" && [ "$(cat "$work/letters")" = 'Ben received 5' ]
 }
 
@@ -187,7 +187,7 @@ cargo_does() {
     command=$1
     crate=$2
     shift 2
-    SERYUGO_PREFIX="$prefix" CARGO_TARGET_DIR="$work/target" cargo "$command" --quiet --offline \
+    SERYUGO_PREFIX="$prefix" CARGO_TARGET_DIR="$work/target" timeout 1200 cargo "$command" --quiet --offline \
         --config 'source.crates-io.replace-with="distribution"' --config "source.distribution.directory=\"$sources\"" \
         --manifest-path "$work/rust/$crate/Cargo.toml" "$@"
 }

@@ -17,6 +17,8 @@ step() {
     esac
 }
 
+# Less than for all of them in tests/all.sh.
+longest=3600
 . tests/lib/beside.sh
 [ $# -gt 0 ] || set -- $steps
 beside tests/libraries.sh "$@"

@@ -1,18 +1,36 @@
 #!/bin/sh
 # No thread sleeps though what it waits for is there: `sh tests/waiting.sh BENCH CML`, the built cml_bench and cml. In each run
-# threads wait for each other, so that one whose wake-up is lost keeps all others waiting too, and the run doesn't end. A run
-# that takes longer than its time limit is killed, and has failed. A wake-up may be lost once in a million calls, so there are
-# many, also on two processors, where a thread is more often stopped at a bad moment.
+# threads wait for each other, so that one whose wake-up is lost keeps all others waiting too. Then the run uses no more
+# processor time: it is killed, and has failed. How long a run takes says nothing, since on a busy machine each wake-up takes
+# long. A wake-up may be lost once in a million calls, so there are many, also on two processors, where a thread is more often
+# stopped at a bad moment.
 # The last line is `N passed, M failed`.
 . "$(dirname "$0")/lib/cases.sh"
 bench=$(absolute "$1")
 cml=$(absolute "$2")
 
-# ends COMMAND..: it ends well, and in time.
+# watch PROCESS: kills the process once it has used no processor time for a minute, and after an hour.
+watch() {
+    used=none
+    for _ in $(seq 60); do
+        sleep 60
+        now=$(awk '{ print $14 + $15 }' "/proc/$1/stat") || return
+        [ "$now" != "$used" ] || break
+        used=$now
+    done
+    kill -9 "$1"
+}
+
+# ends COMMAND..: it ends well, and goes on until then.
 ends() {
-    told=$(timeout 100 "$@" 2>&1)
+    "$@" > "$work/told" 2>&1 &
+    process=$!
+    watch $process > /dev/null 2>&1 &
+    watcher=$!
+    wait $process
     status=$?
-    if [ $status -eq 0 ]; then pass; else fail "$*: status $status, $(echo "$told" | tail -n 3)"; fi
+    kill $watcher
+    if [ $status -eq 0 ]; then pass; else fail "$*: status $status, $(tail -n 3 "$work/told")"; fi
 }
 
 # everywhere COMMAND..: the same, on all processors and on two.
@@ -55,7 +73,7 @@ make_script crowd 8 4000 \
     'say(i, i < 4 ? "recv m" : "send m " k)'
 
 for _ in 1 2 3; do
-    everywhere "$bench" 1000000 var2
+    everywhere "$bench" 300000 var2
     everywhere "$bench" 1000000 fanin4
     everywhere "$bench" 300000 token8
     everywhere "$bench" 300000 token63

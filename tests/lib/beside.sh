@@ -1,6 +1,10 @@
 # What tests/quick.sh and tests/all.sh share: their steps run side by side, as many at once as there are processors. A script
-# reads this after its function `step`, which does the step of a name. With `--step WORK NAME` the script does one step and
-# ends here. Otherwise `work` names a new folder for what the steps tell.
+# reads this after its function `step`, which does the step of a name. With `--step WORK NAME` the script does one step, shows and
+# counts what it tells, and ends here; with `--alone WORK NAME` it does it alone. Otherwise `work` names a new folder for what the
+# steps tell.
+
+# The most seconds of a step. One that hangs fails by its name then, and shows how far it was.
+longest=${longest:-5400}
 
 # beside SCRIPT STEP..: has SCRIPT do these steps, and sums what they count. The last line is `N passed, M failed`.
 beside() {
@@ -20,8 +24,9 @@ beside() {
 
 # counted NAME: does one step, shows what it tells with its name before each line, and keeps how many passed and failed.
 counted() {
-    step "$1" > "$work/$1.told" 2>&1
+    timeout --kill-after 30 $longest sh "$0" --alone "$work" "$1" > "$work/$1.told" 2>&1
     status=$?
+    [ $status -ne 124 ] || echo "failed: the step did not end within $longest seconds" >> "$work/$1.told"
     grep -v '^[0-9]* passed, [0-9]* failed$' "$work/$1.told" | sed "s/^/$1: /"
     sed -n 's/^\([0-9]*\) passed, \([0-9]*\) failed$/\1 \2/p' "$work/$1.told" |
         awk -v name="$1" -v status="$status" '
@@ -34,11 +39,13 @@ counted() {
         ' | tee "$work/$1.count"
 }
 
-if [ "$1" = --step ]; then
-    work=$2
-    counted "$3"
-    exit
-fi
+case $1 in
+    --step | --alone)
+        work=$2
+        if [ "$1" = --step ]; then counted "$3"; else step "$3"; fi
+        exit
+        ;;
+esac
 
 work=$(mktemp -d) || exit 1
 trap 'rm -rf "$work"' EXIT

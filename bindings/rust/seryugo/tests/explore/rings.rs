@@ -2,10 +2,10 @@
 
 use crate::programs::{seat, Board};
 use seryugo::explore::{rerun, Reran, Rerun};
-use seryugo::{Error, Numbers, Switchboard};
+use seryugo::{Error, Lane, Numbers, Switchboard};
 use std::sync::Arc;
 use std::thread;
-use std::time::Duration;
+use std::time::{Duration, Instant};
 
 const TIMES: usize = 5;
 const EACH: u64 = 200;
@@ -58,7 +58,8 @@ fn lanes_that_their_threads_drain() {
     assert!(is_followed(lanes).stops().is_empty());
 }
 
-/// The one that receives drains the lanes of the others.
+/// The one that receives drains the lanes of the others. It polls only what is there: each poll of
+/// nothing has an entry, and while the others don't run it would fill the journal.
 #[test]
 fn lanes_that_another_thread_drains() {
     let reran = is_followed(|board| {
@@ -72,11 +73,7 @@ fn lanes_that_another_thread_drains() {
         thread::scope(|threads| {
             for mut lane in lanes {
                 threads.spawn(move || {
-                    for letter in 0..EACH {
-                        while lane.send(letter).is_err() {
-                            thread::yield_now();
-                        }
-                    }
+                    (0..EACH).for_each(|letter| send_once_there_is_room(&mut lane, letter));
                     lane.close().unwrap();
                 });
             }
@@ -86,11 +83,23 @@ fn lanes_that_another_thread_drains() {
                 for number in numbers {
                     drop(board.drain(number));
                 }
-                left -= u64::from(main.recv_poll(letters).unwrap().is_some());
+                while board.owed(letters).unwrap() != 0 {
+                    left -= u64::from(main.recv_poll(letters).unwrap().is_some());
+                }
+                thread::yield_now();
             }
         });
     });
     assert!(reran.stops().is_empty(), "{reran}");
+}
+
+/// Another thread drains the lane. If it never does, this panics.
+fn send_once_there_is_room(lane: &mut Lane<'_, Numbers, u64>, letter: u64) {
+    let begun = Instant::now();
+    while lane.send(letter).is_err() {
+        assert!(begun.elapsed() < Duration::from_secs(60), "nobody drains the lane");
+        thread::yield_now();
+    }
 }
 
 /// A lane that is dropped moves what it has, also in a rerun in which the entries come later.
