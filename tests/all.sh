@@ -16,14 +16,12 @@ step() {
     bench=crates/cml_bench/out/cml_bench
     cml=crates/cml/out/cml
     chart=crates/cml_chart/out/cml_chart
-    endings=crates/cml_endings/out/cml_endings
     case $1 in
         libraries) sh tests/archives.sh && sh tests/libraries.sh ;;
-        refused) sh tests/refused.sh crates/cml_guide/out/cml_guide "$rows" "$cml" "$chart" "$endings" ;;
+        refused) sh tests/refused.sh crates/cml_guide/out/cml_guide "$rows" "$cml" "$chart" ;;
         program) sh tests/program.sh "$cml" ;;
         chart) sh tests/chart.sh "$chart" ;;
-        journals | compact) sh "tests/$1.sh" "$cml" ;;
-        explore) sh tests/explore.sh "$endings" "$cml" ;;
+        journals | compact | explore) sh "tests/$1.sh" "$cml" ;;
         calls | cuts) sh "tests/$1.sh" "$rows" ;;
         memory) sh tests/memory.sh "$bench" ;;
         waiting) sh tests/waiting.sh "$bench" "$cml" ;;

@@ -1,15 +1,14 @@
 #!/bin/sh
-# `cml_endings` from outside: `sh tests/explore.sh CML_ENDINGS CML`. The endings of examples and of random small scripts are those that
-# the second program tests/models/endings.py finds. Each ending's journal is lawful. What replays and runs report is among the endings. Then the
-# sample in docs/EXPLORE.md, the limit, the numbers of endings, bad scripts, failed reads and writes, and memory. With the word `few` it
+# `cml explore` from outside: `sh tests/explore.sh CML`. The endings of examples and of random small scripts are those that the second
+# program tests/models/endings.py finds. Each ending's journal is lawful. What replays and runs report is among the endings. Then the
+# sample in docs/EXPLORE.md, the limit, the journal alone, bad scripts, failed reads and writes, and memory. With the word `few` it
 # tries fewer scripts and runs, and leaves out what takes longest. What needs `python3` is left out where there is none.
 # The last line is `N passed, M failed`.
 LC_ALL=C
 export LC_ALL
 . "$(dirname "$0")/lib/cases.sh"
 program=$(absolute "$1")
-cml=$(absolute "$2")
-few=$3
+few=$2
 cd "$(dirname "$0")/.." || exit 1
 . tests/lib/tables.sh
 
@@ -56,7 +55,7 @@ agrees() {
         too_many=$((too_many + 1))
         return
     fi
-    timeout 60 "$program" < "$2" > "$work/explored" 2> "$work/err"
+    timeout 60 "$program" explore < "$2" > "$work/explored" 2> "$work/err"
     endings_in "$2" "$work/explored" > "$work/got"
     if cmp -s "$work/wanted" "$work/got" && [ ! -s "$work/err" ]; then
         pass
@@ -74,23 +73,28 @@ journals_agree() {
         # shellcheck disable=SC2016
         awk -v number="$number" '/^ending [0-9]+: / { now = $2 + 0 } now == number && /^journal [0-9]+$/ { inside = 1 }
             inside { print } inside && /^end [0-9]+$/ { inside = 0 }' "$work/explored" > "$work/journal"
-        if "$cml" check < "$work/journal" | grep -q '^lawful '; then
+        if "$program" check < "$work/journal" | grep -q '^lawful '; then
             pass
         else
             fail "$1: the journal of ending $number is not lawful"
         fi
         number=$((number + 1))
     done
-    [ "$endings" -eq 0 ] || alone "$1" "$2" "$endings"
+    alone "$1" "$2"
 }
 
-# alone CASE SCRIPT NUMBER: the journal of the last ending is written alone, if it is asked for.
+# alone CASE SCRIPT: if it is asked for, the journal of the first ending that isn't done is written alone, or that of the first ending.
 alone() {
-    run --journal "$3" < "$2"
+    awk '/^ending [0-9]+: / { wanted = $2 == "1:" || ($3 != "done" && !bad); if ($3 != "done") bad = 1; if (wanted) text = "" }
+        wanted && /^journal [0-9]+$/ { inside = 1 }
+        inside { text = text $0 "\n" }
+        inside && /^end [0-9]+$/ { inside = 0 }
+        END { printf "%s", text }' "$work/explored" > "$work/journal"
+    run explore --journal < "$2"
     if cmp -s "$work/journal" "$work/out" && [ ! -s "$work/err" ]; then
         pass
     else
-        fail "$1: the journal of ending $3 alone: status $status, errors $(head -c 300 "$work/err")"
+        fail "$1: a journal alone: status $status, errors $(head -c 300 "$work/err")"
     fi
 }
 
@@ -115,7 +119,7 @@ random() {
         number=$((number + 1))
         # The first number is a limit of a replay.
         echo "${bytes#* }" | awk '{ for (i = 1; i <= NF; i++) printf "%c", $i }' > "$work/script.cml"
-        "$cml" replay < "$work/script.cml" > "$work/replayed" 2> /dev/null || [ -s "$work/replayed" ] || continue
+        "$program" replay < "$work/script.cml" > "$work/replayed" 2> /dev/null || [ -s "$work/replayed" ] || continue
         compared=$((compared + 1))
         agrees "random script $number" "$work/script.cml"
         [ $((compared % 10)) -ne 0 ] || journals_agree "random script $number" "$work/script.cml"
@@ -142,12 +146,12 @@ is_among() {
 runs_are_among() {
     [ -n "$few" ] && most=5 || most=20
     for example in $(small_examples); do
-        timeout 60 "$program" < "$example" > "$work/explored" 2> /dev/null
-        "$cml" replay < "$example" > "$work/report"
+        timeout 60 "$program" explore < "$example" > "$work/explored" 2> /dev/null
+        "$program" replay < "$example" > "$work/report"
         if is_among "$work/report"; then pass; else fail "$example: its replay is no ending"; fi
         number=0
         while [ "$number" -lt "$most" ]; do
-            timeout 60 "$cml" run < "$example" > "$work/report"
+            timeout 60 "$program" run < "$example" > "$work/report"
             if is_among "$work/report"; then pass; else fail "$example: a run is no ending"; fi
             number=$((number + 1))
         done
@@ -159,7 +163,7 @@ ends() {
     name=$1 wanted=$2 out=$3 err=$4
     script "$5" > "$work/in"
     shift 5
-    run "$@" < "$work/in"
+    run explore "$@" < "$work/in"
     expect "$name" "$wanted" "$out" "$err"
 }
 
@@ -191,36 +195,36 @@ limits() {
     fi
     ends 'one state' 8 'not all: endings 0 states 1' 'cml: more than 1 states' "$two" --states 1
     ends 'one state, which is all' 0 some none 'cml 1 / thread A' --states 1
-    ends 'the second ending' 0 "$(printf 'journal 1\nseat 0 mailbox: made 0\nseat 2 poll 0: none\nseat 1 send 0 1: done\nend 3')" \
-        none "$two" --journal 2
-    ends 'the first ending, within few states' 0 some none "$two" --journal 1 --states 3
-    ends 'the second ending, which is not found' 8 none 'cml: more than 3 states' "$two" --journal 2 --states 3
-    ends 'an ending that is not there' 2 none 'cml: no ending 3' "$two" --journal 3
-    ends 'the last number' 2 none 'cml: no ending 4294967296' "$two" --journal 4294967296
+    ends 'the journal of the first, since all are done' 0 \
+        "$(printf 'journal 1\nseat 0 mailbox: made 0\nseat 1 send 0 1: done\nseat 2 poll 0: 1\nend 3')" none "$two" --journal
+    ends 'whether all are done is not found' 8 none 'cml: more than 3 states' "$two" --journal --states 3
     ends 'an ending that stalls' 1 "$(printf 'journal 1\nseat 0 mailbox: made 0\nend 1')" none \
-        'cml 1 / mailbox m / thread A / A recv m' --journal 1
+        'cml 1 / mailbox m / thread A / A recv m' --states 1 --journal
+    ends 'the second ending, which stalls' 1 \
+        "$(printf 'journal 1\nseat 0 mailbox: made 0\nseat 1 send 0 1: done\nseat 2 poll 0: 1\nend 3')" none \
+        'cml 1 / mailbox m / thread A / thread B / A send m 1 / A recv m / B poll m' --states=30 --journal
 }
 
 faults() {
     ends 'a fault' 2 none 'script: line 2: unknown line' 'cml 1 / letters m'
     ends 'a lane' 2 none 'script: line 4: needs run' 'cml 1 / mailbox m / thread A / lane A m 2 / A send m 1'
     ends 'a feed' 2 none 'script: line 4: needs run' 'cml 1 / channel c / thread A / feed A f c 1 / A poll f'
-    run < /dev/null
+    run explore < /dev/null
     expect 'no input' 2 none 'script: line 1: bad header'
     head -c 1048577 /dev/zero | tr '\0' '\n' > "$work/in"
-    run < "$work/in"
+    run explore < "$work/in"
     expect 'an input that is too long' 2 none 'script: too long'
-    run < .
+    run explore < .
     expect 'a folder for standard input' 4 none 'cml: read failed'
     script "$two" > "$work/in"
-    for words in '' '--journal 1'; do
+    for words in '' '--journal'; do
         # shellcheck disable=SC2086
-        timeout 60 "$program" $words < "$work/in" > /dev/full 2> "$work/err"
+        timeout 60 "$program" explore $words < "$work/in" > /dev/full 2> "$work/err"
         status=$?
         : > "$work/out"
         expect "a full device, $words" 4 none 'cml: write failed'
     done
-    timeout 60 "$program" < "$work/in" 2> "$work/err" | :
+    timeout 60 "$program" explore < "$work/in" 2> "$work/err" | :
     pass
 }
 
@@ -228,7 +232,7 @@ faults() {
 sample() {
     awk '/^```text$/ { text = ""; inside = 1; next } /^```$/ { if (text ~ /^ending 1: /) printf "%s", text; inside = 0 } inside { text = text $0 "\n" }' \
         docs/EXPLORE.md > "$work/wanted"
-    run < examples/scripts/three_philosophers.cml
+    run explore < examples/scripts/three_philosophers.cml
     if [ "$status" = 1 ] && [ -s "$work/wanted" ] && cmp -s "$work/wanted" "$work/out" && [ ! -s "$work/err" ]; then
         pass
     else
@@ -240,7 +244,7 @@ sample() {
 # A journal that is full: one thread that polls 65,536 times, whose objects take one entry.
 full() {
     awk 'BEGIN { print "cml 1\nmailbox m\nthread A"; for (i = 0; i < 65536; i++) print "A poll m" }' > "$work/in"
-    run < "$work/in"
+    run explore < "$work/in"
     sed -n '1p;2p' "$work/out" > "$work/front"
     tail -n 1 "$work/out" >> "$work/front"
     mv "$work/front" "$work/out"
@@ -252,7 +256,7 @@ memory() {
     awk 'BEGIN { print "cml 1\nmailbox m\nthread A\nthread B\nthread C"
         for (i = 0; i < 32; i++) print "A poll m\nB poll m\nC poll m" }' > "$work/in"
     # shellcheck disable=SC3045
-    (ulimit -v 65536 2> /dev/null; timeout 300 "$program" --states 30000 < "$work/in" > "$work/out" 2> "$work/err")
+    (ulimit -v 65536 2> /dev/null; timeout 300 "$program" explore --states 30000 < "$work/in" > "$work/out" 2> "$work/err")
     status=$?
     tail -n 1 "$work/out" > "$work/last" && mv "$work/last" "$work/out"
     expect '30,000 states in 64 MB' 8 'not all: endings 1 states 30000' 'cml: more than 30000 states'

@@ -35,8 +35,7 @@ step() {
             ;;
         explore)
             build_once cml || return
-            cml=$program
-            build_once cml_endings && sh tests/explore.sh "$program" "$cml" few
+            sh tests/explore.sh "$program" few
             ;;
         cml_chart) build_once cml_chart && sh tests/chart.sh "$program" ;;
         cml_rows)

@@ -1,10 +1,10 @@
 #!/bin/sh
-# tests/refused.sh GUIDE ROWS CML CHART ENDINGS: runs the built programs once for each allocation that they make, and lets that
+# tests/refused.sh GUIDE ROWS CML CHART: runs the built programs once for each allocation that they make, and lets that
 # one fail. All except the guide run once more with all later ones failing too. Each run must end, whatever fails.
 #
 # The guide prints of each example what it prints with memory, or that there was no memory, or the result for another
 # thread: a stall, or the same result without that thread's last entries. The tables of calls of tests/tables/board, tests/tables/floors
-# and tests/tables/halls, what `cml` and `cml_endings` do with scripts and journals, and `cml_chart` with reports, are looked at by
+# and tests/tables/halls, what `cml` does with scripts and journals, and `cml_chart` with reports, are looked at by
 # tests/lib/refuse_each.sh.
 #
 # It needs a C compiler for what refuses (`cc`, or CC); where there is none it tells that it was left out.
@@ -14,7 +14,6 @@ guide=$(absolute "$1")
 rows=$(absolute "$2")
 cml=$(absolute "$3")
 chart=$(absolute "$4")
-endings=$(absolute "$5")
 cd "$(dirname "$0")/.." || exit 1
 expected=$(pwd)/crates/cml_guide/stdout
 cc=${CC:-cc}
@@ -83,7 +82,7 @@ sweeps() {
         echo "chart $how examples/scripts/hello_mailbox.report $chart --text"
         for name in greeting hello_mailbox; do
             echo "written $how examples/scripts/$name.cml $cml replay --journal"
-            echo "explored $how examples/scripts/$name.cml $endings"
+            echo "explored $how examples/scripts/$name.cml $cml explore"
         done
         for name in letters requests; do
             echo "journal $how examples/scripts/$name.journal $cml check"

@@ -8,7 +8,7 @@
 #   texts    the same where the messages are texts, each written in quotes
 #   replay   a script by `cml replay`: its report, or status 5, nothing written and `cml: no memory`
 #   written  a script by `cml replay --journal`: its journal, or the same
-#   explored a script by `cml_endings`: its endings, or the same
+#   explored a script by `cml explore`: its endings, or the same
 #   run      a script by `cml run`: a report of some order of its threads, or the same
 #   threads  the same where threads are refused, and not memory: with no report
 #   chart    a report by `cml_chart`: its chart, or status 5, nothing written and `cml_chart: no memory`

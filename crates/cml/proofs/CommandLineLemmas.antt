@@ -17,8 +17,9 @@ use Rattle.clap.proofs.WalkLemmas.{walk_stopped}
 use Rattle.cml_shell.specs.{error_status}
 use Rattle.cml.specs.{AsksFor, AsksHelp, HasOrder, Reads, asked_of, faults_of, limit_of, usage, AreUses, FindsBoth, FindsFlag, Flag}
 use Rattle.cml.specs.{form_if, IsLimitOption, Limit, ReadsAs, Use, given_by, state_by, Order}
-use Rattle.cml.specs.declared.asked.Order.TheVariants.{Replay, Run, Check, Compact}
-use Rattle.cml.proofs.CommandWordsLemmas.{bare_words, Found, IsBare, IsOrOther, Uses, a_flag, a_value, dashes, flagged, help, help_alone}
+use Rattle.cml.specs.declared.asked.Order.TheVariants.{Replay, Run, Explore, Check, Compact}
+use Rattle.cml.proofs.CommandWordsLemmas.{bare_words, Found, IsBare, IsOrOther, Options, Uses, a_flag, a_value, dashes, flagged, help}
+use Rattle.cml.proofs.CommandWordsLemmas.{help_alone}
 use Rattle.cml.proofs.CommandWordsLemmas.{holding, limit_parser, limited, long_help, neither, none_of_both, same_or_other}
 use Rattle.cml.proofs.CommandWordsLemmas.{some_kind, turn_of, uses_of}
 use Rattle.clap.specs.Lexer.{long_of, short_of}
@@ -37,43 +38,68 @@ names = names_of (built usage)
 abbrev fault_at : List Text → Kinds
 fault_at asked = built_fault (built usage) nothing_held asked
 
--- ---- the three levels
+-- ---- the four levels
 
--- the level of words below the subcommand of this name, whose options are the limit and `--journal`
+-- the level of words below the subcommand of this name, which performs a script
 abbrev below : Text → Shape
 below name = record (slice_index_or (built usage).subs 0 (built usage).top) { name = name }
 
+abbrev performing_options : Options
+performing_options = record { limit = codes "limit"; default = codes "65536"; flag = codes "journal" }
+
+-- the level of words below `explore`
+abbrev below_explore : Shape
+below_explore = slice_index_or (built usage).subs 2 (built usage).top
+
+abbrev exploring_options : Options
+exploring_options = record { limit = codes "states"; default = codes "500000"; flag = codes "journal" }
+
 -- the level of words below `check`
 abbrev below_check : Shape
-below_check = slice_index_or (built usage).subs 2 (built usage).top
+below_check = slice_index_or (built usage).subs 3 (built usage).top
+
+abbrev checking_options : Options
+checking_options = record { limit = []; default = []; flag = codes "state" }
 
 -- the level of words below `compact`
 abbrev below_compact : Shape
-below_compact = slice_index_or (built usage).subs 3 (built usage).top
+below_compact = slice_index_or (built usage).subs 4 (built usage).top
 
 uses_below : (name : Text) (words : List Text) → level_fault (below name) [] nothing_held words false [] ≡ []
-    → Uses (below name) (codes "journal") words
+    → Uses (below name) performing_options words
 uses_below name =
-    uses_of (below name) (codes "journal")
+    uses_of (below name) performing_options
     (record { once = refl; short = λ x. help_alone (λ a. not (is_some a.index) && has_short a x); others = refl })
-    (λ word. found word (same_or_other _ word) (same_or_other _ word)) refl refl refl
+    (λ word. found word (same_or_other _ word) (same_or_other _ word)) refl refl refl refl
   where
-    found : (word : Text) → IsOrOther (codes "limit") word → IsOrOther (codes "journal") word → Found (below name) (codes "journal") word
+    found : (word : Text) → IsOrOther (codes "limit") word → IsOrOther (codes "journal") word → Found (below name) performing_options word
     found word (inl is) own = limited (sym is) (rw (← is) refl) refl
     found word (inr l) (inl is) = flagged (rw (← is) refl) (rw (← is) refl)
     found word (inr l) (inr j) = neither (rw (l, j) (help_alone (λ a. not (is_some a.index) && has_long a word)))
 
-uses_check : (words : List Text) → level_fault below_check [] nothing_held words false [] ≡ [] → Uses below_check (codes "state") words
-uses_check =
-    uses_of below_check (codes "state")
+uses_explore : (words : List Text) → level_fault below_explore [] nothing_held words false [] ≡ []
+    → Uses below_explore exploring_options words
+uses_explore =
+    uses_of below_explore exploring_options
     (record { once = refl; short = λ x. help_alone (λ a. not (is_some a.index) && has_short a x); others = refl })
-    (λ word. found word (same_or_other _ word)) refl refl refl
+    (λ word. found word (same_or_other _ word) (same_or_other _ word)) refl refl refl refl
   where
-    found : (word : Text) → IsOrOther (codes "state") word → Found below_check (codes "state") word
+    found : (word : Text) → IsOrOther (codes "states") word → IsOrOther (codes "journal") word → Found below_explore exploring_options word
+    found word (inl is) own = limited (sym is) (rw (← is) refl) refl
+    found word (inr l) (inl is) = flagged (rw (← is) refl) (rw (← is) refl)
+    found word (inr l) (inr j) = neither (rw (l, j) (help_alone (λ a. not (is_some a.index) && has_long a word)))
+
+uses_check : (words : List Text) → level_fault below_check [] nothing_held words false [] ≡ [] → Uses below_check checking_options words
+uses_check =
+    uses_of below_check checking_options
+    (record { once = refl; short = λ x. help_alone (λ a. not (is_some a.index) && has_short a x); others = refl })
+    (λ word. found word (same_or_other _ word)) refl refl refl refl
+  where
+    found : (word : Text) → IsOrOther (codes "state") word → Found below_check checking_options word
     found word (inl is) = flagged (rw (← is) refl) (rw (← is) refl)
     found word (inr other) = neither (rw other (help_alone (λ a. not (is_some a.index) && has_long a word)))
 
-uses_compact : (words : List Text) → level_fault below_compact [] nothing_held words false [] ≡ [] → AreUses [] [] words
+uses_compact : (words : List Text) → level_fault below_compact [] nothing_held words false [] ≡ [] → AreUses [] [] [] words
 uses_compact =
     bare_words below_compact
     (record { once = refl; short = λ x. help_alone (λ a. not (is_some a.index) && has_short a x); others = refl })
@@ -138,34 +164,41 @@ pub understood : (words : List Text) → faults_of words ≡ [] → (order : Ord
 understood words fine = by_words (asked_of words) refl
   where
     by_first : (word : Text) (rest : List Text) → asked_of words ≡ word ∷ rest → IsOrOther (codes "replay") word
-        → IsOrOther (codes "run") word → IsOrOther (codes "check") word → IsOrOther (codes "compact") word
-        → IsOrOther (codes "help") word → (order : Order) × AsksFor words order
-    by_first word rest are (inl is) run_or check_or compact_or help_or =
+        → IsOrOther (codes "run") word → IsOrOther (codes "explore") word → IsOrOther (codes "check") word
+        → IsOrOther (codes "compact") word → IsOrOther (codes "help") word → (order : Order) × AsksFor words order
+    by_first word rest are (inl is) run_or explore_or check_or compact_or help_or =
         let here = left (codes "replay") (below (codes "replay")) refl refl refl words word rest fine are is in
         let by = uses_below (codes "replay") rest here.1 in
-        (Replay by.2.0.0 by.2.0.1, record { uses = by.0; rest = rest; gives = by.2.1; reads = by.1; are = here.0 })
-    by_first word rest are (inr r) (inl is) check_or compact_or help_or =
+        let given = by.2 65536 in
+        (Replay given.0.0 given.0.1, record { uses = by.0; rest = rest; gives = given.1; reads = by.1; are = here.0 })
+    by_first word rest are (inr r) (inl is) explore_or check_or compact_or help_or =
         let here = left (codes "run") (below (codes "run")) refl refl refl words word rest fine are is in
         let by = uses_below (codes "run") rest here.1 in
-        (Run by.2.0.0 by.2.0.1, record { uses = by.0; rest = rest; gives = by.2.1; reads = by.1; are = here.0 })
-    by_first word rest are (inr r) (inr u) (inl is) compact_or help_or =
+        let given = by.2 65536 in
+        (Run given.0.0 given.0.1, record { uses = by.0; rest = rest; gives = given.1; reads = by.1; are = here.0 })
+    by_first word rest are (inr r) (inr u) (inl is) check_or compact_or help_or =
+        let here = left (codes "explore") below_explore refl refl refl words word rest fine are is in
+        let by = uses_explore rest here.1 in
+        let given = by.2 500000 in
+        (Explore given.0.0 given.0.1, record { uses = by.0; rest = rest; gives = given.1; reads = by.1; are = here.0 })
+    by_first word rest are (inr r) (inr u) (inr x) (inl is) compact_or help_or =
         let here = left (codes "check") below_check refl refl refl words word rest fine are is in
         let by = uses_check rest here.1 in
         let state = by.3 (λ has. cc) in
         (Check state.0, record { uses = by.0; rest = rest; gives = state.1; reads = by.1; are = here.0 })
-    by_first word rest are (inr r) (inr u) (inr k) (inl is) help_or =
+    by_first word rest are (inr r) (inr u) (inr x) (inr k) (inl is) help_or =
         let here = left (codes "compact") below_compact refl refl refl words word rest fine are is in
         (Compact, (rest, here.0, uses_compact rest here.1))
-    by_first word rest are (inr r) (inr u) (inr k) (inr c) (inl is) =
+    by_first word rest are (inr r) (inr u) (inr x) (inr k) (inr c) (inl is) =
         absurd (odd_words (asked_of words) rest (inr (inl (are ∙ ap (λ w. w ∷ rest) (sym is)))) fine)
-    by_first word rest are (inr r) (inr u) (inr k) (inr c) (inr h) =
-        absurd (other_first word rest (rw (r, u, k, c, h) refl) (ap fault_at (sym are) ∙ fine))
+    by_first word rest are (inr r) (inr u) (inr x) (inr k) (inr c) (inr h) =
+        absurd (other_first word rest (rw (r, u, x, k, c, h) refl) (ap fault_at (sym are) ∙ fine))
 
     by_words : (asked : List Text) → asked_of words ≡ asked → (order : Order) × AsksFor words order
     by_words [] are = absurd (odd_words (asked_of words) [] (inl are) fine)
     by_words (word ∷ rest) are =
         by_first word rest are (same_or_other _ word) (same_or_other _ word) (same_or_other _ word) (same_or_other _ word)
-        (same_or_other _ word)
+        (same_or_other _ word) (same_or_other _ word)
 
 -- ---- the levels take the words of an order
 
@@ -182,76 +215,122 @@ number_fits (x ∷ xs) limit reads least most =
     (rw h refl, rw h refl, rw h refl, value_kinds-ok false limit_parser (x ∷ xs) (reads.0, omega arith, omega arith, omega arith))
 
 -- the words of a limit's option, or none where the text is the default
-abbrev IsGiven : List Text → Text → Type 0
-IsGiven words text = ((words ≡ []) × (text ≡ codes "65536")) ⊎ IsLimitOption words text
+abbrev IsGiven : Options → List Text → Text → Type 0
+IsGiven o words text = ((words ≡ []) × (text ≡ o.default)) ⊎ IsLimitOption o.limit words text
 
-module _ (name : Text) where
+module _ (level : Shape) (o : Options) where
   -- the level finds no fault in the words, and this limit's text and flag
   abbrev Takes : List Text → Text → Bool → Type 0
-  Takes words text set = (level_fault (below name) [] nothing_held words false [] ≡ [])
-      × (one_of (codes "limit") (rows_after (below name).rules [] words) ≡ Some text)
-      × FindsFlag (λ id. one_of id (rows_after (below name).rules [] words)) (codes "journal") set
+  Takes words text set = (level_fault level [] nothing_held words false [] ≡ [])
+      × (one_of o.limit (rows_after level.rules [] words) ≡ Some text)
+      × FindsFlag (λ id. one_of id (rows_after level.rules [] words)) (codes "journal") set
 
-  takes : (text : Text) (given end : List Text) → Fits text → IsGiven given text → AreUses (codes "--journal") [] end
-      → Takes (given ++ end) text false × Takes (given ++ codes "--journal" ∷ end) text true
+  -- so it does of a limit's words, alone, and before and after the flag
+  abbrev TakesEach : List Text → List Text → Text → Type 0
+  TakesEach given end text = Takes (given ++ end) text false × Takes (given ++ codes "--journal" ∷ end) text true
       × Takes (codes "--journal" ∷ (given ++ end)) text true
-  unfolding clap_on_literals
-  takes text given end fits (inl none) (inl e) = rw (none.0, none.1, e) ((refl, refl, refl), (refl, refl, refl), (refl, refl, refl))
-  takes text given end fits (inl none) (inr e) = rw (none.0, none.1, e) ((refl, refl, refl), (refl, refl, refl), (refl, refl, refl))
-  takes text given end (d, l, s, p) (inr (inl two)) (inl e) =
-      rw (two, e) (
-        (rw (d, l, s, p) refl, rw (d, l, s) refl, rw (d, l, s) refl),
-        (rw (d, l, s, p) refl, rw (d, l, s) refl, rw (d, l, s) refl),
-        (rw (d, l, s, p) refl, rw (d, l, s) refl, rw (d, l, s) refl),
-      )
-  takes text given end (d, l, s, p) (inr (inl two)) (inr e) =
-      rw (two, e) (
-        (rw (d, l, s, p) refl, rw (d, l, s) refl, rw (d, l, s) refl),
-        (rw (d, l, s, p) refl, rw (d, l, s) refl, rw (d, l, s) refl),
-        (rw (d, l, s, p) refl, rw (d, l, s) refl, rw (d, l, s) refl),
-      )
-  takes text given end (d, l, s, p) (inr (inr one)) (inl e) =
-      rw (one, e) ((rw p refl, refl, refl), (rw p refl, refl, refl), (rw p refl, refl, refl))
-  takes text given end (d, l, s, p) (inr (inr one)) (inr e) =
-      rw (one, e) ((rw p refl, refl, refl), (rw p refl, refl, refl), (rw p refl, refl, refl))
 
+takes_below : (name : Text) (text : Text) (given end : List Text) → Fits text → IsGiven performing_options given text
+    → AreUses (codes "limit") (codes "--journal") [] end → TakesEach (below name) performing_options given end text
+unfolding clap_on_literals
+takes_below name text given end fits (inl none) (inl e) = rw (none.0, none.1, e) ((refl, refl, refl), (refl, refl, refl), (refl, refl, refl))
+takes_below name text given end fits (inl none) (inr e) = rw (none.0, none.1, e) ((refl, refl, refl), (refl, refl, refl), (refl, refl, refl))
+takes_below name text given end (d, l, s, p) (inr (inl two)) (inl e) =
+    rw (two, e) (
+      (rw (d, l, s, p) refl, rw (d, l, s) refl, rw (d, l, s) refl),
+      (rw (d, l, s, p) refl, rw (d, l, s) refl, rw (d, l, s) refl),
+      (rw (d, l, s, p) refl, rw (d, l, s) refl, rw (d, l, s) refl),
+    )
+takes_below name text given end (d, l, s, p) (inr (inl two)) (inr e) =
+    rw (two, e) (
+      (rw (d, l, s, p) refl, rw (d, l, s) refl, rw (d, l, s) refl),
+      (rw (d, l, s, p) refl, rw (d, l, s) refl, rw (d, l, s) refl),
+      (rw (d, l, s, p) refl, rw (d, l, s) refl, rw (d, l, s) refl),
+    )
+takes_below name text given end (d, l, s, p) (inr (inr one)) (inl e) =
+    rw (one, e) ((rw p refl, refl, refl), (rw p refl, refl, refl), (rw p refl, refl, refl))
+takes_below name text given end (d, l, s, p) (inr (inr one)) (inr e) =
+    rw (one, e) ((rw p refl, refl, refl), (rw p refl, refl, refl), (rw p refl, refl, refl))
+
+takes_explore : (text : Text) (given end : List Text) → Fits text → IsGiven exploring_options given text
+    → AreUses (codes "states") (codes "--journal") [] end → TakesEach below_explore exploring_options given end text
+unfolding clap_on_literals
+takes_explore text given end fits (inl none) (inl e) = rw (none.0, none.1, e) ((refl, refl, refl), (refl, refl, refl), (refl, refl, refl))
+takes_explore text given end fits (inl none) (inr e) = rw (none.0, none.1, e) ((refl, refl, refl), (refl, refl, refl), (refl, refl, refl))
+takes_explore text given end (d, l, s, p) (inr (inl two)) (inl e) =
+    rw (two, e) (
+      (rw (d, l, s, p) refl, rw (d, l, s) refl, rw (d, l, s) refl),
+      (rw (d, l, s, p) refl, rw (d, l, s) refl, rw (d, l, s) refl),
+      (rw (d, l, s, p) refl, rw (d, l, s) refl, rw (d, l, s) refl),
+    )
+takes_explore text given end (d, l, s, p) (inr (inl two)) (inr e) =
+    rw (two, e) (
+      (rw (d, l, s, p) refl, rw (d, l, s) refl, rw (d, l, s) refl),
+      (rw (d, l, s, p) refl, rw (d, l, s) refl, rw (d, l, s) refl),
+      (rw (d, l, s, p) refl, rw (d, l, s) refl, rw (d, l, s) refl),
+    )
+takes_explore text given end (d, l, s, p) (inr (inr one)) (inl e) =
+    rw (one, e) ((rw p refl, refl, refl), (rw p refl, refl, refl), (rw p refl, refl, refl))
+takes_explore text given end (d, l, s, p) (inr (inr one)) (inr e) =
+    rw (one, e) ((rw p refl, refl, refl), (rw p refl, refl, refl), (rw p refl, refl, refl))
+
+module _ (level : Shape) (o : Options) where
   -- the level takes these words as this limit and this form
   abbrev IsTakenAs : List Text → ℕ × Form → Type 0
-  IsTakenAs words both = (level_fault (below name) [] nothing_held words false [] ≡ [])
-      × FindsBoth (λ id. one_of id (rows_after (below name).rules [] words)) both
+  IsTakenAs words both = (level_fault level [] nothing_held words false [] ≡ [])
+      × FindsBoth (λ id. one_of id (rows_after level.rules [] words)) o.limit both
 
-  taken_with : (given end : List Text) (limit : ℕ)
-      → (text : Text) × IsGiven given text × ReadsAs text limit × (1 ≤ limit) × (limit ≤ 2 ^ 32) → AreUses (codes "--journal") [] end
-      → IsTakenAs (given ++ end) (limit, Report) × IsTakenAs (given ++ codes "--journal" ∷ end) (limit, Journal)
-      × IsTakenAs (codes "--journal" ∷ (given ++ end)) (limit, Journal)
+  -- the words of a limit's option, or none, give this number
+  abbrev IsLimit : List Text → ℕ → Type 0
+  IsLimit given limit = (text : Text) × IsGiven o given text × ReadsAs text limit × (1 ≤ limit) × (limit ≤ 2 ^ 32)
+
+module _ (level : Shape) (o : Options)
+    (each : (text : Text) (given end : List Text) → Fits text → IsGiven o given text → AreUses o.limit (codes "--journal") [] end
+    → TakesEach level o given end text)
+    (default : ℕ) (usual : IsLimit level o [] default) where
+  taken_with : (given end : List Text) (limit : ℕ) → IsLimit level o given limit → AreUses o.limit (codes "--journal") [] end
+      → IsTakenAs level o (given ++ end) (limit, Report) × IsTakenAs level o (given ++ codes "--journal" ∷ end) (limit, Journal)
+      × IsTakenAs level o (codes "--journal" ∷ (given ++ end)) (limit, Journal)
   taken_with given end limit (text, how, reads, least, most) stop =
-      let by = takes text given end (number_fits text limit reads least most) how stop in
-      let found : (words : List Text) (set : Bool) → Takes words text set → IsTakenAs words (limit, form_if set) =
+      let by = each text given end (number_fits text limit reads least most) how stop in
+      let found : (words : List Text) (set : Bool) → Takes level o words text set → IsTakenAs level o words (limit, form_if set) =
       λ words set by. (by.0, ((text, reads, least, most, by.1), set, by.2, refl)) in
       (found _ false by.0, found _ true by.1, found _ true by.2)
 
-  default : (text : Text) × IsGiven [] text × ReadsAs text 65536 × (1 ≤ 65536) × (65536 ≤ 2 ^ 32)
-  default = (
-    codes "65536",
-    inl (refl, refl),
-    ((omega arith, (omega arith, (omega arith, (omega arith, (omega arith, (omega arith, tt)))))), refl),
-    omega arith,
-    omega arith,
-  )
-
-  taken_below : (uses : List Use) (words : List Text) → AreUses (codes "--journal") uses words → IfSome (given_by uses) (IsTakenAs words)
-  taken_below [] words end = (taken_with [] words 65536 default end).0
-  taken_below (Flag ∷ []) words (first, rest, is, flag, end) = rw (is, flag) (taken_with [] rest 65536 default end).1
-  taken_below (Limit n ∷ []) words (first, rest, is, one, end) =
+  taken_by : (uses : List Use) (words : List Text) → AreUses o.limit (codes "--journal") uses words
+      → IfSome (given_by default uses) (IsTakenAs level o words)
+  taken_by [] words end = (taken_with [] words default usual end).0
+  taken_by (Flag ∷ []) words (first, rest, is, flag, end) = rw (is, flag) (taken_with [] rest default usual end).1
+  taken_by (Limit n ∷ []) words (first, rest, is, one, end) =
       rw is (taken_with first rest n (one.0, inr one.1, one.2, one.3, one.4) end).0
-  taken_below (Limit n ∷ Flag ∷ []) words (first, rest, is, one, (second, last, also, flag, end)) =
+  taken_by (Limit n ∷ Flag ∷ []) words (first, rest, is, one, (second, last, also, flag, end)) =
       rw (is, also, flag) (taken_with first last n (one.0, inr one.1, one.2, one.3, one.4) end).1
-  taken_below (Flag ∷ Limit n ∷ []) words (first, rest, is, flag, (second, last, also, one, end)) =
+  taken_by (Flag ∷ Limit n ∷ []) words (first, rest, is, flag, (second, last, also, one, end)) =
       rw (is, flag, also) (taken_with second last n (one.0, inr one.1, one.2, one.3, one.4) end).2
-  taken_below _ words reads = tt
+  taken_by _ words reads = tt
+
+taken_below : (name : Text) (uses : List Use) (words : List Text) → AreUses (codes "limit") (codes "--journal") uses words
+    → IfSome (given_by 65536 uses) (IsTakenAs (below name) performing_options words)
+taken_below name = taken_by (below name) performing_options (takes_below name) 65536 (
+  codes "65536",
+  inl (refl, refl),
+  ((omega arith, (omega arith, (omega arith, (omega arith, (omega arith, (omega arith, tt)))))), refl),
+  omega arith,
+  omega arith,
+)
+
+taken_explore : (uses : List Use) (words : List Text) → AreUses (codes "states") (codes "--journal") uses words
+    → IfSome (given_by 500000 uses) (IsTakenAs below_explore exploring_options words)
+taken_explore = taken_by below_explore exploring_options takes_explore 500000 (
+  codes "500000",
+  inl (refl, refl),
+  ((omega arith, (omega arith, (omega arith, (omega arith, (omega arith, (omega arith, (omega arith, tt))))))), refl),
+  omega arith,
+  omega arith,
+)
 
 -- the level takes the option, and finds it
-taken_check : (uses : List Use) (words : List Text) → AreUses (codes "--state") uses words
+taken_check : (uses : List Use) (words : List Text) → AreUses [] (codes "--state") uses words
     → IfSome (state_by uses) (λ state. (level_fault below_check [] nothing_held words false [] ≡ [])
     × FindsFlag (λ id. one_of id (rows_after below_check.rules [] words)) (codes "state") state)
 unfolding clap_on_literals
@@ -262,7 +341,7 @@ taken_check (Flag ∷ []) words (first, rest, is, flag, inr e) = rw (is, flag, e
 taken_check _ words reads = tt
 
 -- the level takes no words but the `--` that ends them
-taken_compact : (words : List Text) → AreUses [] [] words → level_fault below_compact [] nothing_held words false [] ≡ []
+taken_compact : (words : List Text) → AreUses [] [] [] words → level_fault below_compact [] nothing_held words false [] ≡ []
 unfolding clap_on_literals
 taken_compact words (inl e) = rw e refl
 taken_compact words (inr e) = rw e refl
@@ -282,6 +361,10 @@ taken words (Replay limit form) asks =
 taken words (Run limit form) asks =
     let by = rw asks.gives at (taken_below (codes "run") asks.uses asks.rest asks.reads) in
     let has = has_order (codes "run") (below (codes "run")) refl refl refl words asks.rest (Run limit form) asks.are by.0 (refl, by.1) in
+    (has, (by.1.0.2, by.1.0.3))
+taken words (Explore states form) asks =
+    let by = rw asks.gives at (taken_explore asks.uses asks.rest asks.reads) in
+    let has = has_order (codes "explore") below_explore refl refl refl words asks.rest (Explore states form) asks.are by.0 (refl, by.1) in
     (has, (by.1.0.2, by.1.0.3))
 taken words (Check state) asks =
     let by = rw asks.gives at (taken_check asks.uses asks.rest asks.reads) in
@@ -316,7 +399,8 @@ help_is_shown words (help, is, inl h) = elim is [ inl e ↦ rw (h, e) refl | inr
 help_is_shown words (help, is, inr (inl h)) = elim is [ inl e ↦ rw (h, e) refl | inr e ↦ rw (h, e) refl ]
 help_is_shown words (help, is, inr (inr (inl h))) = elim is [ inl e ↦ rw (h, e) refl | inr e ↦ rw (h, e) refl ]
 help_is_shown words (help, is, inr (inr (inr (inl h)))) = elim is [ inl e ↦ rw (h, e) refl | inr e ↦ rw (h, e) refl ]
-help_is_shown words (help, is, inr (inr (inr (inr h)))) = elim is [ inl e ↦ rw (h, e) refl | inr e ↦ rw (h, e) refl ]
+help_is_shown words (help, is, inr (inr (inr (inr (inl h))))) = elim is [ inl e ↦ rw (h, e) refl | inr e ↦ rw (h, e) refl ]
+help_is_shown words (help, is, inr (inr (inr (inr (inr h))))) = elim is [ inl e ↦ rw (h, e) refl | inr e ↦ rw (h, e) refl ]
 
 pub told_help : (words : List Text) (read : Result Order Error) → Reads words read → AsksHelp words
     → IsErrAnd read (λ error. (kind_of error ≡ kind.DisplayHelp) ⊎ (kind_of error ≡ kind.OutOfMemory))

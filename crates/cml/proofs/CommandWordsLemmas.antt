@@ -1,7 +1,8 @@
--- Words as `clap` reads them, and which of them a level understands whose options are a flag and perhaps `--limit`.
+-- Words as `clap` reads them, and which of them a level understands whose options are a flag and perhaps a limit.
 use Rattle.std.proofs.Common.{◌≡◌, ◌⊎◌, refl, inl, inr, Bool, true, false, ℕ, List, [], ◌∷◌, Option, Some, None, codes, ◌∙◌, ◌++◌, ◌+◌, suc}
 use Rattle.std.proofs.Common.{ap, ap₂, subst, sym, arith, eqb-true, fold, find, slice_get, ◌==◌, option_and_then, bytes_eq, chars}
 use Rattle.std.proofs.lemmas.Bool.{cases_Bool, true_from_ne_false}
+use Rattle.std.proofs.lemmas.List.{append-nil}
 use Rattle.std.proofs.lemmas.Slice.Eq.{bytes_eq-Decides}
 use Rattle.clap.specs.Walk.{Held, Names, Row, Rule, Text, Waiting, Walk, arg_by_index, arg_by_long, arg_by_short, bundle_met, idle}
 use Rattle.clap.specs.Walk.{long_or_other, nothing_held, option, plain_word, subcommand_met, walked, arg_by_id, settled_rows, used}
@@ -121,7 +122,7 @@ module _ (s : Shape) (bare : IsBare s) where
 
   -- a level without options takes no words but the `--` that ends them
   pub bare_words : ((name : Text) → IsHelpAlone (arg_by_long s.rules name)) → (words : List Text)
-      → level_fault s [] nothing_held words false [] ≡ [] → AreUses [] [] words
+      → level_fault s [] nothing_held words false [] ≡ [] → AreUses [] [] [] words
   unfolding walked
   bare_words alone [] none = inl refl
   bare_words alone (word ∷ rest) none =
@@ -173,57 +174,65 @@ long_word_is word name value h =
 abbrev pub limit_parser : ValueParser
 limit_parser = parser.Unsigned 1 4294967296
 
--- the limit and a flag, as a level has them
-abbrev pub the_limit : Rule
-the_limit = filled limit_rule
+-- the names of a level's limit and of its flag, and the limit's default
+pub record Options : Type 0 where
+  pub limit : Text
+  pub default : Text
+  pub flag : Text
 
-abbrev pub the_flag : Text → Rule
-the_flag own = filled (flag_rule own)
+-- the limit and a flag, as a level has them
+abbrev pub the_limit : Options → Rule
+the_limit o = filled (limit_rule o.limit o.default)
+
+abbrev pub the_flag : Options → Rule
+the_flag o = filled (flag_rule o.flag)
 
 -- between two words: these options were used, and perhaps this text is the limit's
 abbrev past : List Row → Option (Text × List Text) → Walk
 past rows pending = standing idle false (holding rows pending)
 
 -- the limit's text is to come
-abbrev waits : List Row → Walk
-waits rows = standing (option (codes "limit")) false (holding rows (Some (codes "limit", [])))
+abbrev waits : Options → List Row → Walk
+waits o rows = standing (option o.limit) false (holding rows (Some (o.limit, [])))
 
-abbrev pub HasLimit : Shape → Type 0
-HasLimit s = arg_by_id s.rules (codes "limit") ≡ Some the_limit
+abbrev pub HasLimit : Shape → Options → Type 0
+HasLimit s o = arg_by_id s.rules o.limit ≡ Some (the_limit o)
 
 -- what a level has under a flag's name: the limit, its own flag, or no option
-pub data Found (s : Shape) (own name : Text) : Type 0 where
-  limited : name ≡ codes "limit" → arg_by_long s.rules name ≡ Some the_limit → HasLimit s → Found s own name
-  flagged : name ++ [] ≡ own → arg_by_long s.rules name ≡ Some (the_flag own) → Found s own name
-  neither : IsHelpAlone (arg_by_long s.rules name) → Found s own name
+pub data Found (s : Shape) (o : Options) (name : Text) : Type 0 where
+  limited : name ≡ o.limit → arg_by_long s.rules name ≡ Some (the_limit o) → HasLimit s o → Found s o name
+  flagged : name ++ [] ≡ o.flag → arg_by_long s.rules name ≡ Some (the_flag o) → Found s o name
+  neither : IsHelpAlone (arg_by_long s.rules name) → Found s o name
 
 -- the words are options and their end, where these rows are of those before them
-data Path (s : Shape) (own : Text) : List Row → List Text → Type 0 where
-  ends : {rows : List Row} {words : List Text} → AreUses (45 ∷ 45 ∷ own) [] words → Path s own rows words
-  limits : {rows : List Row} {words : List Text} → (first rest : List Text) (text : Text) → HasLimit s
-      → words ≡ first ++ rest → IsLimitOption first text
-      → use_fault false the_limit (text ∷ []) rows ≡ [] → Path s own (used the_limit (text ∷ []) rows) rest → Path s own rows words
-  flags : {rows : List Row} {words : List Text} → (rest : List Text) → words ≡ (45 ∷ 45 ∷ own) ∷ rest
-      → use_fault false (the_flag own) [] rows ≡ [] → Path s own (used (the_flag own) [] rows) rest → Path s own rows words
+data Path (s : Shape) (o : Options) : List Row → List Text → Type 0 where
+  ends : {rows : List Row} {words : List Text} → AreUses o.limit (45 ∷ 45 ∷ o.flag) [] words → Path s o rows words
+  limits : {rows : List Row} {words : List Text} → (first rest : List Text) (text : Text) → HasLimit s o
+      → words ≡ first ++ rest → IsLimitOption o.limit first text
+      → use_fault false (the_limit o) (text ∷ []) rows ≡ [] → Path s o (used (the_limit o) (text ∷ []) rows) rest → Path s o rows words
+  flags : {rows : List Row} {words : List Text} → (rest : List Text) → words ≡ (45 ∷ 45 ∷ o.flag) ∷ rest
+      → use_fault false (the_flag o) [] rows ≡ [] → Path s o (used (the_flag o) [] rows) rest → Path s o rows words
 
--- these words are options of the level, each at most once
-abbrev pub Uses : Shape → Text → List Text → Type 0
-Uses s own words = (uses : List Use) × AreUses (45 ∷ 45 ∷ own) uses words × ((both : ℕ × Form) × (given_by uses ≡ Some both))
-    × ((HasLimit s → ⊥) → (state : Bool) × (state_by uses ≡ Some state))
+-- these words are options of the level, each at most once, which give a limit and a form, whatever the limit's default is
+abbrev pub Uses : Shape → Options → List Text → Type 0
+Uses s o words = (uses : List Use) × AreUses o.limit (45 ∷ 45 ∷ o.flag) uses words
+    × ((default : ℕ) → (both : ℕ × Form) × (given_by default uses ≡ Some both))
+    × ((HasLimit s o → ⊥) → (state : Bool) × (state_by uses ≡ Some state))
 
-module _ (s : Shape) (own : Text) (bare : IsBare s) (found : (name : Text) → Found s own name)
-    (same : bytes_eq own own ≡ true) (apart : bytes_eq (codes "limit") own ≡ false) (too : bytes_eq own (codes "limit") ≡ false) where
-  unread : (rows : List Row) → HasLimit s → settle_fault s.rules false (holding rows (Some (codes "limit", []))) ≡ [] → ⊥
+module _ (s : Shape) (o : Options) (bare : IsBare s) (found : (name : Text) → Found s o name)
+    (same : bytes_eq o.flag o.flag ≡ true) (twice : bytes_eq o.limit o.limit ≡ true) (apart : bytes_eq o.limit o.flag ≡ false)
+    (too : bytes_eq o.flag o.limit ≡ false) where
+  unread : (rows : List Row) → HasLimit s o → settle_fault s.rules false (holding rows (Some (o.limit, []))) ≡ [] → ⊥
   unread rows has none = some_kind _ _ (rw has at none)
 
   -- words without fault between options are options and their end
   abbrev Between : List Text → Type 0
   Between words = (rows : List Row) (pending : Option (Text × List Text)) → IsFine s bare (past rows pending) words
-      → (settle_fault s.rules false (holding rows pending) ≡ []) × Path s own (settled_rows s.rules pending rows) words
+      → (settle_fault s.rules false (holding rows pending) ≡ []) × Path s o (settled_rows s.rules pending rows) words
 
-  -- and so they are after a `--limit`, whose text comes first
+  -- and so they are after the limit's name, whose text comes first
   abbrev TextFirst : List Text → Type 0
-  TextFirst words = (rows : List Row) → HasLimit s → IsFine s bare (waits rows) words → Path s own rows (codes "--limit" ∷ words)
+  TextFirst words = (rows : List Row) → HasLimit s o → IsFine s bare (waits o rows) words → Path s o rows ((45 ∷ 45 ∷ o.limit) ∷ words)
 
   next_word : (word : Text) (rest : List Text) → Between rest × TextFirst rest → Between (word ∷ rest) × TextFirst (word ∷ rest)
   unfolding walked
@@ -231,13 +240,14 @@ module _ (s : Shape) (own : Text) (bare : IsBare s) (found : (name : Text) → F
     where
       by_flag : (rows : List Row) (pending : Option (Text × List Text)) (name : Text) (value : Option Text)
           → long_of word ≡ Some (name, value) → bytes_eq word (codes "--") ≡ false
-          → long_fault s.rules false (arg_by_long s.rules name) value (holding rows pending) ≡ [] → Found s own name
+          → long_fault s.rules false (arg_by_long s.rules name) value (holding rows pending) ≡ [] → Found s o name
           → (settle_fault s.rules false (holding rows pending) ≡ [])
-          × (IsFine s bare (walked s.rules [] (past rows pending) word) rest → Path s own (settled_rows s.rules pending rows) (word ∷ rest))
+          × (IsFine s bare (walked s.rules [] (past rows pending) word) rest → Path s o (settled_rows s.rules pending rows) (word ∷ rest))
       by_flag rows pending name None e d none (limited is rule has) =
-          let alone = long_word_is word name None e ∙ ap (λ n. 45 ∷ 45 ∷ (n ++ [])) is in (
+          let alone =
+          long_word_is word name None e ∙ ap (λ n. 45 ∷ 45 ∷ (n ++ [])) is ∙ ap (λ n. 45 ∷ 45 ∷ n) (append-nil o.limit) in (
             rw rule at none,
-            λ left. subst (λ w. Path s own (settled_rows s.rules pending rows) (w ∷ rest)) (sym alone)
+            λ left. subst (λ w. Path s o (settled_rows s.rules pending rows) (w ∷ rest)) (sym alone)
                 (ahead.1 _ has (rw (d, e, rule) at left)),
           )
       by_flag rows pending name (Some text) e d none (limited is rule has) =
@@ -266,15 +276,15 @@ module _ (s : Shape) (own : Text) (bare : IsBare s) (found : (name : Text) → F
 
       text_first : TextFirst (word ∷ rest)
       text_first rows has fine =
-          let turn = first_turn s bare (waits rows) word rest fine in
-          elim (turn_of s bare [] (option (codes "limit")) rows (Some (codes "limit", [])) word refl turn.0) [
+          let turn = first_turn s bare (waits o rows) word rest fine in
+          elim (turn_of s bare [] (option o.limit) rows (Some (o.limit, [])) word refl turn.0) [
             | dashes is ↦ absurd (unread rows has
-                (trailing_end s bare (option (codes "limit")) (holding rows (Some (codes "limit", []))) rest (rw is at turn.1)).1)
+                (trailing_end s bare (option o.limit) (holding rows (Some (o.limit, []))) rest (rw is at turn.1)).1)
             | a_flag name value e d none ↦
-                absurd (unread rows has (by_flag rows (Some (codes "limit", [])) name value e d none (found name)).0)
+                absurd (unread rows has (by_flag rows (Some (o.limit, [])) name value e d none (found name)).0)
             | a_value d is stray ↦
-                let next = ahead.0 rows (Some (codes "limit", word ∷ [])) (rw (d, is, has) at turn.1) in
-                limits (codes "--limit" ∷ word ∷ []) rest word has refl (inl refl) (rw has at next.0) (rw has at next.1)
+                let next = ahead.0 rows (Some (o.limit, word ∷ [])) (rw (d, is, has, twice) at turn.1) in
+                limits ((45 ∷ 45 ∷ o.limit) ∷ word ∷ []) rest word has refl (inl refl) (rw has at next.0) (rw has at next.1)
           ]
 
   ahead : (words : List Text) → Between words × TextFirst words
@@ -282,37 +292,37 @@ module _ (s : Shape) (own : Text) (bare : IsBare s) (found : (name : Text) → F
       (λ rows pending fine. (rw bare.once at fine.1, ends (inl refl)), λ rows has fine. absurd (unread rows has (rw bare.once at fine.1)))
   ahead (word ∷ rest) = next_word word rest (ahead rest)
 
-  limit_used : (words : List Text) (text : Text) → IsLimitOption words text → or_else (value_kinds false limit_parser text) [] ≡ []
-      → (limit : ℕ) × AreOfUse (45 ∷ 45 ∷ own) (Limit limit) words
+  limit_used : (words : List Text) (text : Text) → IsLimitOption o.limit words text → or_else (value_kinds false limit_parser text) [] ≡ []
+      → (limit : ℕ) × AreOfUse o.limit (45 ∷ 45 ∷ o.flag) (Limit limit) words
   limit_used words text is none =
       let number =
       accepts-Accepts false limit_parser text (true_from_ne_false (accepts false limit_parser text) (λ t. some_kind _ _ (rw t at none))) in
       (_, (text, is, (number.0, refl), number.2, number.3))
 
-  uses_in : {words : List Text} → Path s own [] words → Uses s own words
-  uses_in (ends end) = ([], end, (_, refl), λ no. (_, refl))
+  uses_in : {words : List Text} → Path s o [] words → Uses s o words
+  uses_in (ends end) = ([], end, λ default. (_, refl), λ no. (_, refl))
   uses_in (limits first rest text has is how fine (ends end)) =
-      (Limit _ ∷ [], (first, rest, is, (limit_used first text how fine).1, end), (_, refl), λ no. absurd (no has))
-  uses_in (flags rest is fine (ends end)) = (Flag ∷ [], (_ ∷ [], rest, is, refl, end), (_, refl), λ no. (_, refl))
+      (Limit _ ∷ [], (first, rest, is, (limit_used first text how fine).1, end), λ default. (_, refl), λ no. absurd (no has))
+  uses_in (flags rest is fine (ends end)) = (Flag ∷ [], (_ ∷ [], rest, is, refl, end), λ default. (_, refl), λ no. (_, refl))
   uses_in (limits first rest text has is how fine (flags more also once (ends end))) = (
     Limit _ ∷ Flag ∷ [],
     (first, rest, is, (limit_used first text how fine).1, (_ ∷ [], more, also, refl, end)),
-    (_, refl),
+    λ default. (_, refl),
     λ no. absurd (no has),
   )
   uses_in (flags rest is fine (limits first more text has also how once (ends end))) = (
     Flag ∷ Limit _ ∷ [],
     (_ ∷ [], rest, is, refl, (first, more, also, (limit_used first text how (none_of_both _ _ once).1).1, end)),
-    (_, refl),
+    λ default. (_, refl),
     λ no. absurd (no has),
   )
-  uses_in (limits _ _ _ _ _ _ _ (limits _ _ _ _ _ _ again _)) = absurd (some_kind _ _ again)
+  uses_in (limits _ _ _ _ _ _ _ (limits _ _ _ _ _ _ again _)) = absurd (some_kind _ _ (rw twice at again))
   uses_in (flags _ _ _ (flags _ _ again _)) = absurd (some_kind _ _ (rw same at again))
-  uses_in (limits _ _ _ _ _ _ _ (flags _ _ _ (limits _ _ _ _ _ _ again _))) = absurd (some_kind _ _ (simp apart at again))
+  uses_in (limits _ _ _ _ _ _ _ (flags _ _ _ (limits _ _ _ _ _ _ again _))) = absurd (some_kind _ _ (simp (apart, twice) at again))
   uses_in (limits _ _ _ _ _ _ _ (flags _ _ _ (flags _ _ again _))) = absurd (some_kind _ _ (simp (apart, same) at again))
-  uses_in (flags _ _ _ (limits _ _ _ _ _ _ _ (limits _ _ _ _ _ _ again _))) = absurd (some_kind _ _ (simp too at again))
+  uses_in (flags _ _ _ (limits _ _ _ _ _ _ _ (limits _ _ _ _ _ _ again _))) = absurd (some_kind _ _ (simp (too, twice) at again))
   uses_in (flags _ _ _ (limits _ _ _ _ _ _ _ (flags _ _ again _))) = absurd (some_kind _ _ (simp (too, same) at again))
 
   -- the level finds no fault only in such words
-  pub uses_of : (words : List Text) → level_fault s [] nothing_held words false [] ≡ [] → Uses s own words
+  pub uses_of : (words : List Text) → level_fault s [] nothing_held words false [] ≡ [] → Uses s o words
   uses_of words none = let parts = none_of_both _ _ none in uses_in ((ahead words).0 [] None (parts.0, (none_of_both _ _ parts.1).0)).1

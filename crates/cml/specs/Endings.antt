@@ -3,11 +3,14 @@ use Rattle.std.specs.Prelude.{ℕ, Bool, true, false}
 use Rattle.cml_script.specs.Endings as script
 use Rattle.cml_script.specs.{Ending as ScriptEnding}
 use Rattle.cml_script.specs.declared.ending.Ending.TheVariants as ended
+use Rattle.cml_explore.specs.Endings as explored
+use Rattle.cml_explore.specs.{Ending as ExploredEnding}
+use Rattle.cml_explore.specs.declared.ending.Ending.TheVariants.{Script, TooMany}
 use Rattle.cml.specs.declared.check.ending.Ending.{Ending as CheckEnding}
 use Rattle.cml.specs.declared.check.ending.Ending.TheVariants.{Lawful, Unlawful, Fault, Torn, BehindCut, ReadFault, WriteFault, NoMemory}
 use Rattle.cml.specs.declared.check.ending.Ending.TheVariants.{Compacted, TooLong}
 use Rattle.cml.specs.declared.ending.Ending.{Ending}
-use Rattle.cml.specs.declared.ending.Ending.TheVariants.{Performed, Checked}
+use Rattle.cml.specs.declared.ending.Ending.TheVariants.{Performed, Explored, Checked}
 
 abbrev pub status_of_check : CheckEnding → ℕ
 status_of_check (Lawful count state) = 0
@@ -35,10 +38,16 @@ is_script_shown ended.Full = false
 is_script_shown ended.Held = false
 is_script_shown _ = true
 
+abbrev pub is_explored_shown : ExploredEnding → Bool
+is_explored_shown (Script ending) = is_script_shown ending
+is_explored_shown (TooMany states) = true
+
 abbrev pub status : Ending → ℕ
 status (Performed ending) = script.status ending
+status (Explored ending) = explored.status ending
 status (Checked ending) = status_of_check ending
 
 abbrev pub is_shown : Ending → Bool
 is_shown (Performed ending) = is_script_shown ending
+is_shown (Explored ending) = is_explored_shown ending
 is_shown (Checked ending) = is_check_shown ending

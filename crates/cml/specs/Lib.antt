@@ -6,8 +6,8 @@ pub mod Lines
 -- the names that others import from here
 pub use CommandLine.{AreOfUse, AreUses, AsksFor, AsksHelp, Finds, FindsBoth, FindsFlag, FindsLimit, Flag, HasOrder, IsLimitOption, Limit}
 pub use CommandLine.{Reads, ReadsAs, Use, asked_of, checking, compacting, faults_of, flag_rule, form_if, given_by, limit_of, limit_rule}
-pub use CommandLine.{performing, state_by, usage}
-pub use Endings.{is_check_shown, is_script_shown, status_of_check}
+pub use CommandLine.{exploring, performing, script_shape, state_by, usage}
+pub use Endings.{is_check_shown, is_explored_shown, is_script_shown, status_of_check}
 pub use Compacted.{IsCompactOf, IsNoneOf, IsShortened, IsTextOf, IsUnwritten, whole_piece}
 pub use Checking.{Concludes, ConcludesAs, ConcludesBy, EndsAs, EndsIn, EndsInFront, GivesCut, IsEarly, IsFront, IsHeardOut, IsRead}
 pub use Checking.{IsSilent, IsStateOf, IsToldFaulty, IsToldLawful, IsToldShort, IsToldUnlawful, IsVerdict, Tells, TellsAs, ending_of, is_behind_cut}

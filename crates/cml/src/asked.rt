@@ -9,6 +9,8 @@ pub(crate) enum Order {
     Replay(u64, Form),
     /// To run a script, each of its threads as a thread of the operating system, with a journal of at most this many entries.
     Run(u64, Form),
+    /// To explore a script, with at most this many states.
+    Explore(u64, Form),
     /// To check a journal, and to write the state that it ends in if that is asked for too.
     Check(bool),
     /// To compact a journal.

@@ -4,7 +4,7 @@ ghost use Rattle.clap.specs.Words.{app_of, found_of, FailsBy, kind_of, new_app, 
 ghost use Rattle.clap.specs.Words.{subcommand_rows_of, with_subcommand};
 ghost use Rattle.clap.specs.declared.builder.command.Command.TheViews.{out-Command as fields_of};
 ghost use Rattle.cml_shell.specs.{error_status};
-ghost use Rattle.cml.specs.{usage, faults_of, form_if, limit_of, limit_rule, flag_rule, performing, checking, compacting, AsksFor};
+ghost use Rattle.cml.specs.{usage, faults_of, form_if, limit_of, limit_rule, flag_rule, script_shape, performing, exploring, checking, compacting, AsksFor};
 ghost use Rattle.cml.specs.{AsksHelp, Finds, FindsFlag, FindsLimit, HasOrder, Reads};
 
 use crate::asked::Order;
@@ -17,7 +17,12 @@ use std::convert::AsStr;
 /// How many entries a journal takes where the words don't say it.
 const DEFAULT_LIMIT: u64 = 65_536;
 
-const DEFAULT_TEXT: &str = "65536";
+const DEFAULT_LIMIT_TEXT: &str = "65536";
+
+/// How many states an exploration keeps where the words don't say it.
+const DEFAULT_STATES: u64 = 500_000;
+
+const DEFAULT_STATES_TEXT: &str = "500000";
 
 const LIMIT_HELP: &str =
     "How many entries the journal of all that was done takes, from 1 to 4294967296";
@@ -56,6 +61,25 @@ Each of the script's threads is a thread of the operating system, and all share 
 the order of the report's lines differs from run to run.
 
 Before anything is written the journal is audited against the script.";
+
+const STATES_HELP: &str = "How many states are kept at most, from 1 to 4294967296";
+
+const EXPLORE_ABOUT: &str =
+    "Writes all endings that the script on standard input can have, in whatever order its threads go";
+
+const EXPLORE_LONG_ABOUT: &str =
+    "Writes all endings that the script on standard input can have, in whatever order its threads go.
+
+Each thread's next step may be the next one, if it needn't wait. Two orders that leave each thread at
+the same step, and all objects alike, lead to one state. An ending is how such orders end: done or
+stalled, which step each thread waits at, and what a report says of the objects.
+
+Each ending is written once, with its report and with the journal of the first order that leads to it.
+The last line is all: and how many endings and states there are, or not all: if there are more states
+than the limit. A script with lanes or feeds is not explored.";
+
+const EXPLORE_JOURNAL_HELP: &str =
+    "Writes only the journal of the first ending that isn't done, or of the first if all are done";
 
 const CHECK_ABOUT: &str =
     "Checks whether the journal on standard input is a lawful history of one thread";
@@ -114,6 +138,49 @@ Exit status:
   5  no memory
   6  the journal is full
   7  the journal is not lawful (of a script this would be a bug)";
+
+const EXPLORE_AFTER_HELP: &str = "Example, hello.cml:
+  cml 1
+  mailbox letters
+  thread Ann
+  thread Ben
+  Ben poll letters
+  Ann send letters 5
+
+By cml explore < hello.cml:
+  ending 1: done
+  Ann send letters 5: done
+  Ben poll letters: 5
+  mailbox letters: sent 1 got 1 waits 0
+  end: done 2
+  journal 1
+  seat 0 mailbox: made 0
+  seat 1 send 0 5: done
+  seat 2 poll 0: 5
+  end 3
+  ending 2: done
+  Ben poll letters: none
+  Ann send letters 5: done
+  mailbox letters: sent 1 got 0 waits 1
+  end: done 2
+  journal 1
+  seat 0 mailbox: made 0
+  seat 2 poll 0: none
+  seat 1 send 0 5: done
+  end 3
+  all: endings 2 states 5
+
+Exit status:
+  0  all endings were written, and each is done (also for help)
+  1  all were written, and one is stalled
+  2  the script has a fault, which standard error names
+  3  the words of the command line are not understood
+  4  standard input can't be read, or standard output can't be written
+  5  no memory
+  6  all were written, and at one the journal is full
+  7  an ending is not lawful (this would be a bug)
+  8  there are more states than the limit
+With --journal it is 0, 1 or 6 as that ending is done, stalled or full.";
 
 const CHECK_AFTER_HELP: &str = "Example, letters.journal:
   journal 1
@@ -212,6 +279,7 @@ fn order_of(name: &str, found: &ArgMatches<'_>) -> Option<Order>
     match name {
         "replay" => Some(Order::Replay(limit_in(found), form_in(found))),
         "run" => Some(Order::Run(limit_in(found), form_in(found))),
+        "explore" => Some(Order::Explore(states_in(found), form_in(found))),
         "check" => Some(Order::Check(is_set(found, "state"))),
         "compact" => Some(Order::Compact),
         _ => None,
@@ -220,9 +288,16 @@ fn order_of(name: &str, found: &ArgMatches<'_>) -> Option<Order>
 
 /// The number of `--limit`.
 fn limit_in(found: &ArgMatches<'_>) -> u64
-    ensures { (limit : ℕ) → FindsLimit (one_text (found_of found.now)) limit → result ≡ limit }
+    ensures { (limit : ℕ) → FindsLimit (one_text (found_of found.now)) (codes "limit") limit → result ≡ limit }
 {
     found.get_one::<u64>("limit").unwrap_or(DEFAULT_LIMIT)
+}
+
+/// The number of `--states`.
+fn states_in(found: &ArgMatches<'_>) -> u64
+    ensures { (states : ℕ) → FindsLimit (one_text (found_of found.now)) (codes "states") states → result ≡ states }
+{
+    found.get_one::<u64>("states").unwrap_or(DEFAULT_STATES)
 }
 
 /// The journal, if `--journal` is there.
@@ -253,12 +328,30 @@ fn command<'a>(alloc: Global) -> Result<Command<'a>, AllocError>
         .subcommand_required(true)
         .arg_required_else_help(true)
         .bin_name("cml")?;
-    let program = add_performing(alloc, program, "replay", REPLAY_ABOUT, REPLAY_LONG_ABOUT)?;
-    let program = add_performing(alloc, program, "run", RUN_ABOUT, RUN_LONG_ABOUT)?;
+    let program = add_scripts(alloc, program)?;
     add_journals(alloc, program)
 }
 
-/// Adds a subcommand whose options are `--limit` and `--journal`.
+/// Adds the subcommands that read a script.
+fn add_scripts<'a>(alloc: Global, program: Command<'a>) -> Result<Command<'a>, AllocError>
+    ensures { IfOk result (λ command. app_of command ≡ with_subcommand (with_subcommand (with_subcommand (app_of program.entry)
+        (performing (codes "replay"))) (performing (codes "run"))) (exploring (codes "explore"))) }
+{
+    let program = add_performing(alloc, program, "replay", REPLAY_ABOUT, REPLAY_LONG_ABOUT)?;
+    let program = add_performing(alloc, program, "run", RUN_ABOUT, RUN_LONG_ABOUT)?;
+    add_exploring(alloc, program, "explore")
+}
+
+/// What the help says of a subcommand of scripts, and of its option `--journal`.
+#[derive(Clone, Copy)]
+struct Help<'a> {
+    about: &'a str,
+    long_about: &'a str,
+    after: &'a str,
+    journal: &'a str,
+}
+
+/// Adds a subcommand that performs a script.
 fn add_performing<'a>(
     alloc: Global,
     program: Command<'a>,
@@ -268,39 +361,54 @@ fn add_performing<'a>(
 ) -> Result<Command<'a>, AllocError>
     ensures { IfOk result (λ command. app_of command ≡ with_subcommand (app_of program.entry) (performing name.now)) }
 {
-    let subcommand = performing(alloc, name, about, long_about)?;
+    let limit = limit(alloc, "limit", DEFAULT_LIMIT_TEXT, LIMIT_HELP);
+    let help = Help {
+        about,
+        long_about,
+        after: AFTER_HELP,
+        journal: JOURNAL_HELP,
+    };
+    let subcommand = of_script(alloc, name, limit, help)?;
     program.subcommand(subcommand)
 }
 
-/// A subcommand whose options are `--limit` and `--journal`.
-fn performing<'a>(
+/// Adds a subcommand that explores a script.
+fn add_exploring<'a>(
     alloc: Global,
+    program: Command<'a>,
     name: &'a str,
-    about: &'a str,
-    long_about: &'a str,
 ) -> Result<Command<'a>, AllocError>
-    ensures shape { IfOk result (λ command. app_of command
-        ≡ with_rule (with_rule (new_app name.now) limit_rule) (flag_rule (codes "journal"))) }
-    ensures local { IfOk result (λ command. (fields_of command).has_globals ≡ false) }
+    ensures { IfOk result (λ command. app_of command ≡ with_subcommand (app_of program.entry) (exploring name.now)) }
 {
-    limited(alloc, name, about, long_about)?.arg(flag(alloc, "journal", JOURNAL_HELP))
+    let limit = limit(alloc, "states", DEFAULT_STATES_TEXT, STATES_HELP);
+    let help = Help {
+        about: EXPLORE_ABOUT,
+        long_about: EXPLORE_LONG_ABOUT,
+        after: EXPLORE_AFTER_HELP,
+        journal: EXPLORE_JOURNAL_HELP,
+    };
+    let subcommand = of_script(alloc, name, limit, help)?;
+    program.subcommand(subcommand)
 }
 
-/// A subcommand whose one option is `--limit`.
-fn limited<'a>(
+/// A subcommand whose options are this limit and `--journal`.
+fn of_script<'a>(
     alloc: Global,
     name: &'a str,
-    about: &'a str,
-    long_about: &'a str,
+    limit: Arg<'a>,
+    help: Help<'a>,
 ) -> Result<Command<'a>, AllocError>
-    ensures shape { IfOk result (λ command. app_of command ≡ with_rule (new_app name.now) limit_rule) }
+    requires local { limit.global ≡ false }
+    ensures shape { IfOk result (λ command. app_of command
+        ≡ with_rule (with_rule (new_app name.now) (rule_of limit.entry)) (flag_rule (codes "journal"))) }
     ensures local { IfOk result (λ command. (fields_of command).has_globals ≡ false) }
 {
     Command::new(alloc, name)
-        .about(about)
-        .long_about(long_about)
-        .after_help(AFTER_HELP)
-        .arg(limit(alloc))
+        .about(help.about)
+        .long_about(help.long_about)
+        .after_help(help.after)
+        .arg(limit)?
+        .arg(flag(alloc, "journal", help.journal))
 }
 
 /// Adds the subcommands that read a journal.
@@ -344,13 +452,14 @@ fn flag<'a>(alloc: Global, name: &'a str, help: &'a str) -> Arg<'a>
         .help(help)
 }
 
-fn limit<'a>(alloc: Global) -> Arg<'a>
-    ensures { (rule_of result ≡ limit_rule) × (result.global ≡ false) }
+/// An option whose value is a number, with a default.
+fn limit<'a>(alloc: Global, name: &'a str, default: &'a str, help: &'a str) -> Arg<'a>
+    ensures { (rule_of result ≡ limit_rule name.now default.now) × (result.global ≡ false) }
 {
-    Arg::new(alloc, "limit")
-        .long("limit")
+    Arg::new(alloc, name)
+        .long(name)
         .value_name("N")
         .value_parser(value_parser!(u64).range(1..=4_294_967_296))
-        .default_value(DEFAULT_TEXT)
-        .help(LIMIT_HELP)
+        .default_value(default)
+        .help(help)
 }

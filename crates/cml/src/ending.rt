@@ -1,6 +1,6 @@
 //! How the program ends.
 ghost use Rattle.std.specs.Prelude.{◌≡◌};
-ghost use Rattle.cml.specs.{is_script_shown};
+ghost use Rattle.cml.specs.{is_script_shown, is_explored_shown};
 
 use crate::check;
 use cml_script::status_of;
@@ -12,6 +12,9 @@ pub(crate) enum Ending {
     /// A script was performed.
     #[error("{0}")]
     Performed(cml_script::Ending),
+    /// A script was explored.
+    #[error("{0}")]
+    Explored(cml_explore::Ending),
     /// A journal was checked.
     #[error("{0}")]
     Checked(check::Ending),
@@ -35,6 +38,7 @@ impl cml_shell::Ending for Ending {
     fn status(&self) -> u8 {
         match self {
             Ending::Performed(ending) => status_of(ending),
+            Ending::Explored(ending) => ending.status(),
             Ending::Checked(ending) => ending.status(),
         }
     }
@@ -42,8 +46,19 @@ impl cml_shell::Ending for Ending {
     fn is_shown(&self) -> bool {
         match self {
             Ending::Performed(ending) => is_script_shown(ending),
+            Ending::Explored(ending) => is_explored_shown(ending),
             Ending::Checked(ending) => ending.is_shown(),
         }
+    }
+}
+
+/// Whether standard error shows how an exploration ended.
+fn is_explored_shown(ending: &cml_explore::Ending) -> bool
+    ensures { result ≡ is_explored_shown ending.now }
+{
+    match ending {
+        cml_explore::Ending::Script(ending) => is_script_shown(ending),
+        cml_explore::Ending::TooMany(_) => true,
     }
 }
 

@@ -1,5 +1,5 @@
-//! `cml`: replays or runs the script on standard input, or checks or compacts the journal there, and writes to standard output what
-//! came of it.
+//! `cml`: replays, runs or explores the script on standard input, or checks or compacts the journal there, and writes to standard
+//! output what came of it.
 #![tactic(auto)]
 
 ghost use Rattle.std.specs.Prelude.{◌≡◌};
@@ -13,6 +13,7 @@ mod progress;
 
 use asked::Order;
 use check::Wanted;
+use cml_explore::{explore, explore_journal};
 use cml_script::{Form, OpenGate, replay, replay_journal, run, run_journal};
 use cml_shell::{NoOrder, end, words};
 use command_line::order;
@@ -44,6 +45,12 @@ fn obey<R: Threads + Wait + Sync>(rt: &HostRuntime, system: &R) -> Result<Ending
         }
         Order::Run(limit, Form::Journal) => {
             Ending::Performed(run_journal(system, alloc, input, output, limit, &OpenGate))
+        }
+        Order::Explore(states, Form::Report) => {
+            Ending::Explored(explore(alloc, input, output, states))
+        }
+        Order::Explore(states, Form::Journal) => {
+            Ending::Explored(explore_journal(alloc, input, output, states))
         }
         Order::Check(state) => check_input(rt, system, wanted(state)),
         Order::Compact => check_input(rt, system, Wanted::Compacted),

@@ -2,9 +2,8 @@
 use Rattle.std.specs.Prelude.{ℕ}
 use Rattle.cml_script.specs.Endings as script
 use Rattle.cml_explore.specs.declared.ending.Ending.{Ending}
-use Rattle.cml_explore.specs.declared.ending.Ending.TheVariants.{Script, TooMany, NoSuch}
+use Rattle.cml_explore.specs.declared.ending.Ending.TheVariants.{Script, TooMany}
 
 abbrev pub status : Ending → ℕ
 status (Script ended) = script.status ended
 status (TooMany states) = 8
-status (NoSuch number) = 2

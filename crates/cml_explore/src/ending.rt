@@ -17,9 +17,6 @@ pub enum Ending {
     /// There are more states than this limit. What was found among the first states was written.
     #[error("cml: more than {0} states")]
     TooMany(u64),
-    /// The script has no ending with this number.
-    #[error("cml: no ending {0}")]
-    NoSuch(u64),
 }
 
 impl From<Ended> for Ending {
@@ -60,7 +57,6 @@ impl Ending {
         match self {
             Ending::Script(ended) => cml_script::status_of(ended),
             Ending::TooMany(_) => 8,
-            Ending::NoSuch(_) => 2,
         }
     }
 }

@@ -17,12 +17,15 @@ pub(crate) struct Leaf {
 #[derive(Drop)]
 pub(crate) struct Found {
     leaves: IndexMap<String, Leaf>,
+    /// The first that isn't done.
+    pub(crate) bad: Option<Leaf>,
 }
 
 impl Found {
     pub(crate) fn new(alloc: Global) -> Found {
         Found {
             leaves: IndexMap::new(alloc),
+            bad: None,
         }
     }
 
@@ -33,6 +36,10 @@ impl Found {
     pub(crate) fn get(&self, number: usize) -> Option<Leaf> {
         let (_, leaf) = self.leaves.get_index(number)?;
         Some(*leaf)
+    }
+
+    pub(crate) fn first(&self) -> Option<Leaf> {
+        self.get(0)
     }
 
     /// Adds the ending of the state that a walk is at, unless it was found before.
@@ -46,10 +53,13 @@ impl Found {
         if self.leaves.contains_key(ending.as_str()) {
             return Ok(());
         }
-        match self.leaves.insert(ending, leaf) {
-            Ok(_) => Ok(()),
-            Err(_) => Err(Ended::NoMemory),
+        if self.leaves.insert(ending, leaf).is_err() {
+            return Err(Ended::NoMemory);
         }
+        if self.bad.is_none() && leaf.stop != Stop::Done {
+            self.bad = Some(leaf);
+        }
+        Ok(())
     }
 
     /// The worst way in which a script ends here: full, stalled or done.

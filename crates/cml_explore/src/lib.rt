@@ -12,4 +12,4 @@ mod telling;
 mod walk;
 
 pub use ending::Ending;
-pub use exploring::{Wanted, explore};
+pub use exploring::{explore, explore_journal};

@@ -54,10 +54,19 @@ impl<'p, 's> Search<'p, 's> {
         !self.is_cut && self.pending.is_empty()
     }
 
-    /// Follows steps until none is left, or a state is found that is one too many, or there are so many endings.
-    pub(crate) fn find(&mut self, endings: usize) -> Result<(), Ended> {
+    /// Follows steps until none is left, or a state is found that is one too many.
+    pub(crate) fn find_all(&mut self) -> Result<(), Ended> {
+        self.find(false)
+    }
+
+    /// Follows steps until an ending is found that isn't done, or as for all.
+    pub(crate) fn find_bad(&mut self) -> Result<(), Ended> {
+        self.find(true)
+    }
+
+    fn find(&mut self, stops_at_bad: bool) -> Result<(), Ended> {
         for _ in 0..self.most.saturating_mul(MOST_STEPS) {
-            if self.is_cut || self.found.len() >= endings {
+            if self.is_cut || (stops_at_bad && self.found.bad.is_some()) {
                 break;
             }
             let Some(step) = self.pending.pop() else {
