@@ -5,7 +5,7 @@
 #   --prefix PREFIX        the library that bindings/install.sh installed, if not in SERYUGO_PREFIX or where pkg-config finds it
 #   --bench PROGRAM        the proved cml_bench, if not crates/cml_bench/out/cml_bench
 #   --cml PROGRAM          the proved cml, if not crates/cml/out/cml
-#   --before PREFIX        an earlier library, whose figures come beside those of now
+#   --before PREFIX        an earlier library, whose figures speed.tsv has too
 #   --before-bench, --before-cml PROGRAM
 #                          earlier programs
 #   --before-tree FOLDER   a checkout with the earlier crate in Rust and package for Python, if they differ from those here

@@ -7,8 +7,8 @@ A line has a setting, a build, a workload, a way and nanoseconds, with tabs betw
 import statistics
 from collections import namedtuple
 
-# A way of the library with its figure, that of an earlier build, and those of other ways.
-Row = namedtuple("Row", "workload way now before others")
+# A way of the library with its figure, and those of other ways.
+Row = namedtuple("Row", "workload way now others")
 
 PEERS = ("by hand", "mpsc", "crossbeam", "tokio")
 QUEUES = (
@@ -78,10 +78,6 @@ class Figures:
         """Return the settings, in the order in which they were measured."""
         return list(dict.fromkeys(key[0] for key in self.all))
 
-    def has_before(self):
-        """Whether an earlier build was measured."""
-        return any(key[1] == "before" for key in self.all)
-
     def ways(self, setting):
         """Return each workload with its ways in the build of now."""
         found = {}
@@ -98,9 +94,8 @@ class Figures:
 
     def row(self, setting, workload, way, others=()):
         """Return the row of a way of the library."""
-        now, before = (self.median(setting, build, workload, way) for build in ("now", "before"))
         figures = [self.other(setting, workload, other) for other in others]
-        return Row(workload, way, now, before, figures)
+        return Row(workload, way, self.median(setting, "now", workload, way), figures)
 
     def rows(self, setting, others, is_wanted):
         """Return a row for each way of the library in the workloads that are wanted."""
@@ -119,8 +114,7 @@ class Figures:
         for name, ground, shown, calls in IN_RATTLE.get(workload, []):
             row = self.row(setting, name, ground)
             if row.now is not None and any(others):
-                now, before = (figure and figure * calls for figure in (row.now, row.before))
-                found.append(Row(workload, shown, now, before, others))
+                found.append(Row(workload, shown, row.now * calls, others))
         return found
 
     def compared(self, setting):

@@ -20,9 +20,9 @@ def number(figure):
     return f"{figure:.1f}" if figure < 100 else f"{figure:,.0f}"
 
 
-def beside(now, other, scale):
-    """Return a figure with the ratio of the library's to it, or nothing if it wasn't measured."""
-    return f"{number(other / scale)} ({number(now / other)})" if other else ""
+def beside(other, scale):
+    """Return a figure of another way, or nothing if it wasn't measured."""
+    return number(other / scale) if other else ""
 
 
 def table(names, figures, rows):
@@ -32,19 +32,21 @@ def table(names, figures, rows):
     return "\n".join("| " + " | ".join(cells) + " |" for cells in lines)
 
 
-def compared(figures, rows, unit, others=(), scale=1):
+def compared(rows, unit, others=(), scale=1):
     """Return a table of ways of the library, with the ways beside them that were measured."""
     if not rows:
         return "Not measured."
     shown = [at for at in range(len(others)) if any(row.others[at] for row in rows)]
-    before = ["before"] * figures.has_before()
     cells = []
+    last = None
     for row in rows:
-        earlier = [beside(row.now, row.before, scale)] * len(before)
-        by_others = [beside(row.now, row.others[at], scale) for at in shown]
+        # The other ways are in the first row of a workload.
+        is_first = row.workload != last
+        by_others = [beside(is_first and row.others[at], scale) for at in shown]
+        last = row.workload
         way = row.way.replace("_", ", ")
-        cells.append([f"`{row.workload}`", way, number(row.now / scale), *earlier, *by_others])
-    return table(["Workload", "Way"], [unit, *before, *(others[at] for at in shown)], cells)
+        cells.append([f"`{row.workload}`", way, number(row.now / scale), *by_others])
+    return table(["Workload", "Way"], [unit, *(others[at] for at in shown)], cells)
 
 
 def every(figures):
@@ -65,17 +67,17 @@ def parts(figures):
 
     found = {}
     for setting in SETTINGS:
-        found[setting] = compared(figures, figures.compared(setting), "ns", PEERS)
+        found[setting] = compared(figures.compared(setting), "ns", PEERS)
     in_c = rows(lambda workload, _: workload.startswith("in C"), PEERS)
     in_python = rows(lambda workload, _: workload.startswith("in Python"), QUEUES)
     scripts = rows(lambda workload, _: workload.startswith("a script"))
     journals = rows(lambda workload, _: workload.startswith("an entry"))
     found["machine"] = "\n".join(f"- {name}: {words}" for name, words in figures.machine.items())
-    found["bench"] = compared(figures, rows(lambda _, way: is_of_bench(way)), "ns")
-    found["C"] = compared(figures, in_c, "ns", PEERS)
-    found["Python"] = compared(figures, in_python, "µs", QUEUES, 1e3)
-    found["scripts"] = compared(figures, scripts, "ms", (), 1e6)
-    found["journals"] = compared(figures, journals, "ns")
+    found["bench"] = compared(rows(lambda _, way: is_of_bench(way)), "ns")
+    found["C"] = compared(in_c, "ns", PEERS)
+    found["Python"] = compared(in_python, "µs", QUEUES, 1e3)
+    found["scripts"] = compared(scripts, "ms", (), 1e6)
+    found["journals"] = compared(journals, "ns")
     return found
 
 
