@@ -6,10 +6,11 @@ use crate::graph::{Graph, Object};
 use crate::messages::{Job, Outcome, Verdict};
 use crate::runner::{Runner, Settings};
 use crate::worker::Worker;
+use seryugo::explore::{self, Scope, Thread};
 use seryugo::{Channel, Error, IVar, Mailbox, Port, Seat, Switchboard};
 use std::fmt;
 use std::io;
-use std::thread::{self, Builder, Scope, ScopedJoinHandle};
+use std::thread::Builder;
 
 /// An object's thread only waits and asks for a file's time. The memory that it doesn't touch costs nothing.
 const GOAL_STACK: usize = 128 << 10;
@@ -54,15 +55,24 @@ pub fn build(graph: &Graph, settings: &Settings, console: &Console) -> Result<Ve
     if graph.objects.len() > MOST_OBJECTS {
         return Err(BuildError::TooManyObjects(graph.objects.len()));
     }
-    let workers = settings.jobs.min(graph.objects.len());
-    let board = Switchboard::new(most_entries(graph, workers))?;
+    let board = Switchboard::new(most_entries(graph, workers_of(graph, settings)))?;
+    build_on(&board, graph, settings, console)
+}
+
+/// Builds on a new switchboard, which has room for the entries. The tests explore this.
+pub fn build_on(
+    board: &Switchboard,
+    graph: &Graph,
+    settings: &Settings,
+    console: &Console,
+) -> Result<Vec<Outcome>, BuildError> {
     // All seats and ports are there before the first thread starts: no outcome is missed, and no call fails with `Stalled`.
     let mut seat = board.seat()?;
     let wires = Wires::new(&mut seat, graph.objects.len())?;
-    let goals = wires.goals(&board, &mut seat, graph, settings, console)?;
-    let workers = wires.workers(&board, graph, settings, console, workers)?;
+    let goals = wires.goals(board, &mut seat, graph, settings, console)?;
+    let workers = wires.workers(board, graph, settings, console)?;
     let watched = wires.ports(&mut seat, &graph.goals)?;
-    thread::scope(|scope| {
+    explore::scope(|scope| {
         let mut threads = Vec::new();
         let count = workers.len() as u64;
         // If a thread isn't started, its seat leaves, and so does this one. Then the threads that wait fail with `Stalled` and end.
@@ -70,6 +80,11 @@ pub fn build(graph: &Graph, settings: &Settings, console: &Console) -> Result<Ve
         let outcomes = started.and_then(|()| Ok(watch(seat, &watched, wires.jobs, count)?));
         cause_of(outcomes, threads)
     })
+}
+
+/// How many workers there are.
+fn workers_of(graph: &Graph, settings: &Settings) -> usize {
+    settings.jobs.min(graph.objects.len())
 }
 
 /// How many calls are accepted at the most, so that the journal never becomes full.
@@ -136,7 +151,6 @@ impl Wires {
         graph: &'a Graph,
         settings: &'a Settings,
         console: &'a Console,
-        count: usize,
     ) -> Result<Vec<Worker<'a>>, BuildError> {
         let worker = |_| {
             Ok(Worker {
@@ -147,25 +161,25 @@ impl Wires {
                 runner: Runner::new(settings, console).map_err(BuildError::Capture)?,
             })
         };
-        (0..count).map(worker).collect()
+        (0..workers_of(graph, settings)).map(worker).collect()
     }
 }
 
-type Running<'scope> = ScopedJoinHandle<'scope, Result<(), BuildError>>;
+type Running<'scope> = Thread<'scope, Result<(), BuildError>>;
 
 /// Starts the threads of the objects, and then the workers. So no command runs before all threads are there.
 fn start_all<'scope>(
-    scope: &'scope Scope<'scope, '_>,
+    scope: Scope<'scope, '_>,
     goals: Vec<Goal<'scope>>,
     workers: Vec<Worker<'scope>>,
     threads: &mut Vec<Running<'scope>>,
 ) -> Result<(), BuildError> {
     for goal in goals {
         let builder = Builder::new().stack_size(GOAL_STACK);
-        threads.push(builder.spawn_scoped(scope, || Ok(goal.run()?)).map_err(BuildError::Thread)?);
+        threads.push(scope.spawn_as(builder, || Ok(goal.run()?)).map_err(BuildError::Thread)?);
     }
     for worker in workers {
-        threads.push(Builder::new().spawn_scoped(scope, || Ok(worker.work()?)).map_err(BuildError::Thread)?);
+        threads.push(scope.spawn_as(Builder::new(), || Ok(worker.work()?)).map_err(BuildError::Thread)?);
     }
     Ok(())
 }

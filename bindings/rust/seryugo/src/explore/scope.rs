@@ -4,6 +4,7 @@ use super::play::{self, Play};
 use super::state::Joins;
 use super::step::{Kind, NONE};
 use std::fmt;
+use std::io;
 use std::marker::PhantomData;
 use std::mem;
 use std::sync::{Arc, Mutex, PoisonError};
@@ -111,13 +112,54 @@ impl<'scope> Scope<'scope, '_> {
         self,
         job: impl FnOnce() -> T + Send + 'scope,
     ) -> Thread<'scope, T> {
-        let explored = self.explored.zip(play::own());
-        let own = explored.filter(|((number, _), (play, _))| play.number == *number);
-        let Some(((_, scope), (play, _))) = own else {
+        let Some((play, scope)) = self.own() else {
             return Thread {
                 kind: Started::Free(self.threads.spawn(job)),
             };
         };
+        Thread::explored(play, scope, job)
+    }
+
+    /// Starts a thread that this builder describes: its name, and how much stack it has. In an
+    /// exploration neither matters.
+    ///
+    /// ```
+    /// # fn main() -> std::io::Result<()> {
+    /// let small = std::thread::Builder::new().stack_size(128 << 10);
+    /// seryugo::explore::scope(|threads| threads.spawn_as(small, || ()).map(drop))
+    /// # }
+    /// ```
+    ///
+    /// # Errors
+    ///
+    /// The system starts no more threads.
+    pub fn spawn_as<T: Send + 'scope>(
+        self,
+        builder: thread::Builder,
+        job: impl FnOnce() -> T + Send + 'scope,
+    ) -> io::Result<Thread<'scope, T>> {
+        let Some((play, scope)) = self.own() else {
+            let kind = Started::Free(builder.spawn_scoped(self.threads, job)?);
+            return Ok(Thread { kind });
+        };
+        Ok(Thread::explored(play, scope, job))
+    }
+
+    /// The exploration that has this scope, if the calling thread is one of it, and the scope's
+    /// number there.
+    fn own(self) -> Option<(Arc<Play>, u64)> {
+        let ((number, scope), (play, _)) = self.explored.zip(play::own())?;
+        (play.number == number).then_some((play, scope))
+    }
+}
+
+impl<'scope, T: Send + 'scope> Thread<'scope, T> {
+    /// A thread that an exploration starts.
+    fn explored(
+        play: Arc<Play>,
+        scope: u64,
+        job: impl FnOnce() -> T + Send + 'scope,
+    ) -> Thread<'scope, T> {
         let returned = Arc::new(Mutex::new(None));
         let to = Arc::clone(&returned);
         let run: Box<dyn FnOnce() + Send + 'scope> = Box::new(move || {

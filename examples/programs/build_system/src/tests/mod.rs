@@ -1,6 +1,7 @@
-//! Tests of what is read: makefiles, graphs and command lines.
+//! Tests of what is read: makefiles, graphs and command lines; and of builds in many orders.
 
 mod arguments;
+mod explored;
 mod faults;
 mod graph;
 mod reader;
