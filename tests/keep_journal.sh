@@ -2,7 +2,8 @@
 # A process that keeps its journal, killed ten times: `sh tests/keep_journal.sh ROOMS CHECK WORD..`, with the archive of cml_c, and
 # the command that checks a journal. The program is examples/programs/keep_journal, in Rust. Each run goes on from the file that the runs
 # before left, and is killed at a random time. In the end the journal is lawful, and has each message that was sent and received
-# once, in order; and what was acknowledged is there, byte for byte, from each run on. The last line is `N passed, M failed`.
+# once, in order; and what was acknowledged is there, byte for byte, from each run on. Then a journal is rerun, also in a debugger.
+# The last line is `N passed, M failed`.
 LC_ALL=C
 export LC_ALL
 . "$(dirname "$0")/lib/cases.sh"
@@ -111,6 +112,26 @@ each_once() {
     if [ ! -s "$work/out" ]; then pass; else fail "each message once: $(cat "$work/out")"; fi
 }
 
+# made_again WORD..: a command says that each entry of the other folder's journal was made again.
+made_again() {
+    timeout 60 "$@" > "$work/said" 2> "$work/errors" && grep -qx "$entries of $entries entries were made again" "$work/said"
+}
+
+# Threads go in the order of the journal that one run wrote. With fewer messages they don't, and the program says where.
+reruns() {
+    mkdir "$work/other" && : > "$work/other/kept" && "$program" "$work/other" 1000 > "$work/said" || return
+    entries=$(tail -n 1 "$work/other/journal" | awk '$1 == "end" { print $2 }')
+    made_again "$program" --rerun "$work/other" 1000 && ! timeout 60 "$program" --rerun "$work/other" 999 > "$work/said" 2> "$work/errors" &&
+        grep -q "^the run isn't the journal's at position [0-9]*: expected .seat [0-9]* send" "$work/said"
+}
+
+# A debugger stops the rerun at the 501st receive, and goes on.
+reruns_in_a_debugger() {
+    made_again gdb -batch -ex 'break seryugo_recv' -ex 'ignore 1 500' -ex run -ex 'info threads' -ex delete -ex continue \
+        --args "$program" --rerun "$work/other" 1000 && grep -q 'hit Breakpoint 1' "$work/said" &&
+        [ "$(grep -c '^[* ] *[0-9][0-9]* *Thread ' "$work/said")" -eq 5 ]
+}
+
 check 'the program is built' build
 if [ "$failed" -gt 0 ]; then
     count
@@ -128,6 +149,8 @@ tear
 ends 100
 fronts_are_there
 each_once
+check 'a journal is rerun' reruns
+if has gdb 'a rerun in a debugger'; then check 'a rerun in a debugger' reruns_in_a_debugger; fi
 entries=$(grep -c : "$journal")
 if [ "$(acknowledged entries)" -eq "$entries" ] && [ "$entries" -gt 1000 ]; then pass; else fail "$entries entries"; fi
 program=$checker

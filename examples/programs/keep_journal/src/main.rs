@@ -2,17 +2,22 @@
 //! the file.
 //!
 //!     keep_journal FOLDER [MESSAGES]
+//!     keep_journal --rerun FOLDER MESSAGES
 //!
 //! Thread k sends to mailbox k + 1 and receives from mailbox k. Its n-th message is n. FOLDER/journal has the journal, in pieces of
 //! 10,000 entries, each with a sum. Once a piece is on the disk, a line of FOLDER/kept says so: `kept 20000 entries 538897 bytes`. With MESSAGES
-//! each thread ends after this many messages. `tests/keep_journal.sh` kills it ten times.
+//! each thread ends after this many messages. With --rerun the threads go in the order of the journal in FOLDER, which one process
+//! has written that ended by itself: run that under a debugger. `tests/keep_journal.sh` kills the program ten times.
 
 mod file;
 
 use file::File;
+use seryugo::explore::Rerun;
 use seryugo::{Error, Mailbox, Numbers, Seat, Switchboard, WhenFull};
 use std::error::Error as AnyError;
-use std::path::PathBuf;
+use std::fs;
+use std::io::BufReader;
+use std::path::{Path, PathBuf};
 use std::sync::mpsc::sync_channel;
 use std::{env, thread};
 
@@ -27,12 +32,35 @@ const PIECE: u64 = 10_000;
 /// How many pieces may wait to be written. Then the threads wait too.
 const WAITING: usize = 4;
 
-fn main() -> Result<(), Box<dyn AnyError>> {
-    let mut words = env::args().skip(1);
-    let folder = PathBuf::from(words.next().ok_or("usage: keep_journal FOLDER [MESSAGES]")?);
-    let messages = words.next().map_or(Ok(u64::MAX), |word| word.parse())?;
+const USAGE: &str = "usage: keep_journal FOLDER [MESSAGES], or keep_journal --rerun FOLDER MESSAGES";
 
-    let (mut file, board) = File::open(&folder, PIECE)?;
+fn main() -> Result<(), Box<dyn AnyError>> {
+    let mut words = env::args().skip(1).peekable();
+    let is_rerun = words.next_if(|word| word == "--rerun").is_some();
+    let folder = PathBuf::from(words.next().ok_or(USAGE)?);
+    let messages = words.next().map(|word| word.parse()).transpose()?;
+    match messages {
+        Some(messages) if is_rerun => rerun(&folder, messages),
+        None if is_rerun => Err(USAGE.into()),
+        _ => keep(&folder, messages.unwrap_or(u64::MAX)),
+    }
+}
+
+/// Has the threads pass messages in the order of the folder's journal.
+fn rerun(folder: &Path, messages: u64) -> Result<(), Box<dyn AnyError>> {
+    let journal = BufReader::new(fs::File::open(folder.join("journal"))?);
+    // If a call isn't the journal's, `reran` says which.
+    let reran = Rerun::<Numbers>::read(journal)?.run(|board| drop(pass_all(board, messages)));
+    println!("{reran}");
+    if reran.is_followed() && reran.stops().is_empty() {
+        return Ok(());
+    }
+    Err("the journal is not that of such a run".into())
+}
+
+/// Passes messages, and keeps the journal in the folder.
+fn keep(folder: &Path, messages: u64) -> Result<(), Box<dyn AnyError>> {
+    let (mut file, board) = File::open(folder, PIECE)?;
     println!("goes on after {} entries", board.entries());
     let (pieces, taken) = sync_channel(WAITING);
     let writer = thread::spawn(move || taken.iter().try_for_each(|journal| file.keep(&journal)));
