@@ -1,7 +1,7 @@
 #!/bin/sh
-# Each link in a document leads to a file that is there, and to its heading if it names one. Each page of docs/ that a document, a
-# source or a script names is there. README has at most 1,000 words, docs/DECISIONS.md 5,000, all
-# documents together 45,000, and a sentence of README 25: `sh tests/links.sh`. The last line is `N passed, M failed`.
+# Each link in a document leads to a file that is there, and to a heading there if it names one. Each page of docs/ that a document, a
+# source or a script names is there. README has at most 1,000 words, docs/DECISIONS.md 5,000 and all documents together 45,000, and
+# a sentence of README has at most 25: `sh tests/links.sh`. The last line is `N passed, M failed`.
 . "$(dirname "$0")/lib/cases.sh"
 cd "$(dirname "$0")/.." || exit 1
 
