@@ -12,6 +12,9 @@ FROM = 100
 
 OPTIONS = ("--compact-from", FROM)
 
+# How often a follower tries to keep up.
+TRIES = 10
+
 
 class Short(Service):
     """Each test has its own stream. Client 9 asks."""
@@ -100,14 +103,23 @@ class Short(Service):
         self.end()
 
     def test_followed_all(self):
-        """A follower that reads each piece takes the short ones, and leads then."""
-        self.begin()
-        self.asks(1, 100)
-        self.servers[1].kill()
-        self.goes_on(2)
+        """A follower that reads each piece takes the short ones, and leads then.
+
+        On a machine that is too busy it may read a short piece before the one that came before it,
+        and begins anew. So there are some tries.
+        """
+        for number in range(TRIES):
+            self.stream, self.last = f"{self._testMethodName}_{number}", 0
+            self.begin()
+            self.asks(1, 100)
+            self.servers[1].kill()
+            self.goes_on(2)
+            began_anew = self.says(2, "begins anew")
+            self.end()
+            if not began_anew:
+                break
         with self.case("it read each piece"):
-            self.assertFalse(self.says(2, "begins anew"))
-        self.end()
+            self.assertFalse(began_anew)
 
     def test_away(self):
         """A follower is stopped while pieces are dropped, also with its connection broken."""
