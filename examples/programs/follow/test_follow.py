@@ -220,6 +220,9 @@ class Follow(Service):
         Each producer's are in order at each queue, and the journal has no other.
         """
         puts, received, last = set(), collections.Counter(), {}
+        for client in self.clients:
+            refused = [line for line in client.answers() if line.startswith("refused")]
+            self.holds(f"client {client.number} is not refused", not refused, refused[:3])
         for client in self.clients + [self.drained(queue) for queue in QUEUES]:
             if client.number in PLACES:
                 puts.update(
@@ -228,10 +231,11 @@ class Follow(Service):
                 continue
             words = [line.split()[1] for line in client.answers() if line.startswith("message ")]
             received.update(words)
-            for word in words:
+            for place, word in enumerate(words):
                 producer, number = word.split(".")
                 at = str(client.number)[-1], producer
-                self.assertGreater(int(number), last.get(at, 0), f"{word} is out of order")
+                where = f"client {client.number} has {word} at {place} of {len(words)}"
+                self.assertGreater(int(number), last.get(at, 0), where)
                 last[at] = int(number)
         journal = self.dump()
         kept = collections.Counter(
