@@ -3,7 +3,8 @@
 use crate::calls::received;
 use crate::entry::Who;
 use crate::error::Error;
-use crate::names::{Channel, Port};
+use crate::explore::Kind;
+use crate::names::{Channel, Object, Port};
 use crate::owned::Holds;
 use crate::raw::{self, code, written, Handle};
 use crate::room::{Carries, Room};
@@ -47,16 +48,19 @@ pub struct Feed<'a, R: Room, T, H: Holds<R> = &'a Switchboard<R>> {
 impl<R: Room, T, H: Holds<R>> Feed<'_, R, T, H> {
     /// Opens a feed at a switchboard.
     pub(crate) fn at(board: H, channel: Channel<T>, capacity: usize) -> Result<Self, Error> {
-        board.refuse_if_explored("feeds");
         let channel = board.here(channel)?;
-        let mut number = 0;
         let open = |room: &mut Handle| {
-            Handle::opened(|feed| {
+            let mut number = 0;
+            let feed = Handle::opened(|feed| {
                 raw::seryugo_feed_open(room, channel, capacity, feed, &mut number)
-            })
+            });
+            feed.map(|feed| (feed, number))
         };
-        let mut handle = board.open_feed(channel, |inside| inside.enter(open))?;
+        let open = || board.open_feed(channel, |inside| inside.enter(open));
+        let (mut handle, number) =
+            board.pass_by(Kind::OpenFeed.on(channel), open, |(_, number)| *number)?;
         let port = written(|port| raw::seryugo_feed_port(&mut handle, port))?;
+        board.lock().fed.insert(port);
         Ok(Feed {
             port: board.name(port),
             board,
@@ -118,7 +122,8 @@ impl<R: Room, T, H: Holds<R>> Feed<'_, R, T, H> {
     ///
     /// `JournalFull`, `NotKept` and `NoMemory`: nothing was received.
     pub fn pump(&mut self) -> Result<u64, Error> {
-        self.board.pump(self.number)
+        let pump = || self.board.pump(self.number);
+        self.board.pass_by(Kind::Pump.on(self.number), pump, |count| *count)
     }
 
     /// The next message that was pumped. It takes no lock.
@@ -144,6 +149,7 @@ impl<R: Room, T, H: Holds<R>> Feed<'_, R, T, H> {
     where
         R: Carries<T>,
     {
+        self.board.count_step(|| Kind::FeedRecv.on(self.number));
         let mut found = R::nothing();
         match R::feed_recv(&mut self.handle, &mut found) {
             code::NOTHING => Ok(None),
@@ -154,8 +160,12 @@ impl<R: Room, T, H: Holds<R>> Feed<'_, R, T, H> {
 
 impl<R: Room, T, H: Holds<R>> Drop for Feed<'_, R, T, H> {
     fn drop(&mut self) {
-        let number = self.number;
-        self.board.change(None, |inside| raw::seryugo_feed_end(&mut inside.handle, number));
+        let (number, port) = (self.number, self.port.number());
+        self.board.pass(Kind::EndFeed.on(number));
+        self.board.change(None, |inside| {
+            inside.fed.remove(&port);
+            raw::seryugo_feed_end(&mut inside.handle, number)
+        });
         self.board.leaves(Who::Feed(number));
     }
 }

@@ -7,12 +7,12 @@ use crate::journal::Journal;
 use crate::raw::{self, code, done, written, Handle};
 use crate::room::Room;
 use crate::when_full::{cut_behind, cut_short, journal_by, taken, Keeper, Start, Take, WhenFull};
-use std::collections::BTreeMap;
+use std::collections::{BTreeMap, BTreeSet};
 use std::io::{self, ErrorKind};
 use std::panic::{self, AssertUnwindSafe};
 
 /// A drain or a pump moves at most this many messages: no ring has room for more.
-const MOST_MOVED: u64 = 1024;
+pub(crate) const MOST_MOVED: u64 = 1024;
 
 /// What a call returns that isn't made, since nobody took the entries of the last full journal.
 pub(crate) trait Unkept {
@@ -59,6 +59,8 @@ pub(crate) struct Inside<R: Room> {
     moved: BTreeMap<u64, u64>,
     /// How many messages were lost with their lanes.
     lost: u64,
+    /// The ports of open feeds.
+    pub fed: BTreeSet<u64>,
 }
 
 impl<R: Room> Inside<R> {
@@ -79,6 +81,7 @@ impl<R: Room> Inside<R> {
             calls: 0,
             moved: BTreeMap::new(),
             lost: 0,
+            fed: BTreeSet::new(),
         }
     }
 

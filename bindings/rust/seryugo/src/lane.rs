@@ -1,7 +1,7 @@
 //! Lanes.
 
 use crate::error::{handing_back, Error, SendError};
-use crate::explore::RerunLane;
+use crate::explore::{Kind, RerunLane};
 use crate::names::Named;
 use crate::owned::Holds;
 use crate::raw::{self, done, Handle};
@@ -59,6 +59,8 @@ pub struct Lane<'a, R: Room, T, H: Holds<R> = &'a Switchboard<R>> {
 /// The ring on which a lane sends.
 enum Ring<R: Room> {
     Own(Handle),
+    /// The switchboard is explored.
+    Explored(Handle),
     /// The rerun of the switchboard has it.
     Rerun(Arc<RerunLane<R>>),
 }
@@ -66,10 +68,15 @@ enum Ring<R: Room> {
 impl<'a, R: Room, T, H: Holds<R>> Lane<'a, R, T, H> {
     /// Opens a lane at a switchboard.
     pub(crate) fn at(board: H, target: impl Named, capacity: usize) -> Result<Self, Error> {
-        board.refuse_if_explored("lanes");
         let target = board.here(target)?;
-        let (handle, number) = board.lock().open_lane(target, capacity)?;
-        let ring = board.lane_again(number, handle).map_or_else(Ring::Own, Ring::Rerun);
+        let open = || board.lock().open_lane(target, capacity);
+        let (handle, number) =
+            board.pass_by(Kind::OpenLane.on(target), open, |(_, number)| *number)?;
+        let ring = if board.is_explored() {
+            Ring::Explored(handle)
+        } else {
+            board.lane_again(number, handle).map_or_else(Ring::Own, Ring::Rerun)
+        };
         Ok(Lane {
             board,
             ring,
@@ -122,10 +129,24 @@ impl<'a, R: Room, T, H: Holds<R>> Lane<'a, R, T, H> {
     {
         let sent = match &mut self.ring {
             Ring::Own(lane) => done(R::with_sent(&message, |sent| R::lane_send(lane, sent))),
+            Ring::Explored(_) => self.send_explored(&message),
             Ring::Rerun(lane) => self.board.lane_sends(lane, R::kept(&message)),
         };
         self.sent += u64::from(sent.is_ok());
         handing_back(sent, message)
+    }
+
+    #[cold]
+    fn send_explored<M: SentAs<T>>(&mut self, message: &M) -> Result<(), Error>
+    where
+        R: Carries<T>,
+    {
+        let step = Kind::LaneSend.on(self.number);
+        let Ring::Explored(lane) = &mut self.ring else {
+            return Ok(());
+        };
+        let send = || done(R::with_sent(message, |sent| R::lane_send(lane, sent)));
+        self.board.pass_by(step, send, |()| 0)
     }
 
     /// Moves what was sent into the journal, under the lock: how many messages.
@@ -146,7 +167,7 @@ impl<'a, R: Room, T, H: Holds<R>> Lane<'a, R, T, H> {
     /// `JournalFull`, `NotKept` and `NoMemory`: no message has moved.
     pub fn drain(&mut self) -> Result<u64, Error> {
         match &self.ring {
-            Ring::Own(_) => self.board.drain(self.number),
+            Ring::Own(_) | Ring::Explored(_) => self.board.drain(self.number),
             Ring::Rerun(lane) => self.board.lane_drains(lane),
         }
     }
@@ -178,7 +199,7 @@ impl<'a, R: Room, T, H: Holds<R>> Lane<'a, R, T, H> {
     /// [`cut_open`](Switchboard::cut_open), and close the lane again.
     #[must_use = "a lane that wasn't closed loses messages when it is dropped"]
     pub fn close(mut self) -> Result<(), UnclosedLane<'a, R, T, H>> {
-        if let Ring::Own(lane) = &mut self.ring {
+        if let Ring::Own(lane) | Ring::Explored(lane) = &mut self.ring {
             // A lane that is open on both sides can be ended.
             raw::seryugo_lane_finish(lane);
         }
@@ -186,10 +207,12 @@ impl<'a, R: Room, T, H: Holds<R>> Lane<'a, R, T, H> {
     }
 
     fn close_finished(mut self) -> Result<(), UnclosedLane<'a, R, T, H>> {
-        let closed = match &mut self.ring {
-            Ring::Own(lane) => self.board.close_lane(self.number, lane),
-            Ring::Rerun(lane) => self.board.lane_closes(lane),
+        let (board, number) = (&self.board, self.number);
+        let close = || match &mut self.ring {
+            Ring::Own(lane) | Ring::Explored(lane) => board.close_lane(number, lane),
+            Ring::Rerun(lane) => board.lane_closes(lane),
         };
+        let closed = board.pass_by(Kind::CloseLane.on(number), close, |()| 0);
         match closed {
             Ok(()) => {
                 self.is_closed = true;
@@ -201,10 +224,12 @@ impl<'a, R: Room, T, H: Holds<R>> Lane<'a, R, T, H> {
 
     fn end(&mut self) -> u64 {
         self.is_closed = true;
-        match &self.ring {
-            Ring::Own(_) => self.board.end_lane(self.number, self.sent),
-            Ring::Rerun(lane) => self.board.lane_ends(lane, self.sent),
-        }
+        let end = || match &self.ring {
+            Ring::Own(_) | Ring::Explored(_) => Ok(self.board.end_lane(self.number, self.sent)),
+            Ring::Rerun(lane) => Ok(self.board.lane_ends(lane, self.sent)),
+        };
+        let lost = self.board.pass_by(Kind::CloseLane.on(self.number), end, |lost| *lost);
+        lost.unwrap_or_default()
     }
 }
 

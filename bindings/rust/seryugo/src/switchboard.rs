@@ -2,7 +2,7 @@
 
 use crate::apart::Apart;
 use crate::error::Error;
-use crate::explore::Conductor;
+use crate::explore::{Conductor, Kind};
 use crate::feed::Feed;
 use crate::inside::Inside;
 use crate::kind::Missing;
@@ -197,10 +197,11 @@ impl<R: Room> Switchboard<R> {
     /// `NoSuch`: no open lane has this number. `JournalFull`, `NotKept` and `NoMemory`: no message
     /// has moved.
     pub fn drain(&self, lane: u64) -> Result<u64, Error> {
-        let drained = match self.follower() {
+        let drain = || match self.follower() {
             None => self.change(None, |inside| inside.drain(lane)),
             Some(follower) => self.drained_again(follower, lane),
         };
+        let drained = self.pass_by(Kind::Drain.on(lane), drain, |count| *count);
         drained.map_err(|error| error.missing(Missing::Lane(lane)))
     }
 
@@ -227,6 +228,7 @@ impl<R: Room> Switchboard<R> {
     /// # Ok::<(), seryugo::Error>(())
     /// ```
     pub fn lost(&self) -> u64 {
+        self.pass_to_look_at_all();
         self.lock().lost()
     }
 

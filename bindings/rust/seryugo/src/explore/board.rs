@@ -50,7 +50,9 @@ pub(crate) trait Board: Send + Sync {
 
 impl<R: Room> Board for Switchboard<R> {
     fn look(&self, step: Step) -> Look {
-        let room = &mut self.lock().handle;
+        let mut inside = self.lock();
+        let is_fed = step.kind == Kind::Recv && inside.fed.contains(&step.object);
+        let room = &mut inside.handle;
         let is_full = match step.kind {
             Kind::Send => is_owed(room, step.object),
             Kind::Recv | Kind::Poll => {
@@ -63,7 +65,8 @@ impl<R: Room> Board for Switchboard<R> {
             _ => false,
         };
         Look {
-            is_answered: is_full || !step.kind.blocks(),
+            // A port that a feed has refuses the call.
+            is_answered: is_full || is_fed || !step.kind.blocks(),
             is_full,
         }
     }

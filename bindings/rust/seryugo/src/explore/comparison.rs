@@ -4,6 +4,8 @@
 //! An outcome is what each seat has called and was answered, in its order, and how the run ended.
 //! `SERYUGO_PROGRAMS=10000 cargo test --release --lib comparison` compares this many programs.
 
+mod rings;
+
 use super::board::{sum_of, Pass};
 use super::choose::{mix, Random};
 use super::end::End;
@@ -13,13 +15,13 @@ use super::step::{Kind, Step};
 use super::way::Way;
 use super::worker::Slot;
 use crate::calls::Calls;
-use crate::entry::Who;
 use crate::names::{Channel, IVar, MVar, Mailbox, Object, Port};
 use crate::owned::OwnedSeat;
 use crate::raw::{self, written};
 use crate::room::Numbers;
 use crate::switchboard::Switchboard;
-use std::collections::BTreeSet;
+use rings::{Rings, FIRST_RING};
+use std::collections::{BTreeMap, BTreeSet};
 use std::env;
 use std::ops::Range;
 use std::sync::Arc;
@@ -155,6 +157,8 @@ struct Played<'p> {
     board: Board,
     seats: Vec<OwnedSeat<Numbers>>,
     of: Objects,
+    /// What lanes and feeds each thread has, if the program has some.
+    rings: Vec<Rings>,
     /// How many calls each thread has made, and what it has seen.
     made: Vec<usize>,
     seen: Vec<u64>,
@@ -167,11 +171,12 @@ struct Played<'p> {
 impl Played<'_> {
     fn new(plan: &Plan, is_timed: bool) -> Played<'_> {
         let board = Arc::new(Switchboard::of_numbers(1_000).unwrap());
-        let mut main = board.seat_owned().unwrap();
+        let of = objects(&mut board.seat_owned().unwrap());
         Played {
             plan,
             is_timed,
-            of: objects(&mut main),
+            of,
+            rings: rings::of(&board, plan, of),
             seats: plan.iter().map(|_| board.seat_owned().unwrap()).collect(),
             board,
             made: vec![0; plan.len()],
@@ -197,7 +202,10 @@ impl Played<'_> {
             }
             let thread = task - 1;
             if std::mem::replace(&mut has_come[thread], true) {
-                self.go(thread, state.tasks[task].pass);
+                let answer = self.go(thread, state.tasks[task].pass);
+                if let Some(answer) = answer {
+                    state.saw(task, answer);
+                }
             }
             match self.plan[thread].get(self.made[thread]) {
                 Some(kind) => {
@@ -205,7 +213,11 @@ impl Played<'_> {
                     let seat = self.seats[thread].number();
                     // Every other thread waits with a time limit.
                     let is_timed = self.is_timed && thread % 2 == 0;
-                    state.arrive(task, seat, step(kind, self.of), is_timed);
+                    let step = match self.rings.get(thread) {
+                        Some(rings) if kind >= FIRST_RING => rings.step(kind),
+                        _ => step(kind, self.of),
+                    };
+                    state.arrive(task, seat, step, is_timed);
                 }
                 None => state.finish(task),
             }
@@ -219,41 +231,49 @@ impl Played<'_> {
         self.at[thread]
     }
 
-    fn go(&mut self, thread: usize, pass: Pass) {
+    /// Makes the call that the thread is at. Returns what was answered, if that has no entry.
+    fn go(&mut self, thread: usize, pass: Pass) -> Option<u64> {
         let (at, kind) = (self.made[thread], self.at[thread]);
         self.flag |= (FLAGS..BY_FLAG).contains(&self.plan[thread][at]);
         self.made[thread] += 1;
         if pass != Pass::Go {
             self.seen[thread] = mix(self.seen[thread], at as u64 + 1);
+        } else if kind >= FIRST_RING {
+            let (board, seat) = (&self.board, &mut self.seats[thread]);
+            let (saw, seen) = self.rings[thread].call(board, seat, kind, message(thread, at));
+            self.seen[thread] = mix(self.seen[thread], seen);
+            return saw;
         } else if kind >= FIRST_LOOK {
             self.seen[thread] = mix(self.seen[thread], look(&self.board, kind, self.of));
         } else {
             call(&mut self.seats[thread], kind, self.of, message(thread, at));
         }
+        None
     }
 
     /// What each seat has called and was answered, each thread has seen, and is left, as one number.
-    fn outcome(&self, is_done: bool) -> u64 {
-        let mut seats = vec![0; self.plan.len() + 2];
+    fn outcome(&mut self, is_done: bool) -> u64 {
+        let mut callers = BTreeMap::new();
         self.leave();
         let entries = (0..).map_while(|at| Numbers::entry(&mut self.board.lock().handle, at).ok());
         for entry in entries {
-            let Who::Seat(seat) = entry.who else {
-                panic!("{entry:?}")
-            };
-            let seat = &mut seats[seat as usize];
-            *seat = mix(*seat, mix(sum_of(&entry.call), sum_of(&entry.reply)));
+            let caller = callers.entry(entry.who).or_default();
+            *caller = mix(*caller, mix(sum_of(&entry.call), sum_of(&entry.reply)));
         }
+        let callers = callers.iter().map(|(who, sum)| mix(sum_of(who), *sum));
         // Where a port begins is seen by nobody who doesn't receive from it.
         let starts = (self.first_made()..).map_while(|port| {
             written(|start| raw::seryugo_start_of(&mut self.board.lock().handle, port, start)).ok()
         });
-        seats.iter().chain(&self.seen).copied().chain(starts).fold(u64::from(is_done), mix)
+        callers.chain(self.seen.iter().copied()).chain(starts).fold(u64::from(is_done), mix)
     }
 
     /// Receives what is left.
-    fn leave(&self) {
+    fn leave(&mut self) {
         let mut seat = self.board.seat_owned().unwrap();
+        for rings in std::mem::take(&mut self.rings) {
+            rings.leave(&mut seat);
+        }
         while seat.recv_poll(self.of.mailbox).unwrap().is_some() {}
         while seat.recv_poll(self.of.port).unwrap().is_some() {}
         while seat.recv_poll(self.of.other_port).unwrap().is_some() {}
@@ -296,7 +316,12 @@ fn all_outcomes(way: &Way, plan: &Plan, is_timed: bool) -> (BTreeSet<u64>, u64, 
 }
 
 /// Compares programs with these numbers: how many runs there were, plainly and not.
-fn compare(numbers: Range<u64>, is_timed: bool, change: impl Fn(Way) -> Way) -> (u64, u64) {
+fn compare(
+    numbers: Range<u64>,
+    plan: impl Fn(u64) -> Plan,
+    is_timed: bool,
+    change: impl Fn(Way) -> Way,
+) -> (u64, u64) {
     let mut all = (0, 0);
     for number in numbers {
         let plan = plan(number);
@@ -324,7 +349,7 @@ fn programs() -> u64 {
 #[test]
 fn sleep_sets_leave_out_no_outcome() {
     let count = programs();
-    let (plain, slept) = compare(0..count, false, |way| way);
+    let (plain, slept) = compare(0..count, plan, false, |way| way);
     println!("{count} programs: {plain} runs of every order, and {slept} with sleep sets");
     assert!(slept < plain);
 }
@@ -332,9 +357,21 @@ fn sleep_sets_leave_out_no_outcome() {
 #[test]
 fn nor_if_calls_end_by_a_time_limit_or_as_stalled() {
     let numbers = 100_000..100_000 + programs() / 4;
-    let (plain, slept) = compare(numbers.clone(), true, |way| way);
+    let (plain, slept) = compare(numbers.clone(), plan, true, |way| way);
     assert!(slept < plain);
-    let (plain, slept) = compare(numbers, false, Way::stalls_are_told);
+    let (plain, slept) = compare(numbers, plan, false, Way::stalls_are_told);
+    assert!(slept < plain);
+}
+
+#[test]
+fn nor_with_lanes_and_feeds() {
+    let numbers = 300_000..300_000 + programs() / 12;
+    let (plain, slept) = compare(numbers.clone(), rings::plan, false, |way| way);
+    println!("{plain} runs of every order, and {slept} with sleep sets");
+    assert!(slept < plain);
+    let (plain, slept) = compare(numbers.clone(), rings::plan, true, |way| way);
+    assert!(slept < plain);
+    let (plain, slept) = compare(numbers, rings::plan, false, Way::stalls_are_told);
     assert!(slept < plain);
 }
 
@@ -370,8 +407,8 @@ fn what_threads_share_beside_the_board_is_mostly_seen() {
 /// Threads have as many runs, and end as often by a stall, as if one thread plays them.
 #[test]
 fn threads_do_as_they_are_played() {
-    for number in 0..programs() / 20 {
-        let plan = plan(number);
+    let count = programs() / 20;
+    for plan in (0..count).map(plan).chain((0..count).map(rings::plan)) {
         let mut state = State::new(Way::every().chooser(), Way::every().limits);
         let explorer = Explorer::new(Way::every());
         let program = |board: &Board| run_threads(board, &plan);
@@ -391,15 +428,19 @@ fn threads_do_as_they_are_played() {
 
 fn run_threads(board: &Board, plan: &Plan) {
     let of = objects(&mut board.seat_owned().unwrap());
+    let mut rings: Vec<_> = rings::of(board, plan, of).into_iter().map(Some).collect();
+    rings.resize_with(plan.len(), || None);
     super::scope(|threads| {
-        for (thread, calls) in plan.iter().enumerate() {
+        for (thread, (calls, rings)) in plan.iter().zip(&mut rings).enumerate() {
             let mut seat = board.seat_owned().unwrap();
             threads.spawn(move || {
                 for (at, kind) in calls.iter().enumerate() {
-                    if *kind >= FIRST_LOOK {
-                        look(board, *kind, of);
-                    } else {
-                        call(&mut seat, *kind, of, message(thread, at));
+                    match rings {
+                        Some(rings) if *kind >= FIRST_RING => {
+                            rings.call(board, &mut seat, *kind, message(thread, at));
+                        }
+                        _ if *kind >= FIRST_LOOK => drop(look(board, *kind, of)),
+                        _ => call(&mut seat, *kind, of, message(thread, at)),
                     }
                 }
             });

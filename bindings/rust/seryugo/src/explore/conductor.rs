@@ -113,24 +113,41 @@ impl<R: Room> Switchboard<R> {
         self.pass(Kind::LookAtAll.on(NONE));
     }
 
-    /// In an exploration this waits until it is this thread's turn. Otherwise it is a branch.
+    /// Before a step that no seat makes. In an exploration this waits until it is this thread's
+    /// turn. Otherwise it is a branch.
     #[inline]
-    fn pass(&self, step: Step) {
+    pub(crate) fn pass(&self, step: Step) {
         if let Some(Conductor::Exploration(play)) = &self.conductor {
             play.pass(self, NONE, step, false);
         }
     }
 
-    /// Before what an exploration doesn't know.
-    ///
-    /// # Panics
-    ///
-    /// In an exploration.
+    /// Makes such a step by this call. This number of its answer has no entry.
     #[inline]
-    pub(crate) fn refuse_if_explored(&self, what: &str) {
-        if let Some(Conductor::Exploration(_)) = &self.conductor {
-            refuse("an exploration", what);
+    pub(crate) fn pass_by<T>(
+        &self,
+        step: Step,
+        call: impl FnOnce() -> Result<T, Error>,
+        number: impl FnOnce(&T) -> u64,
+    ) -> Result<T, Error> {
+        self.pass(step);
+        let answer = call();
+        if let Some(Conductor::Exploration(play)) = &self.conductor {
+            play.saw(self, answer.as_ref().map_or(NONE, number));
         }
+        answer
+    }
+
+    /// Before a step that no other thread sees. In an exploration it is counted.
+    #[inline]
+    pub(crate) fn count_step(&self, step: impl FnOnce() -> Step) {
+        if let Some(Conductor::Exploration(play)) = &self.conductor {
+            play.count(self, step());
+        }
+    }
+
+    pub(crate) fn is_explored(&self) -> bool {
+        matches!(self.conductor, Some(Conductor::Exploration(_)))
     }
 
     /// Before what neither an exploration nor a rerun knows.
@@ -140,9 +157,10 @@ impl<R: Room> Switchboard<R> {
     /// In one of them.
     #[inline]
     pub(crate) fn refuse_if_conducted(&self, what: &str) {
-        self.refuse_if_explored(what);
-        if self.conductor.is_some() {
-            refuse("a rerun", what);
+        match &self.conductor {
+            None => (),
+            Some(Conductor::Exploration(_)) => refuse("an exploration", what),
+            Some(Conductor::Rerun(_)) => refuse("a rerun", what),
         }
     }
 

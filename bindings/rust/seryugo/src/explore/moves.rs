@@ -33,11 +33,16 @@ impl Move {
             return false;
         }
         let (one, two) = (self.step.kind, other.step.kind);
+        let is_apart = one != two || self.step.object != other.step.object;
         if one == Kind::Aside || two == Kind::Aside {
-            return one != two || self.step.object != other.step.object;
+            return is_apart;
         }
-        if one == Kind::LookAtAll || two == Kind::LookAtAll {
+        if one.is_on_all() || two.is_on_all() {
             return false;
+        }
+        // Until it moves, only what is on its lane meets it.
+        if one == Kind::LaneSend || two == Kind::LaneSend {
+            return is_apart;
         }
         // Objects are numbered in the order in which they are made, and a program sees the numbers.
         if one.is_maker() && two.is_maker() {

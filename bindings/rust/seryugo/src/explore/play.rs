@@ -4,7 +4,7 @@ use super::board::{Board, Pass};
 use super::end::End;
 use super::panics::said;
 use super::state::{At, Joins, State, Watched};
-use super::step::Step;
+use super::step::{Step, NONE};
 use super::worker::{was_stopped, Ended, Job, Worker};
 use std::any::Any;
 use std::cell::RefCell;
@@ -101,14 +101,7 @@ impl Play {
             // The switchboard's run is over, and it is one as any other.
             return Pass::Go;
         }
-        let task = self.task();
-        if task.is_none() {
-            state.stop(End::UnknownThread(format!(
-                "seat {seat} calls {step} from a thread that the exploration doesn't know: start \
-                 threads by `explore::scope`"
-            )));
-        }
-        if let Some(task) = task.filter(|_| state.end.is_none()) {
+        if let Some(task) = self.task_in(&mut state, seat, step) {
             state.arrive(task, seat, step, is_timed);
             state = self.hand_over(state, task);
             if state.end.is_none() {
@@ -117,6 +110,49 @@ impl Play {
         }
         drop(state);
         unwind(board, step)
+    }
+
+    /// The number of the thread that runs this. `None`: the run is stopped, also since the thread
+    /// isn't one of this exploration.
+    fn task_in(&self, state: &mut State, seat: u64, step: Step) -> Option<usize> {
+        let task = self.task();
+        if task.is_none() {
+            let who = match seat {
+                NONE => "a thread".to_string(),
+                seat => format!("seat {seat}"),
+            };
+            state.stop(End::UnknownThread(format!(
+                "{who} calls {step} from a thread that the exploration doesn't know: start threads \
+                 by `explore::scope`"
+            )));
+        }
+        task.filter(|_| state.end.is_none())
+    }
+
+    /// The calling thread's last step was answered by this, which has no entry.
+    #[cold]
+    pub fn saw(&self, board: &dyn Board, answer: u64) {
+        let mut state = self.lock();
+        if let Some(task) = self.task().filter(|_| state.is_on(board) && state.end.is_none()) {
+            state.saw(task, answer);
+        }
+    }
+
+    /// The calling thread makes a step that no other one sees.
+    #[cold]
+    pub fn count(&self, board: &dyn Board, step: Step) {
+        let mut state = self.lock();
+        if !state.is_on(board) {
+            return;
+        }
+        if let Some(task) = self.task_in(&mut state, NONE, step) {
+            match state.count(task, step) {
+                Ok(()) => return,
+                Err(end) => state.stop(end),
+            }
+        }
+        drop(state);
+        unwind(board, step);
     }
 
     /// Gives the turn away, and returns once this thread has it again.

@@ -1,21 +1,21 @@
 //! Where a run is: its threads, and whose turn it is.
 
 use super::board::{sum_of, Board, Look, Pass};
-use super::choose::{mix, Chooser};
+use super::choose::Chooser;
 use super::end::End;
-use super::history::{self, Done, History};
+use super::history::{Done, History};
 use super::moves::{By, Move};
 use super::schedule::Choice;
 use super::step::{Kind, Step, NONE};
-use super::tree::Tree;
 use super::worker::{Slot, Worker};
+use crate::inside::MOST_MOVED;
 use std::collections::VecDeque;
-use std::fmt;
 use std::ptr;
 use std::sync::Arc;
 use std::time::Instant;
 
 mod ending;
+mod notes;
 
 /// What a thread joins: the threads of a scope, or one.
 #[derive(Clone, Copy, PartialEq)]
@@ -71,6 +71,8 @@ pub(crate) struct State {
     /// Whose turn it is.
     pub current: usize,
     pub steps: u64,
+    /// The journal has had no more entries than this.
+    most_entries: u64,
     /// The choices of the run that had more than one way.
     pub choices: Vec<Choice>,
     /// The last steps of the run.
@@ -119,6 +121,7 @@ impl State {
             tasks: Vec::new(),
             current: 0,
             steps: 0,
+            most_entries: 0,
             choices: Vec::new(),
             last: VecDeque::new(),
             end: None,
@@ -141,7 +144,7 @@ impl State {
         self.tasks.clear();
         self.choices.clear();
         self.last.clear();
-        (self.current, self.steps, self.scopes) = (0, 0, 0);
+        (self.current, self.steps, self.scopes, self.most_entries) = (0, 0, 0, 0);
         (self.end, self.text) = (None, String::new());
         self.add(Arc::clone(main), 0);
         self.tasks[0].at = At::Running;
@@ -203,67 +206,14 @@ impl State {
         self.tasks[task].at = At::End;
     }
 
-    fn is_checked(&self) -> bool {
-        self.chooser.tree().is_some_and(Tree::sleeps)
-    }
-
-    /// Notes how the thread's last step was answered.
-    fn settle(&mut self, number: usize) {
-        let is_checked = self.is_checked();
-        let task = &mut self.tasks[number];
-        if !std::mem::take(&mut task.has_stepped) || !is_checked {
-            return;
+    /// A thread makes a step that only itself sees. `Err`: there were too many steps.
+    pub fn count(&mut self, task: usize, step: Step) -> Result<(), End> {
+        self.steps += 1;
+        if self.steps <= self.limits.steps {
+            return Ok(());
         }
-        let (step, pass, entries) = (task.step, task.pass, task.entries);
-        let mut done = task.done;
-        let board = self.board.as_ref().filter(|_| step.kind.has_entry());
-        let sums = board.and_then(|board| board.entry_sums(entries));
-        let is_same = if let Some((call, reply)) = sums {
-            self.history.made(&mut done, call, reply)
-        } else {
-            self.history.went(&mut done, sum_of(&step), pass as u64);
-            true
-        };
-        self.see(&mut done, step);
-        self.tasks[number].done = done;
-        self.note(number, is_same, &format_args!("another message by {step}"));
-    }
-
-    /// Notes what a step saw that has no entry, and what it may have changed.
-    fn see(&mut self, done: &mut Done, step: Step) {
-        let thing = mix(step.object, u64::from(step.kind == Kind::Aside));
-        match step.kind {
-            Kind::LookAtAll => self.history.saw_all(done),
-            Kind::Look => match self.board.as_ref().and_then(|board| board.counts(step.object)) {
-                Some(counts) => history::saw(done, counts),
-                None => self.history.saw(done, thing),
-            },
-            Kind::Aside => {
-                self.history.saw(done, thing);
-                self.history.changed(*done, thing);
-            }
-            Kind::Put | Kind::Take | Kind::TakePoll | Kind::Swap => {
-                self.history.changed(*done, thing);
-            }
-            _ => (),
-        }
-    }
-
-    fn note_next(&mut self, task: usize, next: u64, to: &dyn fmt::Display) {
-        if self.is_checked() {
-            let is_same = self.history.is_next(self.tasks[task].done, next);
-            self.note(task, is_same, to);
-        }
-    }
-
-    fn note(&mut self, task: usize, is_same: bool, to: &dyn fmt::Display) {
-        if !is_same && self.beside.is_none() {
-            self.beside = Some(format!(
-                "threads share something beside the board, or the program isn't deterministic: in \
-                 two runs thread {task} got the same replies, and went on differently, in one to \
-                 {to}"
-            ));
-        }
+        self.last.push_back((task, NONE, step));
+        Err(self.endless())
     }
 }
 
@@ -346,8 +296,12 @@ impl State {
         if self.last.len() == LAST {
             self.last.pop_front();
         }
-        // There are no more entries than steps.
-        let needs_entries = self.is_checked() || self.steps > self.limits.entries;
+        self.most_entries += if chosen.step.kind.moves_many() {
+            MOST_MOVED
+        } else {
+            1
+        };
+        let needs_entries = self.is_checked() || self.most_entries > self.limits.entries;
         let board = self.board.as_ref().filter(|_| needs_entries);
         let entries = board.map_or((0, 0), |board| board.entries());
         let task = &mut self.tasks[chosen.task];
@@ -360,7 +314,7 @@ impl State {
             By::Stall => Pass::Stalled,
         };
         let is_full = entries.1 >= self.limits.entries && chosen.by == By::Step;
-        if is_full && chosen.step.kind.has_entry() {
+        if is_full && (chosen.step.kind.has_entry() || chosen.step.kind.moves_many()) {
             return Err(End::Full);
         }
         Ok(())
@@ -403,9 +357,10 @@ impl State {
     /// Looks anew at the objects that the last step may have changed.
     fn look(&mut self) {
         let Some(board) = &self.board else { return };
-        let changed = self.last.back().map_or(NONE, |last| last.2.object);
+        let last = self.last.back().map_or(Kind::Aside.on(NONE), |last| last.2);
+        let (changed, is_all) = (last.object, last.kind.is_on_all());
         for task in self.tasks.iter_mut().filter(|task| task.at == At::Step) {
-            let is_old = changed == task.step.object || changed == task.channel;
+            let is_old = is_all || changed == task.step.object || changed == task.channel;
             if is_old || task.look.is_none() {
                 task.look = Some(board.look(task.step));
             }

@@ -35,6 +35,22 @@ pub(crate) enum Kind {
     LookAtAll,
     /// Uses what lies beside the board under this number.
     Aside,
+    /// Opens a lane to this object.
+    OpenLane,
+    /// Sends on the lane of this number.
+    LaneSend,
+    /// Moves what was sent on the lane of this number.
+    Drain,
+    /// Ends the lane of this number.
+    CloseLane,
+    /// Opens a feed of this channel.
+    OpenFeed,
+    /// Receives what the feed of this number is owed.
+    Pump,
+    /// Takes what the feed of this number has received.
+    FeedRecv,
+    /// Ends the feed of this number.
+    EndFeed,
 }
 
 impl Kind {
@@ -57,9 +73,22 @@ impl Kind {
         matches!(self, Kind::Recv | Kind::Get | Kind::Take | Kind::Swap)
     }
 
-    /// Whether an accepted call of this kind has an entry in the journal.
+    /// Whether an accepted call of this kind has one entry in the journal.
     pub fn has_entry(self) -> bool {
-        !matches!(self, Kind::Look | Kind::LookAtAll | Kind::Aside)
+        use Kind::{Aside, FeedRecv, LaneSend, Look, LookAtAll, OpenLane};
+        let has_none = matches!(self, Look | LookAtAll | Aside | OpenLane | LaneSend | FeedRecv);
+        !has_none && !self.moves_many() && self != Kind::EndFeed
+    }
+
+    /// Whether it may have an entry for each of many messages.
+    pub fn moves_many(self) -> bool {
+        matches!(self, Kind::Drain | Kind::CloseLane | Kind::Pump)
+    }
+
+    /// Whether it may change or see anything on the board, so that it commutes with nothing there.
+    pub fn is_on_all(self) -> bool {
+        use Kind::{EndFeed, LookAtAll, OpenFeed, OpenLane};
+        self.moves_many() || matches!(self, LookAtAll | OpenLane | OpenFeed | EndFeed)
     }
 
     fn word(self) -> &'static str {
@@ -84,11 +113,19 @@ impl Kind {
             Kind::Look => "a look at",
             Kind::LookAtAll => "a look at the journal",
             Kind::Aside => "aside",
+            Kind::OpenLane => "open_lane",
+            Kind::LaneSend => "lane.send",
+            Kind::Drain => "drain",
+            Kind::CloseLane => "close_lane",
+            Kind::OpenFeed => "open_feed",
+            Kind::Pump => "pump",
+            Kind::FeedRecv => "feed.recv",
+            Kind::EndFeed => "end_feed",
         }
     }
 }
 
-/// A kind of step, with the number of its object.
+/// A kind of step, with the number of its object, or of its lane or feed.
 #[derive(Clone, Copy, PartialEq, Eq, Hash, Debug)]
 pub(crate) struct Step {
     pub kind: Kind,

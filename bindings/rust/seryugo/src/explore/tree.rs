@@ -75,7 +75,10 @@ impl Tree {
     /// Which of these moves is made. The first is that of the thread that went on last, if it can.
     pub fn choose(&mut self, moves: Vec<Move>, last: usize) -> Result<Move, Astray> {
         if self.is_repeat {
-            let any = self.random.below(moves.len() as u64) as usize;
+            let any = match moves.len() {
+                1 => 0,
+                ways => self.random.below(ways as u64) as usize,
+            };
             return Ok(moves[any]);
         }
         let chosen = match self.nodes.get(self.depth) {
