@@ -4,7 +4,7 @@ use crate::calls::received;
 use crate::entry::Who;
 use crate::error::Error;
 use crate::explore::Kind;
-use crate::names::{Channel, Object, Port};
+use crate::names::{Channel, Port};
 use crate::owned::Holds;
 use crate::raw::{self, code, written, Handle};
 use crate::room::{Carries, Room};
@@ -60,7 +60,7 @@ impl<R: Room, T, H: Holds<R>> Feed<'_, R, T, H> {
         let (mut handle, number) =
             board.pass_by(Kind::OpenFeed.on(channel), open, |(_, number)| *number)?;
         let port = written(|port| raw::seryugo_feed_port(&mut handle, port))?;
-        board.lock().fed.insert(port);
+        board.lock().fed.insert(number, port);
         Ok(Feed {
             port: board.name(port),
             board,
@@ -160,10 +160,10 @@ impl<R: Room, T, H: Holds<R>> Feed<'_, R, T, H> {
 
 impl<R: Room, T, H: Holds<R>> Drop for Feed<'_, R, T, H> {
     fn drop(&mut self) {
-        let (number, port) = (self.number, self.port.number());
+        let number = self.number;
         self.board.pass(Kind::EndFeed.on(number));
         self.board.change(None, |inside| {
-            inside.fed.remove(&port);
+            inside.fed.remove(&number);
             raw::seryugo_feed_end(&mut inside.handle, number)
         });
         self.board.leaves(Who::Feed(number));

@@ -7,7 +7,7 @@ use crate::journal::Journal;
 use crate::raw::{self, code, done, written, Handle};
 use crate::room::Room;
 use crate::when_full::{cut_behind, cut_short, journal_by, taken, Keeper, Start, Take, WhenFull};
-use std::collections::{BTreeMap, BTreeSet};
+use std::collections::BTreeMap;
 use std::io::{self, ErrorKind};
 use std::panic::{self, AssertUnwindSafe};
 
@@ -29,6 +29,14 @@ impl<T> Unkept for Result<T, Error> {
     fn unkept() -> Result<T, Error> {
         Err(Error::NotKept)
     }
+}
+
+/// A lane that is open.
+pub(crate) struct OpenLane {
+    /// The object to which it sends.
+    pub target: u64,
+    /// How many of its messages have moved.
+    moved: u64,
 }
 
 /// What the lock guards.
@@ -55,12 +63,12 @@ pub(crate) struct Inside<R: Room> {
     parked: u64,
     /// How many calls were made that may park a seat or make one due.
     calls: u64,
-    /// How many messages of each open lane have moved, by the lane's number.
-    moved: BTreeMap<u64, u64>,
+    /// The open lanes, by their numbers.
+    pub lanes: BTreeMap<u64, OpenLane>,
     /// How many messages were lost with their lanes.
     lost: u64,
-    /// The ports of open feeds.
-    pub fed: BTreeSet<u64>,
+    /// The ports of the open feeds, by the feeds' numbers.
+    pub fed: BTreeMap<u64, u64>,
 }
 
 impl<R: Room> Inside<R> {
@@ -79,9 +87,9 @@ impl<R: Room> Inside<R> {
             free_answers: Vec::new(),
             parked: 0,
             calls: 0,
-            moved: BTreeMap::new(),
+            lanes: BTreeMap::new(),
             lost: 0,
-            fed: BTreeSet::new(),
+            fed: BTreeMap::new(),
         }
     }
 
@@ -222,7 +230,7 @@ impl<R: Room> Inside<R> {
         let lane = Handle::opened(|lane| {
             raw::seryugo_lane_open(&mut self.handle, target, capacity, lane, &mut number)
         })?;
-        self.moved.insert(number, 0);
+        self.lanes.insert(number, OpenLane { target, moved: 0 });
         Ok((lane, number))
     }
 
@@ -319,8 +327,9 @@ impl<R: Room> Inside<R> {
     }
 
     fn note_moved(&mut self, lane: u64, count: u64) {
-        let moved = self.moved.entry(lane).or_default();
-        *moved = moved.saturating_add(count);
+        if let Some(lane) = self.lanes.get_mut(&lane) {
+            lane.moved = lane.moved.saturating_add(count);
+        }
     }
 
     /// Receives what a feed is owed, up to the first message that is refused.
@@ -367,7 +376,7 @@ impl<R: Room> Inside<R> {
     pub fn close_lane(&mut self, number: u64, lane: &mut Handle) -> Result<(), Error> {
         self.drain_all(number)?;
         done(raw::seryugo_lane_close(&mut self.handle, lane))?;
-        self.moved.remove(&number);
+        self.lanes.remove(&number);
         Ok(())
     }
 
@@ -382,7 +391,8 @@ impl<R: Room> Inside<R> {
             while self.drain_unkept(lane).is_ok_and(|count| count != 0) {}
         }
         raw::seryugo_lane_abandon(&mut self.handle, lane);
-        let lost = sent.saturating_sub(self.moved.remove(&lane).unwrap_or_default());
+        let moved = self.lanes.remove(&lane).map_or(0, |lane| lane.moved);
+        let lost = sent.saturating_sub(moved);
         self.lost = self.lost.saturating_add(lost);
         lost
     }

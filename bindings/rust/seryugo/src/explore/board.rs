@@ -4,6 +4,7 @@ use super::moves::Move;
 use super::step::{Kind, Step, NONE};
 use crate::calls::Read;
 use crate::entry::Entry;
+use crate::kind;
 use crate::objects::Reader;
 use crate::raw::{self, code, written, Handle};
 use crate::room::Room;
@@ -33,6 +34,8 @@ pub(crate) struct Look {
 /// A switchboard of some kind that is explored.
 pub(crate) trait Board: Send + Sync {
     fn look(&self, step: Step) -> Look;
+    /// What this step does to objects, as a step on one of them: a drain sends, a pump receives.
+    fn as_if(&self, step: Step) -> Step;
     /// The channel of this port, or `NONE`.
     fn channel(&self, port: u64) -> u64;
     /// All that a look at this object sees, as a number. `None`: it is a variable.
@@ -51,7 +54,8 @@ pub(crate) trait Board: Send + Sync {
 impl<R: Room> Board for Switchboard<R> {
     fn look(&self, step: Step) -> Look {
         let mut inside = self.lock();
-        let is_fed = step.kind == Kind::Recv && inside.fed.contains(&step.object);
+        let is_fed =
+            step.kind == Kind::Recv && inside.fed.values().any(|port| *port == step.object);
         let room = &mut inside.handle;
         let is_full = match step.kind {
             Kind::Send => is_owed(room, step.object),
@@ -68,6 +72,22 @@ impl<R: Room> Board for Switchboard<R> {
             // A port that a feed has refuses the call.
             is_answered: is_full || is_fed || !step.kind.blocks(),
             is_full,
+        }
+    }
+
+    fn as_if(&self, step: Step) -> Step {
+        let inside = &mut *self.lock();
+        let port = inside.fed.get(&step.object).copied().unwrap_or(NONE);
+        match step.kind {
+            Kind::Drain | Kind::CloseLane => match inside.lanes.get(&step.object) {
+                Some(lane) => sends_to(&mut inside.handle, lane.target),
+                // The lane may be opened.
+                None => Kind::LookAtAll.on(NONE),
+            },
+            Kind::Pump => Kind::Recv.on(port),
+            Kind::EndFeed => Kind::Close.on(port),
+            Kind::OpenFeed => Kind::Port.on(step.object),
+            _ => step,
         }
     }
 
@@ -139,6 +159,15 @@ impl<R: Room> Board for Switchboard<R> {
 /// object, which isn't there.
 fn is_free<R: Room>(room: &mut Handle, seat: u64) -> bool {
     R::poll(Read::Get, room, seat, NONE, &mut R::nothing()) == code::NO_SUCH
+}
+
+/// The step of a call that sends to this mailbox or channel.
+fn sends_to(room: &mut Handle, target: u64) -> Step {
+    let kind = written(|kind| raw::seryugo_kind(room, target, kind));
+    match kind.and_then(kind::Kind::of) {
+        Ok(kind::Kind::Mailbox) => Kind::Send.on(target),
+        _ => Kind::Multicast.on(target),
+    }
 }
 
 fn is_owed(room: &mut Handle, object: u64) -> bool {

@@ -100,7 +100,7 @@ impl fmt::Display for End {
                 })?;
                 match (is_told, &free[..]) {
                     (true, _) => Ok(()),
-                    (false, []) => f.write_str("somebody is awaited"),
+                    (false, []) => f.write_str("a lane is open, or somebody is awaited"),
                     (false, [seat]) => write!(f, "seat {seat} is free"),
                     (false, seats) => write!(f, "the seats {seats:?} are free"),
                 }

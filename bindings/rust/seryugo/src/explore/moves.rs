@@ -18,6 +18,8 @@ pub(crate) enum By {
 pub(crate) struct Move {
     pub task: usize,
     pub step: Step,
+    /// What the step does to objects, as a step on one of them.
+    pub as_if: Step,
     /// The channel of the port that the step uses, or `NONE`.
     pub channel: u64,
     /// Whether the object has something: a message, or that it is closed.
@@ -32,35 +34,40 @@ impl Move {
         if self.task == other.task || self.by != By::Step || other.by != By::Step {
             return false;
         }
-        let (one, two) = (self.step.kind, other.step.kind);
-        let is_apart = one != two || self.step.object != other.step.object;
+        let (one, two) = (self.as_if.kind, other.as_if.kind);
         if one == Kind::Aside || two == Kind::Aside {
-            return is_apart;
+            return one != two || self.as_if.object != other.as_if.object;
         }
-        if one.is_on_all() || two.is_on_all() {
+        if one == Kind::LookAtAll || two == Kind::LookAtAll || self.is_on_lane_of(other) {
             return false;
         }
-        // Until it moves, only what is on its lane meets it.
-        if one == Kind::LaneSend || two == Kind::LaneSend {
-            return is_apart;
+        if is_in_rings(one) || is_in_rings(two) {
+            // Lanes are numbered in the order in which they are opened.
+            return one != Kind::OpenLane || two != Kind::OpenLane;
         }
         // Objects are numbered in the order in which they are made, and a program sees the numbers.
         if one.is_maker() && two.is_maker() {
             return false;
         }
-        if self.step.object != other.step.object {
+        if self.as_if.object != other.as_if.object {
             return self.is_apart_from(other) && other.is_apart_from(self);
         }
         on_one_object(self, other) || on_one_object(other, self)
     }
 
+    /// Whether both use one lane.
+    fn is_on_lane_of(&self, other: &Move) -> bool {
+        let are_on_lanes = self.step.kind.is_on_lane() && other.step.kind.is_on_lane();
+        are_on_lanes && self.step.object == other.step.object
+    }
+
     /// Whether a step on another object does nothing to this one: all but what a channel does to
     /// its ports, and looks at either.
     fn is_apart_from(&self, other: &Move) -> bool {
-        if self.channel == NONE || self.channel != other.step.object {
+        if self.channel == NONE || self.channel != other.as_if.object {
             return true;
         }
-        match (self.step.kind, other.step.kind) {
+        match (self.as_if.kind, other.as_if.kind) {
             // A port that is empty has a message after it.
             (Kind::Recv | Kind::Poll, Kind::Multicast) => self.is_full,
             (Kind::Copy | Kind::Close, Kind::Multicast) => true,
@@ -70,11 +77,16 @@ impl Move {
     }
 }
 
+/// Whether such a step uses no object.
+fn is_in_rings(kind: Kind) -> bool {
+    matches!(kind, Kind::OpenLane | Kind::LaneSend)
+}
+
 /// The pairs of steps on one object that commute, each in one of its two orders.
 fn on_one_object(one: &Move, two: &Move) -> bool {
     // Both see the object as it is now.
     let is_full = one.is_full || two.is_full;
-    match (one.step.kind, two.step.kind) {
+    match (one.as_if.kind, two.as_if.kind) {
         (Kind::Look | Kind::Get | Kind::GetPoll, Kind::Look | Kind::Get | Kind::GetPoll) => true,
         // One at the end of a queue, and one at its front.
         (Kind::Send, Kind::Recv | Kind::Poll) => is_full,

@@ -43,6 +43,8 @@ pub(crate) struct Task {
     /// Its step, or its last one.
     seat: u64,
     step: Step,
+    /// As in [`Move`].
+    as_if: Step,
     channel: u64,
     is_timed: bool,
     /// What the step finds.
@@ -71,10 +73,12 @@ pub(crate) struct State {
     /// Whose turn it is.
     pub current: usize,
     pub steps: u64,
-    /// The journal has had no more entries than this.
+    /// The journal has no more entries than this.
     most_entries: u64,
     /// The choices of the run that had more than one way.
     pub choices: Vec<Choice>,
+    /// The step on the object that the last step may have changed. `None`: on more of them.
+    changed: Option<Step>,
     /// The last steps of the run.
     last: VecDeque<(usize, u64, Step)>,
     /// How the run ends, and its journal. From then on each thread unwinds.
@@ -123,6 +127,7 @@ impl State {
             steps: 0,
             most_entries: 0,
             choices: Vec::new(),
+            changed: None,
             last: VecDeque::new(),
             end: None,
             text: String::new(),
@@ -145,7 +150,7 @@ impl State {
         self.choices.clear();
         self.last.clear();
         (self.current, self.steps, self.scopes, self.most_entries) = (0, 0, 0, 0);
-        (self.end, self.text) = (None, String::new());
+        (self.end, self.text, self.changed) = (None, String::new(), None);
         self.add(Arc::clone(main), 0);
         self.tasks[0].at = At::Running;
     }
@@ -165,6 +170,7 @@ impl State {
             scope,
             seat: NONE,
             step: Kind::Aside.on(NONE),
+            as_if: Kind::Aside.on(NONE),
             channel: NONE,
             is_timed: false,
             look: None,
@@ -187,12 +193,12 @@ impl State {
     /// A thread is about to make a step.
     pub fn arrive(&mut self, task: usize, seat: u64, step: Step, is_timed: bool) {
         self.settle(task);
-        let channel = match (&self.board, Move::is_on_port(step)) {
-            (Some(board), true) => board.channel(step.object),
-            _ => NONE,
-        };
+        let board = self.board.as_ref();
+        let as_if = board.map_or(step, |board| board.as_if(step));
+        let port = board.filter(|_| Move::is_on_port(as_if));
+        let channel = port.map_or(NONE, |board| board.channel(as_if.object));
         let arrived = &mut self.tasks[task];
-        (arrived.at, arrived.seat, arrived.step) = (At::Step, seat, step);
+        (arrived.at, arrived.seat, arrived.step, arrived.as_if) = (At::Step, seat, step, as_if);
         (arrived.channel, arrived.is_timed, arrived.look) = (channel, is_timed, None);
         self.note_next(task, sum_of(&step), &step);
     }
@@ -296,14 +302,14 @@ impl State {
         if self.last.len() == LAST {
             self.last.pop_front();
         }
-        self.most_entries += if chosen.step.kind.moves_many() {
-            MOST_MOVED
-        } else {
-            1
-        };
-        let needs_entries = self.is_checked() || self.most_entries > self.limits.entries;
+        let (kind, as_if) = (chosen.step.kind, chosen.as_if);
+        let needs_entries = self.is_checked() || self.most_entries >= self.limits.entries;
         let board = self.board.as_ref().filter(|_| needs_entries);
-        let entries = board.map_or((0, 0), |board| board.entries());
+        let entries = board.map_or((0, self.most_entries), |board| board.entries());
+        let most = if kind.moves_many() { MOST_MOVED } else { 1 };
+        self.most_entries = entries.1.saturating_add(most);
+        let is_on_one = !kind.opens_or_ends() && as_if.kind != Kind::LookAtAll;
+        self.changed = is_on_one.then_some(as_if);
         let task = &mut self.tasks[chosen.task];
         self.last.push_back((chosen.task, task.seat, task.step));
         task.entries = entries.0;
@@ -344,9 +350,17 @@ impl State {
     fn way(&self, number: usize) -> Option<(Move, bool)> {
         let task = &self.tasks[number];
         let look = task.look.filter(|_| task.at == At::Step)?;
+        // If the journal may become full within it, all that has an entry matters to it.
+        let is_near_full = task.step.kind.moves_many()
+            && self.most_entries.saturating_add(MOST_MOVED) > self.limits.entries;
+        let as_if = match is_near_full {
+            true => Kind::LookAtAll.on(NONE),
+            false => task.as_if,
+        };
         let way = Move {
             task: number,
             step: task.step,
+            as_if,
             channel: task.channel,
             is_full: look.is_full,
             by: By::Step,
@@ -357,12 +371,16 @@ impl State {
     /// Looks anew at the objects that the last step may have changed.
     fn look(&mut self) {
         let Some(board) = &self.board else { return };
-        let last = self.last.back().map_or(Kind::Aside.on(NONE), |last| last.2);
-        let (changed, is_all) = (last.object, last.kind.is_on_all());
-        for task in self.tasks.iter_mut().filter(|task| task.at == At::Step) {
-            let is_old = is_all || changed == task.step.object || changed == task.channel;
-            if is_old || task.look.is_none() {
-                task.look = Some(board.look(task.step));
+        let changed = self.changed.map(|changed| changed.object);
+        let is_new = |task: &Task| {
+            let is_old = |changed| changed == task.as_if.object || changed == task.channel;
+            task.look.is_some() && !changed.is_none_or(is_old)
+        };
+        for task in self.tasks.iter_mut().filter(|task| task.at == At::Step && !is_new(task)) {
+            task.look = Some(board.look(task.step));
+            if task.step.kind == Kind::Drain {
+                // Its lane may be opened or closed meanwhile.
+                task.as_if = board.as_if(task.step);
             }
         }
     }

@@ -85,10 +85,15 @@ impl Kind {
         matches!(self, Kind::Drain | Kind::CloseLane | Kind::Pump)
     }
 
-    /// Whether it may change or see anything on the board, so that it commutes with nothing there.
-    pub fn is_on_all(self) -> bool {
-        use Kind::{EndFeed, LookAtAll, OpenFeed, OpenLane};
-        self.moves_many() || matches!(self, LookAtAll | OpenLane | OpenFeed | EndFeed)
+    /// Whether it uses the lane of this number.
+    pub fn is_on_lane(self) -> bool {
+        matches!(self, Kind::LaneSend | Kind::Drain | Kind::CloseLane)
+    }
+
+    /// Whether it opens or ends a lane or a feed.
+    pub fn opens_or_ends(self) -> bool {
+        use Kind::{CloseLane, EndFeed, OpenFeed, OpenLane};
+        matches!(self, OpenLane | CloseLane | OpenFeed | EndFeed)
     }
 
     fn word(self) -> &'static str {
