@@ -1,8 +1,12 @@
 //! How fast a program is explored. Run it with `--release`.
 
 use seryugo::explore::{self, explore, Way};
-use seryugo::{MVar, Mailbox, Numbers, Switchboard};
+use seryugo::{MVar, Mailbox, Numbers, OwnedSeat, Switchboard};
+use std::future::{poll_fn, Future};
+use std::pin::pin;
 use std::sync::Arc;
+use std::task::{Context, Poll, Wake, Waker};
+use std::thread::{self, Thread};
 use std::time::Instant;
 
 type Board = Arc<Switchboard<Numbers>>;
@@ -20,6 +24,10 @@ fn main() {
     measure("a ring of three threads, 30 calls", Way::random(1), ring);
     measure("the same", Way::priorities(1, 3), ring);
     measure("the same", Way::every(), ring);
+    measure("the ring by futures, a task a thread", Way::random(1), ring_of_futures);
+    measure("the same", Way::every(), ring_of_futures);
+    measure("the ring by futures, in one thread", Way::random(1), ring_in_one_thread);
+    measure("the same", Way::every(), ring_in_one_thread);
     for way in [Way::every(), Way::every_plainly()] {
         measure("two who send four, and one who receives", way, |board| senders(board, 4));
     }
@@ -78,6 +86,57 @@ fn ring(board: &Board) {
             });
         }
     });
+}
+
+/// A task of the ring.
+async fn pass_on(mut seat: OwnedSeat<Numbers>, mailboxes: [Mailbox<u64>; 3], own: usize) {
+    for message in 0..5 {
+        seat.send(mailboxes[(own + 1) % 3], message).unwrap();
+        seat.recv_async(mailboxes[own]).await.unwrap();
+    }
+}
+
+fn ring_of_futures(board: &Board) {
+    let mut main = board.seat().unwrap();
+    let mailboxes = [(); 3].map(|()| main.mailbox().unwrap());
+    explore::scope(|threads| {
+        for own in 0..3 {
+            let seat = board.seat_owned().unwrap();
+            threads.spawn(move || block_on(pass_on(seat, mailboxes, own)));
+        }
+    });
+}
+
+fn ring_in_one_thread(board: &Board) {
+    let mut main = board.seat().unwrap();
+    let mailboxes = [(); 3].map(|()| main.mailbox().unwrap());
+    let tasks = [0, 1, 2].map(|own| pass_on(board.seat_owned().unwrap(), mailboxes, own));
+    let mut tasks: Vec<_> = tasks.into_iter().map(Box::pin).collect();
+    block_on(poll_fn(|context| {
+        tasks.retain_mut(|task| task.as_mut().poll(context).is_pending());
+        match tasks.is_empty() {
+            true => Poll::Ready(()),
+            false => Poll::Pending,
+        }
+    }));
+}
+
+/// Polls a future until it is done, and sleeps until it is woken.
+fn block_on(future: impl Future<Output = ()>) {
+    let waker = Waker::from(Arc::new(Unparks(thread::current())));
+    let mut context = Context::from_waker(&waker);
+    let mut future = pin!(future);
+    while future.as_mut().poll(&mut context).is_pending() {
+        thread::park();
+    }
+}
+
+struct Unparks(Thread);
+
+impl Wake for Unparks {
+    fn wake(self: Arc<Self>) {
+        self.0.unpark();
+    }
 }
 
 /// Each of two sends this many, and one receives all.

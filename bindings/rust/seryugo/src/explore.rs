@@ -60,6 +60,7 @@ mod tree;
 mod way;
 mod worker;
 
+pub(crate) use board::Pass;
 pub(crate) use conductor::Conductor;
 pub(crate) use rerun::{bytes_of, word_of, RerunLane};
 pub(crate) use step::{Kind, Step};

@@ -2,7 +2,7 @@
 
 use crate::calls::{Calls, Read};
 use crate::error::Error;
-use crate::explore::{Kind, Step};
+use crate::explore::{Kind, Pass, Step};
 use crate::kind::Misfit;
 use crate::names::Source;
 use crate::owned::Holds;
@@ -11,7 +11,7 @@ use crate::room::{Carries, Room};
 use crate::seat::Seat;
 use std::future::Future;
 use std::pin::Pin;
-use std::task::{Context, Poll};
+use std::task::{Context, Poll, Waker};
 use std::time::{Duration, Instant};
 
 /// A call that may wait, with the number of its object.
@@ -176,9 +176,13 @@ impl<'a, R: Room, H: Holds<R>> Seat<'a, R, H> {
 
     /// The same as a future.
     pub(crate) fn waiting<'m>(&mut self, want: Want<'m, R>) -> Waiting<'_, 'a, 'm, R, H> {
-        self.board.refuse_if_conducted("futures");
+        self.board.refuse_if_rerun("futures");
         self.ready();
-        Waiting { seat: self, want }
+        Waiting {
+            seat: self,
+            want,
+            is_awaited: false,
+        }
     }
 }
 
@@ -187,6 +191,8 @@ impl<'a, R: Room, H: Holds<R>> Seat<'a, R, H> {
 pub(crate) struct Waiting<'s, 'a, 'm, R: Room, H: Holds<R>> {
     seat: &'s mut Seat<'a, R, H>,
     want: Want<'m, R>,
+    /// Whether an exploration has it among those that have no answer.
+    is_awaited: bool,
 }
 
 impl<R: Room, H: Holds<R>> Waiting<'_, '_, '_, R, H> {
@@ -201,12 +207,39 @@ impl<R: Room, H: Holds<R>> Waiting<'_, '_, '_, R, H> {
         self.seat.is_parked = code == code::PARKED;
         (!self.seat.is_parked).then(|| answer::<R>(code, received))
     }
+
+    #[cold]
+    fn withdraw_explored(&self) {
+        if let Some(play) = self.seat.board.exploration() {
+            play.withdraw(&*self.seat.board, self.seat.number());
+        }
+    }
+
+    /// Lets an exploration decide when the call is made. `None`: make it now, as any other.
+    #[inline]
+    fn explored(&mut self, waker: &Waker) -> Option<Poll<Answer<R>>> {
+        let play = self.seat.board.exploration()?;
+        let polled = play.poll(&*self.seat.board, self.seat.number(), self.want.step());
+        self.is_awaited = polled.is_none();
+        match polled {
+            None => {
+                // The exploration counts how often its thread polls in vain.
+                waker.wake_by_ref();
+                Some(Poll::Pending)
+            }
+            Some(Pass::Stalled) => Some(Poll::Ready(Err(Refused::Code(code::STALLED)))),
+            Some(_) => None,
+        }
+    }
 }
 
 impl<R: Room, H: Holds<R>> Future for Waiting<'_, '_, '_, R, H> {
     type Output = Answer<R>;
 
     fn poll(mut self: Pin<&mut Self>, context: &mut Context<'_>) -> Poll<Answer<R>> {
+        if let Some(polled) = self.explored(context.waker()) {
+            return polled;
+        }
         let mut is_again = self.seat.is_parked;
         loop {
             if is_again && !self.seat.parker.poll(context.waker()) {
@@ -222,6 +255,9 @@ impl<R: Room, H: Holds<R>> Future for Waiting<'_, '_, '_, R, H> {
 
 impl<R: Room, H: Holds<R>> Drop for Waiting<'_, '_, '_, R, H> {
     fn drop(&mut self) {
+        if self.is_awaited {
+            self.withdraw_explored();
+        }
         self.seat.ready();
     }
 }

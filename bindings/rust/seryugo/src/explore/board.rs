@@ -20,6 +20,8 @@ pub(crate) enum Pass {
     TimedOut,
     /// It fails as stalled.
     Stalled,
+    /// It is that of a future, which is polled in vain.
+    Pending,
 }
 
 /// What a step finds.

@@ -147,7 +147,12 @@ impl Priorities {
             best = self.best(moves);
         }
         self.choice += 1;
-        best
+        // Of its futures any one goes on.
+        let own: Vec<&Move> = moves.iter().filter(|way| way.task == best.task).collect();
+        match own.len() {
+            1 => best,
+            ways => *own[self.random.below(ways as u64) as usize],
+        }
     }
 
     fn best(&self, moves: &[Move]) -> Move {

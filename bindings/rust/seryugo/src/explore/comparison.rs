@@ -4,6 +4,7 @@
 //! An outcome is what each seat has called and was answered, in its order, and how the run ended.
 //! `SERYUGO_PROGRAMS=10000 cargo test --release --lib comparison` compares this many programs.
 
+mod futures;
 mod rings;
 
 use super::board::{sum_of, Pass};

@@ -89,7 +89,7 @@ impl<R: Room> Switchboard<R> {
         };
         match conductor {
             Conductor::Exploration(play) => match play.pass(self, seat, step, is_timed) {
-                Pass::Go => Ok(None),
+                Pass::Go | Pass::Pending => Ok(None),
                 Pass::TimedOut => Err(Refused::TimedOut),
                 Pass::Stalled => Err(Refused::Code(code::STALLED)),
             },
@@ -117,7 +117,7 @@ impl<R: Room> Switchboard<R> {
     /// turn. Otherwise it is a branch.
     #[inline]
     pub(crate) fn pass(&self, step: Step) {
-        if let Some(Conductor::Exploration(play)) = &self.conductor {
+        if let Some(play) = self.exploration() {
             play.pass(self, NONE, step, false);
         }
     }
@@ -132,7 +132,7 @@ impl<R: Room> Switchboard<R> {
     ) -> Result<T, Error> {
         self.pass(step);
         let answer = call();
-        if let Some(Conductor::Exploration(play)) = &self.conductor {
+        if let Some(play) = self.exploration() {
             play.saw(self, answer.as_ref().map_or(NONE, number));
         }
         answer
@@ -141,26 +141,33 @@ impl<R: Room> Switchboard<R> {
     /// Before a step that no other thread sees. In an exploration it is counted.
     #[inline]
     pub(crate) fn count_step(&self, step: impl FnOnce() -> Step) {
-        if let Some(Conductor::Exploration(play)) = &self.conductor {
+        if let Some(play) = self.exploration() {
             play.count(self, step());
         }
     }
 
     pub(crate) fn is_explored(&self) -> bool {
-        matches!(self.conductor, Some(Conductor::Exploration(_)))
+        self.exploration().is_some()
     }
 
-    /// Before what neither an exploration nor a rerun knows.
+    /// Before what a rerun doesn't know.
     ///
     /// # Panics
     ///
-    /// In one of them.
+    /// In a rerun.
     #[inline]
-    pub(crate) fn refuse_if_conducted(&self, what: &str) {
+    pub(crate) fn refuse_if_rerun(&self, what: &str) {
+        if let Some(Conductor::Rerun(_)) = &self.conductor {
+            refuse("a rerun", what);
+        }
+    }
+
+    /// The exploration that has this switchboard.
+    #[inline]
+    pub(crate) fn exploration(&self) -> Option<&Play> {
         match &self.conductor {
-            None => (),
-            Some(Conductor::Exploration(_)) => refuse("an exploration", what),
-            Some(Conductor::Rerun(_)) => refuse("a rerun", what),
+            Some(Conductor::Exploration(play)) => Some(play),
+            _ => None,
         }
     }
 

@@ -17,6 +17,8 @@ pub(crate) enum By {
 #[derive(Clone, Copy, PartialEq, Eq, Debug)]
 pub(crate) struct Move {
     pub task: usize,
+    /// Which of the thread's futures it is, if it waits for them.
+    pub at: usize,
     pub step: Step,
     /// What the step does to objects, as a step on one of them.
     pub as_if: Step,

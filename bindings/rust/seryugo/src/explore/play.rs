@@ -3,7 +3,7 @@
 use super::board::{Board, Pass};
 use super::end::End;
 use super::panics::said;
-use super::state::{At, Joins, State, Watched};
+use super::state::{Joins, Polled, State, Watched};
 use super::step::{Step, NONE};
 use super::worker::{was_stopped, Ended, Job, Worker};
 use std::any::Any;
@@ -112,6 +112,38 @@ impl Play {
         unwind(board, step)
     }
 
+    /// The calling thread polls a future that calls so. `None`: the future isn't answered, and is to
+    /// be polled again.
+    #[cold]
+    pub fn poll(&self, board: &dyn Board, seat: u64, step: Step) -> Option<Pass> {
+        let mut state = self.lock();
+        if !state.is_on(board) {
+            return Some(Pass::Go);
+        }
+        if let Some(task) = self.task_in(&mut state, seat, step) {
+            match state.poll(task, seat, step) {
+                Polled::Pending => return None,
+                Polled::Answered => (),
+                Polled::Waits => state = self.hand_over(state, task),
+            }
+            if state.end.is_none() {
+                let is_answered = state.is_polled(task, seat);
+                return is_answered.then_some(state.tasks[task].pass);
+            }
+        }
+        drop(state);
+        Some(unwind(board, step))
+    }
+
+    /// A future of this seat is dropped that has no answer.
+    #[cold]
+    pub fn withdraw(&self, board: &dyn Board, seat: u64) {
+        let mut state = self.lock();
+        if state.is_on(board) && state.end.is_none() {
+            state.withdraw(seat);
+        }
+    }
+
     /// The number of the thread that runs this. `None`: the run is stopped, also since the thread
     /// isn't one of this exploration.
     fn task_in(&self, state: &mut State, seat: u64, step: Step) -> Option<usize> {
@@ -169,13 +201,19 @@ impl Play {
             (Arc::clone(&state.tasks[next].slot), Arc::clone(&state.tasks[task].slot));
         drop(state);
         theirs.wake();
+        let mut was_unparked = false;
         loop {
             let is_woken = own.wait(self.patience);
             let mut state = self.lock();
             if is_woken && state.current == task {
+                if was_unparked {
+                    // It may have been for an executor of this thread, which parks later.
+                    thread::current().unpark();
+                }
                 return state;
             }
             if !is_woken {
+                was_unparked = true;
                 self.report(&mut state);
             }
         }
@@ -236,7 +274,7 @@ impl Play {
     /// Waits until these threads are at their ends. It never unwinds.
     pub fn join(&self, task: usize, joins: Joins) {
         let mut state = self.lock();
-        state.tasks[task].at = At::Joins(joins);
+        state.joins(task, joins);
         drop(self.hand_over(state, task));
     }
 

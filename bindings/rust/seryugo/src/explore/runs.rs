@@ -1,9 +1,11 @@
 //! The runs of an exploration.
 
 use super::board::Board;
+use super::choose::Chooser;
 use super::conductor::Conductor;
 use super::end::End;
 use super::found::{Bad, Found};
+use super::history::History;
 use super::panics::keep_panics;
 use super::pinned::Pinned;
 use super::play::{self, Play};
@@ -14,6 +16,7 @@ use super::way::{Order, Way};
 use super::worker::Slot;
 use crate::room::Room;
 use crate::switchboard::Switchboard;
+use std::mem;
 use std::panic::{catch_unwind, AssertUnwindSafe};
 use std::sync::Arc;
 
@@ -44,7 +47,11 @@ use std::sync::Arc;
 /// If a thread of a program that is explored calls it, if the linked library isn't of this crate's
 /// version, or if it has no memory.
 pub fn explore<R: Room>(way: Way, runs: u64, program: impl Fn(&Arc<Switchboard<R>>)) -> Found {
-    let mut found = Explorer::new(way.clone()).explore(runs, &program);
+    let explorer = Explorer::new(way);
+    let mut found = explorer.explore(runs, &program);
+    let mut way = explorer.way.clone();
+    way.limits.polls_are_steps = explorer.play.lock().limits.polls_are_steps;
+    drop(explorer);
     found.bad = found.bad.map(|bad| shortened(&way, bad, &program));
     found
 }
@@ -113,6 +120,9 @@ impl Explorer {
         };
         while found.runs < most && !found.is_whole {
             let run = self.run(found.runs, program);
+            if self.begins_again(&found) {
+                continue;
+            }
             found.runs += 1;
             found.repeats += u64::from(run.is_repeat);
             if run.end.is_bad() {
@@ -147,13 +157,31 @@ impl Explorer {
             return false;
         }
         found.beside.clone_from(&state.beside);
-        let plainly = Order::Every { sleeps: false };
-        let way = Way {
-            order: plainly,
-            ..self.way.clone()
-        };
-        state.chooser = way.chooser();
+        state.chooser = self.chooser(found);
         true
+    }
+
+    /// If the run was stopped since polls are steps from now on, this begins anew. Returns whether
+    /// it does.
+    fn begins_again(&self, found: &Found) -> bool {
+        let mut state = self.play.lock();
+        if !mem::take(&mut state.begins_again) {
+            return false;
+        }
+        // What threads did before is another history.
+        state.history = History::default();
+        state.beside.clone_from(&found.beside);
+        state.chooser = self.chooser(found);
+        true
+    }
+
+    /// How choices are made from now on.
+    fn chooser(&self, found: &Found) -> Chooser {
+        let mut way = self.way.clone();
+        if found.beside.is_some() {
+            way.order = Order::Every { sleeps: false };
+        }
+        way.chooser()
     }
 
     /// Whether there is another run.

@@ -7,6 +7,8 @@ use std::fmt::{self, Write};
 #[derive(Clone, Copy, PartialEq, Eq, Debug)]
 pub(crate) struct Choice {
     pub task: usize,
+    /// Which of its futures goes on, if it waits for several.
+    pub at: usize,
     /// Its call ends by its time or fails as stalled, and isn't made.
     pub is_late: bool,
 }
@@ -15,19 +17,21 @@ impl Choice {
     pub fn of(taken: &Move) -> Choice {
         Choice {
             task: taken.task,
+            at: taken.at,
             is_late: taken.by != By::Step,
         }
     }
 }
 
 /// The choices of a run, where more than one thread could go on. A digit or a letter is a thread,
-/// `(36)` one with a higher number, `!` says that its call ends by its time or as stalled, and
-/// `{9}` that the same thread is chosen nine times. A `+` before all says that calls are let fail
-/// as stalled.
+/// `(36)` one with a higher number, `[1]` its second future, `!` says that its call ends by its time
+/// or as stalled, and `{9}` that the same thread is chosen nine times. A `+` before all says that
+/// calls are let fail as stalled, and a `*` that polls of futures are steps.
 #[derive(Clone, Default, PartialEq, Eq, Debug)]
 pub(crate) struct Schedule {
     pub choices: Vec<Choice>,
     pub tells_stalls: bool,
+    pub polls_are_steps: bool,
 }
 
 /// If the same choice follows this many times or more, the line has their count.
@@ -37,6 +41,9 @@ impl fmt::Display for Schedule {
     fn fmt(&self, f: &mut fmt::Formatter<'_>) -> fmt::Result {
         if self.tells_stalls {
             f.write_char('+')?;
+        }
+        if self.polls_are_steps {
+            f.write_char('*')?;
         }
         for same in self.choices.chunk_by(PartialEq::eq) {
             let (text, count) = (one(same[0]), same.len());
@@ -52,6 +59,9 @@ impl fmt::Display for Schedule {
 fn one(choice: Choice) -> String {
     let digit = u32::try_from(choice.task).ok().and_then(|task| char::from_digit(task, 36));
     let mut text = digit.map_or_else(|| format!("({})", choice.task), String::from);
+    if choice.at != 0 {
+        text.push_str(&["[", &choice.at.to_string(), "]"].concat());
+    }
     if choice.is_late {
         text.push('!');
     }
@@ -61,8 +71,8 @@ fn one(choice: Choice) -> String {
 impl Schedule {
     /// Reads a line that a schedule was written as. `None` if it is no such line.
     pub fn read(line: &str) -> Option<Schedule> {
-        let (rest, tells_stalls) =
-            line.strip_prefix('+').map_or((line, false), |rest| (rest, true));
+        let (rest, tells_stalls) = has_prefix(line, '+');
+        let (rest, polls_are_steps) = has_prefix(rest, '*');
         let mut rest = rest.trim();
         let mut choices = Vec::new();
         while !rest.is_empty() {
@@ -73,8 +83,14 @@ impl Schedule {
         Some(Schedule {
             choices,
             tells_stalls,
+            polls_are_steps,
         })
     }
+}
+
+/// The rest of a line, and whether this was before it.
+fn has_prefix(line: &str, prefix: char) -> (&str, bool) {
+    line.strip_prefix(prefix).map_or((line, false), |rest| (rest, true))
 }
 
 /// The first choice of a line, how often it follows, and the rest.
@@ -85,12 +101,16 @@ fn read_one(line: &str) -> Option<(Choice, usize, &str)> {
         let first = line.chars().next()?;
         (first.to_digit(36)? as usize, &line[first.len_utf8()..])
     };
-    let (rest, is_late) = rest.strip_prefix('!').map_or((rest, false), |rest| (rest, true));
+    let (at, rest) = match rest.strip_prefix('[') {
+        Some(rest) => number_until(rest, ']')?,
+        None => (0, rest),
+    };
+    let (rest, is_late) = has_prefix(rest, '!');
     let (count, rest) = match rest.strip_prefix('{') {
         Some(rest) => number_until(rest, '}')?,
         None => (1, rest),
     };
-    (count <= 1 << 24).then_some((Choice { task, is_late }, count, rest))
+    (count <= 1 << 24).then_some((Choice { task, at, is_late }, count, rest))
 }
 
 fn number_until(line: &str, end: char) -> Option<(usize, &str)> {
@@ -103,20 +123,28 @@ mod tests {
     use super::*;
 
     fn choice(task: usize, is_late: bool) -> Choice {
-        Choice { task, is_late }
+        Choice {
+            task,
+            at: 0,
+            is_late,
+        }
     }
 
     #[test]
     fn a_schedule_is_read_as_it_was_written() {
         let mut choices = vec![choice(0, false), choice(11, false), choice(40, true)];
         choices.extend([choice(2, false); 9]);
-        choices.push(choice(1, true));
+        choices.push(Choice {
+            at: 2,
+            ..choice(1, true)
+        });
         let schedule = Schedule {
             choices,
             tells_stalls: true,
+            polls_are_steps: true,
         };
-        assert_eq!(schedule.to_string(), "+0b(40)!2{9}1!");
-        assert_eq!(Schedule::read("+0b(40)!2{9}1!"), Some(schedule));
+        assert_eq!(schedule.to_string(), "+*0b(40)!2{9}1[2]!");
+        assert_eq!(Schedule::read("+*0b(40)!2{9}1[2]!"), Some(schedule));
         assert_eq!(Schedule::read(""), Some(Schedule::default()));
         for line in ["?", "(1", "1{", "1{x}", "()", "!", "1{99999999999}"] {
             assert_eq!(Schedule::read(line), None, "{line}");

@@ -1,19 +1,23 @@
 //! Where a run is: its threads, and whose turn it is.
 
-use super::board::{sum_of, Board, Look, Pass};
+use super::board::{Board, Pass};
 use super::choose::Chooser;
 use super::end::End;
-use super::history::{Done, History};
+use super::history::{self, Done, History};
 use super::moves::{By, Move};
 use super::schedule::Choice;
 use super::step::{Kind, Step, NONE};
 use super::worker::{Slot, Worker};
 use crate::inside::MOST_MOVED;
+use calls::{Awaited, Call};
 use std::collections::VecDeque;
 use std::ptr;
 use std::sync::Arc;
 use std::time::Instant;
 
+pub(crate) use calls::Polled;
+
+mod calls;
 mod ending;
 mod notes;
 
@@ -31,6 +35,8 @@ pub(crate) enum At {
     Start,
     Running,
     Step,
+    /// It waits for one of its futures.
+    Futures,
     Joins(Joins),
     End,
 }
@@ -41,14 +47,11 @@ pub(crate) struct Task {
     pub slot: Arc<Slot>,
     scope: u64,
     /// Its step, or its last one.
-    seat: u64,
-    step: Step,
-    /// As in [`Move`].
-    as_if: Step,
-    channel: u64,
-    is_timed: bool,
-    /// What the step finds.
-    look: Option<Look>,
+    pub call: Call,
+    /// The calls of its futures that have no answer.
+    awaited: Vec<Awaited>,
+    /// The seat of the future whose call is answered once it is polled.
+    granted: Option<u64>,
     pub pass: Pass,
     done: Done,
     /// Whether it has made a step since it was started.
@@ -63,6 +66,8 @@ pub(crate) struct Limits {
     pub steps: u64,
     pub entries: u64,
     pub tells_stalls: bool,
+    /// Whether each poll of a future is a step.
+    pub polls_are_steps: bool,
 }
 
 pub(crate) struct State {
@@ -85,6 +90,8 @@ pub(crate) struct State {
     pub end: Option<End>,
     pub text: String,
     pub history: History,
+    /// Whether the exploration begins again, since polls are steps from now on.
+    pub begins_again: bool,
     /// Why something beside the board decides.
     pub beside: Option<String>,
     pub scopes: u64,
@@ -132,6 +139,7 @@ impl State {
             end: None,
             text: String::new(),
             history: History::default(),
+            begins_again: false,
             beside: None,
             scopes: 0,
             workers: Vec::new(),
@@ -168,12 +176,9 @@ impl State {
             at: At::Start,
             slot,
             scope,
-            seat: NONE,
-            step: Kind::Aside.on(NONE),
-            as_if: Kind::Aside.on(NONE),
-            channel: NONE,
-            is_timed: false,
-            look: None,
+            call: Call::none(),
+            awaited: Vec::new(),
+            granted: None,
             pass: Pass::Go,
             done: History::child(parent, number),
             has_stepped: false,
@@ -188,28 +193,6 @@ impl State {
             self.text = self.board.as_ref().map(|board| board.text()).unwrap_or_default();
             self.end = Some(end);
         }
-    }
-
-    /// A thread is about to make a step.
-    pub fn arrive(&mut self, task: usize, seat: u64, step: Step, is_timed: bool) {
-        self.settle(task);
-        let board = self.board.as_ref();
-        let as_if = board.map_or(step, |board| board.as_if(step));
-        let port = board.filter(|_| Move::is_on_port(as_if));
-        let channel = port.map_or(NONE, |board| board.channel(as_if.object));
-        let arrived = &mut self.tasks[task];
-        (arrived.at, arrived.seat, arrived.step, arrived.as_if) = (At::Step, seat, step, as_if);
-        (arrived.channel, arrived.is_timed, arrived.look) = (channel, is_timed, None);
-        self.note_next(task, sum_of(&step), &step);
-    }
-
-    /// A thread is at its end.
-    pub fn finish(&mut self, task: usize) {
-        if self.end.is_none() {
-            self.settle(task);
-            self.note_next(task, NONE, &"its end");
-        }
-        self.tasks[task].at = At::End;
     }
 
     /// A thread makes a step that only itself sees. `Err`: there were too many steps.
@@ -310,11 +293,13 @@ impl State {
         self.most_entries = entries.1.saturating_add(most);
         let is_on_one = !kind.opens_or_ends() && as_if.kind != Kind::LookAtAll;
         self.changed = is_on_one.then_some(as_if);
+        self.take_turn(chosen);
         let task = &mut self.tasks[chosen.task];
-        self.last.push_back((chosen.task, task.seat, task.step));
+        self.last.push_back((chosen.task, task.call.seat, task.call.step));
         task.entries = entries.0;
         task.has_stepped = true;
         task.pass = match chosen.by {
+            By::Step if task.call.is_poll && !task.call.is_answered() => Pass::Pending,
             By::Step => Pass::Go,
             By::TimeOut => Pass::TimedOut,
             By::Stall => Pass::Stalled,
@@ -326,6 +311,20 @@ impl State {
         Ok(())
     }
 
+    /// A thread's step was chosen. If it is at the calls of its futures, this is one of them.
+    fn take_turn(&mut self, chosen: &Move) {
+        let is_checked = self.is_checked();
+        let task = &mut self.tasks[chosen.task];
+        if task.at != At::Futures {
+            return;
+        }
+        task.call = task.awaited[chosen.at].call;
+        task.granted = Some(task.call.seat);
+        if is_checked {
+            history::saw(&mut task.done, chosen.at as u64);
+        }
+    }
+
     /// What may happen next: first what the thread does that went on last. `None`: nothing may.
     fn moves(&mut self) -> Option<Vec<Move>> {
         self.look();
@@ -333,7 +332,8 @@ impl State {
         let others = (0..self.tasks.len()).filter(|task| *task != last);
         let mut moves = Vec::with_capacity(self.tasks.len());
         let mut stuck = Vec::new();
-        for (way, is_answered) in std::iter::once(last).chain(others).filter_map(|n| self.way(n)) {
+        let numbers = std::iter::once(last).chain(others);
+        for (way, is_answered) in numbers.flat_map(|number| self.ways(number)) {
             if is_answered {
                 moves.push(way);
             } else {
@@ -346,51 +346,21 @@ impl State {
         (!moves.is_empty()).then_some(moves)
     }
 
-    /// The step that a thread is at, and whether it would be answered.
-    fn way(&self, number: usize) -> Option<(Move, bool)> {
-        let task = &self.tasks[number];
-        let look = task.look.filter(|_| task.at == At::Step)?;
-        // If the journal may become full within it, all that has an entry matters to it.
-        let is_near_full = task.step.kind.moves_many()
-            && self.most_entries.saturating_add(MOST_MOVED) > self.limits.entries;
-        let as_if = match is_near_full {
-            true => Kind::LookAtAll.on(NONE),
-            false => task.as_if,
-        };
-        let way = Move {
-            task: number,
-            step: task.step,
-            as_if,
-            channel: task.channel,
-            is_full: look.is_full,
-            by: By::Step,
-        };
-        Some((way, look.is_answered))
-    }
-
     /// Looks anew at the objects that the last step may have changed.
     fn look(&mut self) {
         let Some(board) = &self.board else { return };
         let changed = self.changed.map(|changed| changed.object);
-        let is_new = |task: &Task| {
-            let is_old = |changed| changed == task.as_if.object || changed == task.channel;
-            task.look.is_some() && !changed.is_none_or(is_old)
-        };
-        for task in self.tasks.iter_mut().filter(|task| task.at == At::Step && !is_new(task)) {
-            task.look = Some(board.look(task.step));
-            if task.step.kind == Kind::Drain {
-                // Its lane may be opened or closed meanwhile.
-                task.as_if = board.as_if(task.step);
-            }
+        for call in self.tasks.iter_mut().flat_map(Task::calls_mut) {
+            call.look_at(&**board, changed);
         }
     }
 
     /// What may happen if all threads are stuck at these calls.
     fn late(&self, mut stuck: Vec<Move>) -> Vec<Move> {
-        let is_timed = stuck.iter().any(|way| self.tasks[way.task].is_timed);
+        let is_timed = stuck.iter().any(|way| self.tasks[way.task].call.is_timed);
         let by = if is_timed { By::TimeOut } else { By::Stall };
         if is_timed {
-            stuck.retain(|way| self.tasks[way.task].is_timed);
+            stuck.retain(|way| self.tasks[way.task].call.is_timed);
         } else if !self.limits.tells_stalls || !self.stall().0 {
             stuck.clear();
         }

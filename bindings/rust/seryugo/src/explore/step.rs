@@ -138,6 +138,17 @@ pub(crate) struct Step {
 }
 
 impl Step {
+    /// The step of a call that doesn't wait in place of this one.
+    pub fn polled(self) -> Step {
+        match self.kind {
+            Kind::Recv => Kind::Poll,
+            Kind::Get => Kind::GetPoll,
+            Kind::Take => Kind::TakePoll,
+            kind => kind,
+        }
+        .on(self.object)
+    }
+
     /// The step of a call that is in a journal.
     pub fn of<M>(call: &Call<M>) -> Step {
         match call {

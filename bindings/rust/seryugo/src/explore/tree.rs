@@ -104,7 +104,7 @@ impl Tree {
             && moves[0].task == last
             && moves[0].by == By::Step
         {
-            moves.truncate(1);
+            moves.retain(|way| way.task == last);
         }
         let marks = self.marks(&moves);
         let Some(at) = marks.iter().position(|mark| *mark == Mark::Open) else {
@@ -124,7 +124,8 @@ impl Tree {
         };
         let went = &node.moves[node.at];
         let is_asleep = |now: &Move| {
-            let was = node.moves.iter().position(|was| was.task == now.task && was.by == now.by);
+            let is_same = |was: &Move| (was.task, was.at, was.by) == (now.task, now.at, now.by);
+            let was = node.moves.iter().position(is_same);
             was.is_some_and(|was| {
                 was != node.at
                     && node.marks[was] != Mark::Open

@@ -78,9 +78,10 @@ impl Way {
         let Some(read) = Schedule::read(schedule) else {
             panic!("{schedule:?} is no schedule");
         };
-        let tells_stalls = read.tells_stalls;
+        let (tells_stalls, polls_are_steps) = (read.tells_stalls, read.polls_are_steps);
         let mut way = Way::of(Order::Again(read));
         way.limits.tells_stalls = tells_stalls;
+        way.limits.polls_are_steps = polls_are_steps;
         way
     }
 
@@ -92,6 +93,7 @@ impl Way {
                 steps: 10_000,
                 entries: 1 << 20,
                 tells_stalls: false,
+                polls_are_steps: false,
             },
             patience: Duration::from_secs(5),
         }

@@ -4,7 +4,6 @@ use crate::programs::{seat, Board};
 use seryugo::explore::{self, again, explore, End, Found, Way};
 use seryugo::Error;
 use std::cell::{Cell, RefCell};
-use std::future::Future;
 use std::panic::{catch_unwind, AssertUnwindSafe};
 use std::sync::atomic::{AtomicU64, Ordering::SeqCst};
 use std::sync::{mpsc, Mutex};
@@ -84,22 +83,6 @@ fn a_schedule_of_another_program() {
         panic!("{found}")
     };
     assert!(why.contains("thread 9"), "{why}");
-}
-
-#[test]
-fn what_is_not_known_yet() {
-    let future = |board: &Board| {
-        let mut seat = seat(board);
-        let letters = seat.mailbox::<u64>().unwrap();
-        let mut received = std::pin::pin!(seat.recv_async(letters));
-        let mut context = std::task::Context::from_waker(std::task::Waker::noop());
-        let _ = received.as_mut().poll(&mut context);
-    };
-    let found = explore(Way::every(), 10, future);
-    let End::Panicked { message, .. } = end(&found) else {
-        panic!("{found}")
-    };
-    assert!(message.contains("doesn't know futures"), "{message}");
 }
 
 /// Counts that it is dropped.

@@ -7,6 +7,7 @@ mod clean;
 mod diverging;
 mod ends;
 mod first;
+mod futures;
 mod lanes;
 mod programs;
 mod real_runs;

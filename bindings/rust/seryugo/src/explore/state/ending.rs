@@ -1,6 +1,6 @@
 //! How a run ends if it can't go on.
 
-use super::{At, State};
+use super::{At, State, Task};
 use crate::explore::end::{End, Waits};
 use crate::explore::moves::Move;
 use crate::explore::schedule::Schedule;
@@ -10,24 +10,20 @@ use crate::explore::tree::Astray;
 impl State {
     /// As [`Board::stall`].
     pub(super) fn stall(&self) -> (bool, Vec<u64>) {
-        let waits: Vec<(u64, Step)> = self
-            .tasks
-            .iter()
-            .filter(|task| task.at == At::Step)
-            .map(|task| (task.seat, task.step))
-            .collect();
+        let waits: Vec<(u64, Step)> =
+            self.tasks.iter().flat_map(Task::calls).map(|call| (call.seat, call.step)).collect();
         self.board.as_ref().map(|board| board.stall(&waits)).unwrap_or_default()
     }
 
     pub(super) fn stalled(&self) -> End {
-        let waits = self.tasks.iter().enumerate().filter_map(|(number, task)| match task.at {
-            At::Step => Some(waits(number, task.seat, task.step)),
-            At::Joins(_) => Some(Waits {
+        let tasks = self.tasks.iter().enumerate();
+        let waits = tasks.flat_map(|(number, task)| {
+            let joins = matches!(task.at, At::Joins(_)).then_some(Waits {
                 thread: number,
                 seat: None,
                 call: None,
-            }),
-            _ => None,
+            });
+            task.calls().map(move |call| waits(number, call.seat, call.step)).chain(joins)
         });
         let (is_told, free) = self.stall();
         End::Stalled {
@@ -74,13 +70,14 @@ impl State {
         Schedule {
             choices: self.choices.clone(),
             tells_stalls: self.limits.tells_stalls,
+            polls_are_steps: self.limits.polls_are_steps,
         }
     }
 
     /// Who has the turn, and its last step.
     pub fn running(&self) -> String {
         let task = &self.tasks[self.current];
-        waits(self.current, task.seat, task.step).to_string()
+        waits(self.current, task.call.seat, task.call.step).to_string()
     }
 }
 

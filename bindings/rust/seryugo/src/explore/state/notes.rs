@@ -21,7 +21,7 @@ impl State {
         if !std::mem::take(&mut task.has_stepped) || !is_checked {
             return;
         }
-        let (step, pass, entries) = (task.step, task.pass, task.entries);
+        let (step, pass, entries) = (task.call.step, task.pass, task.entries);
         let mut done = task.done;
         let board = self.board.as_ref().filter(|_| step.kind.has_entry());
         let sums = board.and_then(|board| board.entry_sums(entries));
