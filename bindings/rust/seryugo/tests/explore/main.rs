@@ -13,3 +13,4 @@ mod programs;
 mod real_runs;
 mod reruns;
 mod rings;
+mod table;
