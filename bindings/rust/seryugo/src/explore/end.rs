@@ -37,7 +37,8 @@ pub enum End {
     },
     /// After the same choices as before, the program went on differently.
     NotDeterministic(String),
-    /// A thread made a call that [`scope`](super::scope) hasn't started.
+    /// A thread made a call that [`scope`](super::scope) hasn't started, or two threads shared a
+    /// future.
     UnknownThread(String),
     /// The schedule isn't one of this program.
     Unfit(String),

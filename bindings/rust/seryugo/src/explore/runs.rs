@@ -150,7 +150,7 @@ impl Explorer {
         Run { end, is_repeat }
     }
 
-    /// If something beside the board decides, this begins anew, plainly. Returns whether it does.
+    /// If something beside the board decides, this begins again, plainly. Returns whether it does.
     fn looks_beside(&self, found: &mut Found) -> bool {
         let mut state = self.play.lock();
         if state.beside.is_none() || found.beside.is_some() {
@@ -161,7 +161,7 @@ impl Explorer {
         true
     }
 
-    /// If the run was stopped since polls are steps from now on, this begins anew. Returns whether
+    /// If the run was stopped since polls are steps from now on, this begins again. Returns whether
     /// it does.
     fn begins_again(&self, found: &Found) -> bool {
         let mut state = self.play.lock();

@@ -346,7 +346,7 @@ impl State {
         (!moves.is_empty()).then_some(moves)
     }
 
-    /// Looks anew at the objects that the last step may have changed.
+    /// Looks again at the objects that the last step may have changed.
     fn look(&mut self) {
         let Some(board) = &self.board else { return };
         let changed = self.changed.map(|changed| changed.object);

@@ -134,7 +134,7 @@ fn a_reader_that_counts_on_the_drain_of_another() {
 }
 
 #[test]
-fn a_reader_that_is_told_by_the_one_that_drains() {
+fn a_reader_that_hears_of_the_drain() {
     clean(|board| drains(board, true), 1, 1);
 }
 

@@ -133,7 +133,7 @@ fn plan(number: u64, kinds: u64) -> Vec<Vec<u64>> {
     vec![some(2), some(2), some(1)]
 }
 
-/// Runs a plan, and keeps the journal if it comes to its end.
+/// Runs a plan, and keeps the journal if no thread is left waiting.
 fn run_plan(board: &Board, plan: &[Vec<u64>], kept: &Mutex<String>) {
     let mut main = board.seat_owned().unwrap();
     let of = Objects {
