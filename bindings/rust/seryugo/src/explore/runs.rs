@@ -84,7 +84,7 @@ pub fn again<R: Room>(schedule: &str, program: impl Fn(&Arc<Switchboard<R>>)) ->
 /// An exploration, from its caller's side.
 pub(super) struct Explorer {
     way: Way,
-    play: Arc<Play>,
+    pub(super) play: Arc<Play>,
     main: Arc<Slot>,
     _pinned: Pinned,
 }

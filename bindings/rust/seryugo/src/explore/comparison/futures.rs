@@ -186,6 +186,7 @@ fn outcomes(way: Way, plan: &[Vec<u64>]) -> (BTreeSet<String>, u64) {
         }
         outcomes.insert(format!("{} {seats:?}", end.is_bad()));
         if !explorer.next_run() {
+            assert_eq!(explorer.play.lock().beside, None, "{plan:?}");
             return (outcomes, runs);
         }
     }
@@ -194,12 +195,20 @@ fn outcomes(way: Way, plan: &[Vec<u64>]) -> (BTreeSet<String>, u64) {
 #[test]
 fn futures_have_the_outcomes_of_every_order() {
     let mut all = (0, 0);
-    for number in 0..programs() / 10 {
+    let count = programs() / 10;
+    for number in 0..count {
         let plan = plan(number, KINDS);
-        let (plainly, plain_runs) = outcomes(Way::every_plainly(), &plan);
-        let (slept, runs) = outcomes(Way::every(), &plan);
+        let change = match number % 2 {
+            0 => |way| way,
+            _ => Way::stalls_are_told,
+        };
+        let (plainly, plain_runs) = outcomes(change(Way::every_plainly()), &plan);
+        let (slept, runs) = outcomes(change(Way::every()), &plan);
         assert_eq!(plainly, slept, "program {number}, {plan:?}");
         all = (all.0 + plain_runs, all.1 + runs);
+        if number % 50 == 49 {
+            println!("the same up to program {number}: {all:?} runs");
+        }
     }
     println!("{all:?} runs");
     assert!(all.1 < all.0);
