@@ -25,7 +25,7 @@ pub(crate) enum Pass {
 }
 
 /// What a step finds.
-#[derive(Clone, Copy)]
+#[derive(Clone, Copy, PartialEq, Debug)]
 pub(crate) struct Look {
     /// Whether the call would be answered now.
     pub is_answered: bool,

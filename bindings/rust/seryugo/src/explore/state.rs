@@ -352,6 +352,8 @@ impl State {
         let changed = self.changed.map(|changed| changed.object);
         for call in self.tasks.iter_mut().flat_map(Task::calls_mut) {
             call.look_at(&**board, changed);
+            #[cfg(test)]
+            call.is_new(&**board);
         }
     }
 

@@ -48,6 +48,13 @@ impl Call {
         }
     }
 
+    /// What was found before is found now, too.
+    #[cfg(test)]
+    pub fn is_new(&self, board: &dyn Board) {
+        assert_eq!(self.look, Some(board.look(self.step)), "{}", self.step);
+        assert!(self.is_poll || self.as_if == board.as_if(self.step), "{}", self.step);
+    }
+
     /// Whether it is answered now.
     pub fn is_answered(&self) -> bool {
         self.look.is_some_and(|look| look.is_answered)
