@@ -51,7 +51,8 @@ pub struct Waits {
     pub thread: usize,
     /// The seat from which it calls.
     pub seat: Option<u64>,
-    /// The call with its object, in the journal's words. `None`: it joins threads.
+    /// The call with its object, in the journal's words, or with its lane or feed. `None`: it joins
+    /// threads.
     pub call: Option<String>,
 }
 
