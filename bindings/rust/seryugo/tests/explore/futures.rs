@@ -3,7 +3,7 @@
 use crate::programs::{seat, Board};
 use seryugo::explore::{self, again, explore, End, Found, Way};
 use seryugo::{Error, MVar, Request, Switchboard};
-use std::cell::Cell;
+use std::cell::{Cell, RefCell};
 use std::collections::BTreeSet;
 use std::future::{poll_fn, Future};
 use std::pin::{pin, Pin};
@@ -294,6 +294,71 @@ fn a_future_that_two_threads_use() {
         panic!("{found}")
     };
     assert!(why.contains("is used by two threads"), "{why}");
+}
+
+/// What two tasks of one thread do, in their order, while two other threads send and receive.
+fn logged(board: &Board) -> Vec<u64> {
+    let mut main = seat(board);
+    let [one, other, back] = [(); 3].map(|()| main.mailbox().unwrap());
+    let [mut sends, mut also_sends, mut a, mut b] = [(); 4].map(|()| seat(board));
+    let log = RefCell::new(Vec::new());
+    explore::scope(|threads| {
+        threads.spawn(move || (1..3).for_each(|letter| sends.send(one, letter).unwrap()));
+        threads.spawn(move || {
+            also_sends.send(other, 3).unwrap();
+            let answer = also_sends.recv_poll(back).unwrap();
+            also_sends.send(one, 10 + answer.unwrap_or_default()).unwrap();
+        });
+        let first = async {
+            for _ in 0..2 {
+                let letter = a.recv_async(one).await.unwrap();
+                log.borrow_mut().push(letter);
+                a.send(back, 5).unwrap();
+            }
+        };
+        let second = async {
+            let letter = b.recv_async(other).await.unwrap();
+            log.borrow_mut().push(letter);
+            yields().await;
+            log.borrow_mut().push(20);
+            let letter = b.recv_async(one).await.unwrap();
+            log.borrow_mut().push(letter);
+        };
+        block_on(together(2, first, second));
+    });
+    log.into_inner()
+}
+
+/// Gives the other task its turn.
+async fn yields() {
+    let mut has_yielded = false;
+    poll_fn(|context| {
+        context.waker().wake_by_ref();
+        match std::mem::replace(&mut has_yielded, true) {
+            true => Poll::Ready(()),
+            false => Poll::Pending,
+        }
+    })
+    .await;
+}
+
+#[test]
+fn runs_of_real_threads_are_among_those_that_are_explored() {
+    let seen = Mutex::new(BTreeSet::new());
+    let program = |board: &Board| {
+        let log = logged(board);
+        seen.lock().unwrap().insert(log);
+    };
+    let found = explore(Way::every(), 100_000, program);
+    assert!(found.is_clean() && found.is_whole(), "{found}");
+    let mut met = BTreeSet::new();
+    for _ in 0..1_000 {
+        let board = Arc::new(Switchboard::of_numbers(1_000).unwrap());
+        met.insert(logged(&board));
+    }
+    let seen = seen.into_inner().unwrap();
+    println!("{} logs in {} runs, of which {} were met", seen.len(), found.runs(), met.len());
+    assert!(met.is_subset(&seen), "{:?}", met.difference(&seen).collect::<Vec<_>>());
 }
 
 #[test]
