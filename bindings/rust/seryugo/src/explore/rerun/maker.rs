@@ -60,8 +60,9 @@ impl Maker {
         self.user.store(thread, Ordering::Relaxed);
     }
 
+    /// Whether this thread has called by it last. Of one that nobody has used yet it is `false`.
     pub fn is_used_by(&self, thread: u64) -> bool {
-        self.user.load(Ordering::Relaxed) == thread
+        thread != NOBODY && self.user.load(Ordering::Relaxed) == thread
     }
 
     /// The thread is about to sleep. After this it looks once more whether it has to.
