@@ -39,6 +39,7 @@
 
 mod board;
 mod choose;
+mod clock;
 #[cfg(test)]
 mod comparison;
 mod conductor;
@@ -49,6 +50,7 @@ mod moves;
 mod panics;
 mod pinned;
 mod play;
+mod races;
 mod rerun;
 mod runs;
 mod schedule;

@@ -31,6 +31,8 @@ pub(crate) struct Look {
     pub is_answered: bool,
     /// As [`Move::is_full`].
     pub is_full: bool,
+    /// As [`Move::place`].
+    pub place: u64,
 }
 
 /// A switchboard of some kind that is explored.
@@ -61,12 +63,16 @@ impl<R: Room> Board for Switchboard<R> {
         let room = &mut inside.handle;
         let is_full = match step.kind {
             Kind::Send => is_owed(room, step.object),
-            Kind::Recv | Kind::Poll => {
+            Kind::Recv | Kind::Poll | Kind::Copy | Kind::Close => {
+                is_owed(room, step.object) || is_closed(room, step.object)
+            }
+            Kind::Look => {
                 is_owed(room, step.object)
-                    || raw::seryugo_is_open(room, step.object) == code::CLOSED
+                    || is_closed(room, step.object)
+                    || is_held::<R>(room, step.object)
             }
             Kind::Put | Kind::Get | Kind::GetPoll | Kind::Take | Kind::TakePoll | Kind::Swap => {
-                R::held(room, step.object, &mut R::nothing()) == code::DONE
+                is_held::<R>(room, step.object)
             }
             _ => false,
         };
@@ -74,6 +80,7 @@ impl<R: Room> Board for Switchboard<R> {
             // A port that a feed has refuses the call.
             is_answered: is_full || is_fed || !step.kind.blocks(),
             is_full,
+            place: place(room, step),
         }
     }
 
@@ -170,6 +177,29 @@ fn sends_to(room: &mut Handle, target: u64) -> Step {
         Ok(kind::Kind::Mailbox) => Kind::Send.on(target),
         _ => Kind::Multicast.on(target),
     }
+}
+
+/// Which message of its mailbox or channel a step sends or receives, or `NONE`.
+fn place(room: &mut Handle, step: Step) -> u64 {
+    let object = step.object;
+    let mut count = |read: Reader| written(|count| read(room, object, count)).ok();
+    let place = match step.kind {
+        Kind::Send | Kind::Multicast => count(raw::seryugo_sent),
+        Kind::Recv | Kind::Poll if count(raw::seryugo_owed).is_some_and(|owed| owed > 0) => {
+            let start = count(raw::seryugo_start_of).unwrap_or(0);
+            count(raw::seryugo_got).map(|got| start + got)
+        }
+        _ => None,
+    };
+    place.unwrap_or(NONE)
+}
+
+fn is_closed(room: &mut Handle, port: u64) -> bool {
+    raw::seryugo_is_open(room, port) == code::CLOSED
+}
+
+fn is_held<R: Room>(room: &mut Handle, object: u64) -> bool {
+    R::held(room, object, &mut R::nothing()) == code::DONE
 }
 
 fn is_owed(room: &mut Handle, object: u64) -> bool {

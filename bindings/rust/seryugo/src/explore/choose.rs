@@ -50,6 +50,13 @@ impl Chooser {
             _ => None,
         }
     }
+
+    pub fn tree_mut(&mut self) -> Option<&mut Tree> {
+        match self {
+            Chooser::Every(tree) => Some(tree),
+            _ => None,
+        }
+    }
 }
 
 /// The move that a schedule has. After its end the first one.

@@ -46,6 +46,28 @@ const OTHER: u64 = 0;
 /// What each thread calls.
 type Plan = Vec<Vec<u64>>;
 
+/// The kinds of calls on a mailbox, a variable, and a channel with its ports.
+const FAMILIES: [&[u64]; 5] = [
+    &[0, 2, 4, 25, 3],
+    &[5, 6, 7, 8, 9, 10, 27],
+    &[15, 17, 18, 20, 19, 16, 17],
+    &[15, 17, 18, 20, 23, 24, 26, 28, 29],
+    &[11, 12, 13, 14, 21, 22],
+];
+
+/// A program whose calls meet more, since they are on few objects. Its last thread makes a call
+/// more.
+fn near_plan(number: u64) -> Plan {
+    let mut random = Random::new(mix(number, 13));
+    let family = FAMILIES[random.below(FAMILIES.len() as u64) as usize];
+    let other = FAMILIES[random.below(FAMILIES.len() as u64) as usize];
+    let mut call = || {
+        let family = if random.below(4) == 0 { other } else { family };
+        family[random.below(family.len() as u64) as usize]
+    };
+    (0..THREADS).map(|thread| (0..CALLS + thread / 2).map(|_| call()).collect()).collect()
+}
+
 /// A program uses few kinds, so that they meet.
 fn plan(number: u64) -> Plan {
     let mut random = Random::new(mix(number, 7));
@@ -343,6 +365,11 @@ fn compare(
     all
 }
 
+/// Where the numbers of the programs begin.
+fn first() -> u64 {
+    env::var("SERYUGO_FIRST").map_or(0, |first| first.parse().unwrap())
+}
+
 fn programs() -> u64 {
     env::var("SERYUGO_PROGRAMS").map_or(PROGRAMS, |count| count.parse().unwrap())
 }
@@ -350,14 +377,24 @@ fn programs() -> u64 {
 #[test]
 fn sleep_sets_leave_out_no_outcome() {
     let count = programs();
-    let (plain, slept) = compare(0..count, plan, false, |way| way);
+    let (plain, slept) = compare(first()..first() + count, plan, false, |way| way);
     println!("{count} programs: {plain} runs of every order, and {slept} with sleep sets");
     assert!(slept < plain);
 }
 
 #[test]
+fn nor_if_calls_meet_more() {
+    let numbers = 400_000 + first()..400_000 + first() + programs() / 4;
+    let (plain, slept) = compare(numbers.clone(), near_plan, false, |way| way);
+    println!("{plain} runs of every order, and {slept} that races ask for");
+    assert!(slept < plain);
+    let (plain, slept) = compare(numbers, near_plan, true, |way| way);
+    assert!(slept < plain);
+}
+
+#[test]
 fn nor_if_calls_end_by_a_time_limit_or_as_stalled() {
-    let numbers = 100_000..100_000 + programs() / 4;
+    let numbers = 100_000 + first()..100_000 + first() + programs() / 4;
     let (plain, slept) = compare(numbers.clone(), plan, true, |way| way);
     assert!(slept < plain);
     let (plain, slept) = compare(numbers, plan, false, Way::stalls_are_told);
@@ -366,7 +403,7 @@ fn nor_if_calls_end_by_a_time_limit_or_as_stalled() {
 
 #[test]
 fn nor_with_lanes_and_feeds() {
-    let numbers = 300_000..300_000 + programs() / 12;
+    let numbers = 300_000 + first()..300_000 + first() + programs() / 12;
     let (plain, slept) = compare(numbers.clone(), rings::plan, false, |way| way);
     println!("{plain} runs of every order, and {slept} with sleep sets");
     assert!(slept < plain);

@@ -26,6 +26,8 @@ pub(crate) struct Move {
     pub channel: u64,
     /// Whether the object has something: a message, or that it is closed.
     pub is_full: bool,
+    /// Which message of the mailbox or channel it sends or receives, or `NONE`.
+    pub place: u64,
     pub by: By,
 }
 
@@ -33,6 +35,11 @@ impl Move {
     /// Whether two moves that may both happen now leave the same in either order: the objects, and
     /// both replies. Neither keeps the other from happening.
     pub fn commutes_with(&self, other: &Move) -> bool {
+        self.commutes_if(other, self.is_full || other.is_full)
+    }
+
+    /// As above, if their object has something or not.
+    fn commutes_if(&self, other: &Move, is_full: bool) -> bool {
         if self.task == other.task || self.by != By::Step || other.by != By::Step {
             return false;
         }
@@ -54,7 +61,7 @@ impl Move {
         if self.as_if.object != other.as_if.object {
             return self.is_apart_from(other) && other.is_apart_from(self);
         }
-        on_one_object(self, other) || on_one_object(other, self)
+        on_one_object(one, two, is_full) || on_one_object(two, one, is_full)
     }
 
     /// Whether both use one lane.
@@ -79,16 +86,67 @@ impl Move {
     }
 }
 
+/// Two steps of one run, of which one is the earlier.
+impl Move {
+    /// Whether this step had to come after the earlier one, to leave what it did.
+    pub fn follows(&self, earlier: &Move) -> bool {
+        if self.task != earlier.task && self.may_receive_from(earlier) {
+            return self.place == earlier.place;
+        }
+        !earlier.commutes_if(self, earlier.is_full)
+    }
+
+    /// Whether it is a receive where the earlier step sent.
+    fn may_receive_from(&self, earlier: &Move) -> bool {
+        let are_steps = self.by == By::Step && earlier.by == By::Step;
+        let object = match earlier.as_if.kind {
+            Kind::Send => self.as_if.object,
+            Kind::Multicast => self.channel,
+            _ => return false,
+        };
+        are_steps && self.receives() && object == earlier.as_if.object
+    }
+
+    fn receives(&self) -> bool {
+        matches!(self.as_if.kind, Kind::Recv | Kind::Poll)
+    }
+
+    /// Whether it took what this step waits for.
+    pub fn takes_from(&self, waits: &Move) -> bool {
+        let takes = match self.as_if.kind {
+            Kind::Recv | Kind::Poll => self.place != NONE,
+            Kind::Take | Kind::TakePoll => self.is_full,
+            _ => false,
+        };
+        takes && self.by == By::Step && self.as_if.object == waits.as_if.object
+    }
+
+    /// Whether this step, which doesn't commute with the earlier one, couldn't be made before it:
+    /// what it waits for wasn't there.
+    pub fn waits_for(&self, earlier: &Move) -> bool {
+        if !self.as_if.kind.blocks() {
+            return false;
+        }
+        let is_there = earlier.is_full || earlier.as_if.kind == Kind::Close;
+        self.may_receive_from(earlier) || (self.as_if.object == earlier.as_if.object && !is_there)
+    }
+
+    /// Whether without the earlier step, which closed an empty port, this one may find a message
+    /// from a step that commutes with both.
+    pub fn may_wait_without(&self, earlier: &Move) -> bool {
+        let is_closed = earlier.as_if.kind == Kind::Close && !earlier.is_full;
+        is_closed && self.receives() && self.as_if.object == earlier.as_if.object
+    }
+}
+
 /// Whether such a step uses no object.
 fn is_in_rings(kind: Kind) -> bool {
     matches!(kind, Kind::OpenLane | Kind::LaneSend)
 }
 
 /// The pairs of steps on one object that commute, each in one of its two orders.
-fn on_one_object(one: &Move, two: &Move) -> bool {
-    // Both see the object as it is now.
-    let is_full = one.is_full || two.is_full;
-    match (one.as_if.kind, two.as_if.kind) {
+fn on_one_object(one: Kind, two: Kind, is_full: bool) -> bool {
+    match (one, two) {
         (Kind::Look | Kind::Get | Kind::GetPoll, Kind::Look | Kind::Get | Kind::GetPoll) => true,
         // One at the end of a queue, and one at its front.
         (Kind::Send, Kind::Recv | Kind::Poll) => is_full,

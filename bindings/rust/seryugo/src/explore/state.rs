@@ -152,6 +152,9 @@ impl State {
     /// A run begins, whose first thread has this slot.
     pub fn begin(&mut self, board: Arc<dyn Board>, main: &Arc<Slot>, run: u64) {
         self.chooser.begin(run);
+        if self.limits.tells_stalls || self.limits.polls_are_steps {
+            self.chooser.tree_mut().iter_mut().for_each(|tree| tree.ask_for_all());
+        }
         self.history.begin();
         self.board = Some(board);
         self.tasks.clear();
@@ -184,6 +187,9 @@ impl State {
             has_stepped: false,
             entries: 0,
         });
+        if let Some(tree) = self.chooser.tree_mut() {
+            tree.started(number, self.current);
+        }
         number
     }
 
@@ -249,8 +255,11 @@ impl State {
         };
         let mut done = self.tasks[next].done;
         let joined = |(number, task): &(usize, &Task)| joins.has(*number, task);
-        for (_, task) in self.tasks.iter().enumerate().filter(joined) {
+        for (number, task) in self.tasks.iter().enumerate().filter(joined) {
             History::joined(&mut done, task.done);
+            if let Some(tree) = self.chooser.tree_mut() {
+                tree.joined(next, number);
+            }
         }
         self.tasks[next].done = done;
         Some(next)
@@ -341,6 +350,9 @@ impl State {
             }
         }
         if moves.is_empty() {
+            if let Some(tree) = self.chooser.tree_mut() {
+                tree.stuck(&stuck);
+            }
             moves = self.late(stuck);
         }
         (!moves.is_empty()).then_some(moves)

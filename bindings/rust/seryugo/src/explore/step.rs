@@ -90,6 +90,12 @@ impl Kind {
         matches!(self, Kind::LaneSend | Kind::Drain | Kind::CloseLane)
     }
 
+    /// Whether it uses a lane or a feed.
+    pub fn is_of_rings(self) -> bool {
+        let is_used = matches!(self, Kind::LaneSend | Kind::Drain | Kind::Pump | Kind::FeedRecv);
+        is_used || self.opens_or_ends()
+    }
+
     /// Whether it opens or ends a lane or a feed.
     pub fn opens_or_ends(self) -> bool {
         use Kind::{CloseLane, EndFeed, OpenFeed, OpenLane};

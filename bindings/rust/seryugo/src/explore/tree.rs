@@ -2,10 +2,13 @@
 
 use super::choose::Random;
 use super::moves::{By, Move};
+use super::races::{Ask, Races};
 
 /// What has become of a way at a choice.
 #[derive(Clone, Copy, PartialEq)]
 enum Mark {
+    /// No race has asked for it.
+    Unasked,
     Open,
     /// An order that was run before has it first, and leaves the same.
     Asleep,
@@ -35,6 +38,8 @@ pub(crate) struct Tree {
     depth: usize,
     /// Whether it leaves out orders in which only steps are exchanged that commute.
     sleeps: bool,
+    /// What asks for ways. `None`: every way is open.
+    races: Option<Races>,
     /// In a run a thread that could go on gives way to another one at most so often.
     preemptions: Option<u32>,
     preempted: u32,
@@ -48,10 +53,12 @@ impl Tree {
     /// A bound of preemptions doesn't go with sleep sets: an order that is left out may be the only
     /// one within the bound.
     pub fn new(sleeps: bool, preemptions: Option<u32>) -> Tree {
+        let sleeps = sleeps && preemptions.is_none();
         Tree {
             nodes: Vec::new(),
             depth: 0,
-            sleeps: sleeps && preemptions.is_none(),
+            sleeps,
+            races: sleeps.then(Races::default),
             preemptions,
             preempted: 0,
             is_repeat: false,
@@ -70,6 +77,47 @@ impl Tree {
 
     pub fn begin(&mut self) {
         (self.depth, self.preempted, self.is_repeat) = (0, 0, false);
+        if let Some(races) = &mut self.races {
+            races.begin();
+        }
+    }
+
+    /// A thread starts another one.
+    pub fn started(&mut self, task: usize, by: usize) {
+        if let Some(races) = &mut self.races {
+            races.started(task, by);
+        }
+    }
+
+    /// A thread has joined another one.
+    pub fn joined(&mut self, task: usize, other: usize) {
+        if let Some(races) = &mut self.races {
+            races.joined(task, other);
+        }
+    }
+
+    /// No thread can go on, and these wait.
+    pub fn stuck(&mut self, waits: &[Move]) {
+        let Some(races) = &self.races else { return };
+        if self.is_repeat || self.depth < self.nodes.len() {
+            return;
+        }
+        let asked = races.stuck(waits, |at| self.nodes[at].has_unasked());
+        self.ask(&asked);
+    }
+
+    fn ask(&mut self, asked: &[Ask]) {
+        for ask in asked {
+            self.nodes[ask.at].ask(&ask.tasks);
+        }
+    }
+
+    /// Not all races are known: from now on every way is open.
+    pub fn ask_for_all(&mut self) {
+        self.races = None;
+        for node in &mut self.nodes {
+            node.ask(&[]);
+        }
     }
 
     /// Which of these moves is made. The first is that of the thread that went on last, if it can.
@@ -80,6 +128,9 @@ impl Tree {
                 ways => self.random.below(ways as u64) as usize,
             };
             return Ok(moves[any]);
+        }
+        if self.races.is_some() && moves.iter().any(|way| way.step.kind.is_of_rings()) {
+            self.ask_for_all();
         }
         let chosen = match self.nodes.get(self.depth) {
             Some(node) => node.again(self.depth, &moves)?,
@@ -94,6 +145,11 @@ impl Tree {
         let goes_on = &self.nodes[self.depth].moves[0];
         let is_preemption = goes_on.task == last && goes_on.by == By::Step && chosen.task != last;
         self.preempted += u32::from(is_preemption);
+        if let Some(races) = &mut self.races {
+            let nodes = &self.nodes;
+            let asked = races.made(self.depth, &chosen, |at| nodes[at].has_unasked());
+            self.ask(&asked);
+        }
         self.depth += 1;
         Ok(chosen)
     }
@@ -106,11 +162,15 @@ impl Tree {
         {
             moves.retain(|way| way.task == last);
         }
-        let marks = self.marks(&moves);
+        let mut marks = self.marks(&moves);
         let Some(at) = marks.iter().position(|mark| *mark == Mark::Open) else {
             return Err(moves[0]);
         };
         let chosen = moves[at];
+        if self.races.is_some() && chosen.by == By::Step {
+            let others = marks.iter_mut().skip(at + 1).filter(|mark| **mark == Mark::Open);
+            others.for_each(|mark| *mark = Mark::Unasked);
+        }
         self.nodes.push(Node { moves, marks, at });
         Ok(chosen)
     }
@@ -128,7 +188,7 @@ impl Tree {
             let was = node.moves.iter().position(is_same);
             was.is_some_and(|was| {
                 was != node.at
-                    && node.marks[was] != Mark::Open
+                    && matches!(node.marks[was], Mark::Asleep | Mark::Tried)
                     && node.moves[was].commutes_with(went)
             })
         };
@@ -148,6 +208,8 @@ impl Tree {
             node.marks[node.at] = Mark::Tried;
             if let Some(at) = node.marks.iter().position(|mark| *mark == Mark::Open) {
                 node.at = at;
+                let kept = self.nodes.len() - 1;
+                self.races.iter_mut().for_each(|races| races.keep(kept));
                 return true;
             }
             self.nodes.pop();
@@ -167,5 +229,25 @@ impl Node {
             choice,
             before: self.moves.clone(),
         })
+    }
+
+    fn has_unasked(&self) -> bool {
+        self.marks.contains(&Mark::Unasked)
+    }
+
+    /// Opens a way of one of these threads, unless one of theirs was open, tried or asleep. If none
+    /// of them can go on here, it opens all.
+    fn ask(&mut self, tasks: &[usize]) {
+        let of = |task: &usize| self.moves.iter().position(|way| way.task == *task);
+        let ways: Vec<usize> = tasks.iter().filter_map(of).collect();
+        if ways.iter().any(|way| self.marks[*way] != Mark::Unasked) {
+            return;
+        }
+        if let Some(way) = ways.first() {
+            self.marks[*way] = Mark::Open;
+            return;
+        }
+        let unasked = self.marks.iter_mut().filter(|mark| **mark == Mark::Unasked);
+        unasked.for_each(|mark| *mark = Mark::Open);
     }
 }

@@ -301,6 +301,7 @@ impl State {
                 as_if: self.as_if(call),
                 channel: call.channel,
                 is_full: look.is_full,
+                place: look.place,
                 by: By::Step,
             };
             Some((way, look.is_answered || call.is_poll))

@@ -1,0 +1,137 @@
+//! Which choices of a run ask for other ways: those at which a step was made that another thread's
+//! later step could have come before.
+//!
+//! The steps of a run are in an order by what each needs: a thread's step needs its earlier ones,
+//! and a step needs the earlier ones with which it doesn't commute. Two steps that don't commute
+//! are a race, unless the later thread needed the other step to come to its own. Then the choice of
+//! the first one asks for a thread that leads to the other order.
+
+use super::clock::Clock;
+use super::moves::{By, Move};
+
+/// A step of the run, with those that it needs.
+struct Event {
+    made: Move,
+    past: Clock,
+}
+
+/// The choice at this place asks for one of these threads. If there is none, it asks for all.
+pub(crate) struct Ask {
+    pub at: usize,
+    pub tasks: Vec<usize>,
+}
+
+/// The steps of the run that is on.
+#[derive(Default)]
+pub(crate) struct Races {
+    events: Vec<Event>,
+    /// What each thread's next step needs at least.
+    now: Vec<Clock>,
+}
+
+impl Races {
+    pub fn begin(&mut self) {
+        self.now.clear();
+    }
+
+    /// The next run has the first steps of this one, this many.
+    pub fn keep(&mut self, steps: usize) {
+        self.events.truncate(steps);
+    }
+
+    /// A thread starts another one.
+    pub fn started(&mut self, task: usize, by: usize) {
+        let clock = self.now.get(by).cloned().unwrap_or_default();
+        self.now.resize_with(task + 1, Clock::default);
+        self.now[task] = clock;
+    }
+
+    /// A thread has joined another one.
+    pub fn joined(&mut self, task: usize, other: usize) {
+        let clock = self.now[other].clone();
+        self.now[task].join(&clock);
+    }
+
+    /// The step at this place is made. Returns what it asks for, of choices that have more ways.
+    pub fn made(&mut self, at: usize, made: &Move, has_ways: impl Fn(usize) -> bool) -> Vec<Ask> {
+        let mut asked = Vec::new();
+        if self.events.len() == at {
+            let before = &self.now[made.task];
+            let mut past = before.clone();
+            if made.by != By::Step {
+                self.now.iter().for_each(|clock| past.join(clock));
+            }
+            for (place, event) in self.since_late().filter(|(_, event)| made.follows(&event.made)) {
+                let is_race = made.by == By::Step && !before.has(event.made.task, place);
+                if is_race && has_ways(place) {
+                    asked.extend(self.race(place, made, before));
+                }
+                past.join(&event.past);
+                past.add(event.made.task, place);
+            }
+            self.events.push(Event { made: *made, past });
+        }
+        let clock = &mut self.now[made.task];
+        clock.clone_from(&self.events[at].past);
+        clock.add(made.task, at);
+        asked
+    }
+
+    /// No thread can go on, and these wait. What they wait for may have been taken from them.
+    pub fn stuck(&self, waits: &[Move], has_ways: impl Fn(usize) -> bool) -> Vec<Ask> {
+        let mut asked = Vec::new();
+        for (place, event) in self.since_late().filter(|(place, _)| has_ways(*place)) {
+            let is_taken = |wait: &&Move| {
+                event.made.takes_from(wait) && !self.now[wait.task].has(event.made.task, place)
+            };
+            let taken = waits.iter().filter(is_taken);
+            asked.extend(taken.map(|wait| self.ask(place, wait, &self.now[wait.task])));
+        }
+        asked
+    }
+
+    /// The steps, from the last one back to the last one that was made since no thread could go on.
+    fn since_late(&self) -> impl Iterator<Item = (usize, &Event)> {
+        let mut is_before = false;
+        self.events.iter().enumerate().rev().take_while(move |(_, event)| {
+            !std::mem::replace(&mut is_before, event.made.by != By::Step)
+        })
+    }
+
+    /// What the race of the step at this place with a later one asks for. `before` is what the
+    /// later one's thread needed.
+    fn race(&self, at: usize, later: &Move, before: &Clock) -> Option<Ask> {
+        let made = &self.events[at].made;
+        if made.by != By::Step || later.waits_for(made) {
+            return None;
+        }
+        if later.may_wait_without(made) {
+            return Some(Ask {
+                at,
+                tasks: Vec::new(),
+            });
+        }
+        Some(self.ask(at, later, before))
+    }
+
+    /// Of the steps after this one that don't need it, the threads that may make theirs first.
+    fn ask(&self, at: usize, later: &Move, before: &Clock) -> Ask {
+        let first = self.events[at].made.task;
+        let mut tasks = Vec::new();
+        let mut is_later_first = true;
+        for (place, event) in self.events.iter().enumerate().skip(at + 1) {
+            let task = event.made.task;
+            if task == first || event.past.has(first, at) {
+                continue;
+            }
+            is_later_first &= !before.has(task, place) && !later.follows(&event.made);
+            if !event.past.has_after(at) {
+                tasks.push(task);
+            }
+        }
+        if is_later_first {
+            tasks.insert(0, later.task);
+        }
+        Ask { at, tasks }
+    }
+}
