@@ -32,12 +32,17 @@ fn main() {
         measure("two who send four, and one who receives", way, |board| senders(board, 4));
     }
     measure("two who send six, and one who receives", Way::every(), |board| senders(board, 6));
+    measure_up_to(200_000, "two who send ten", Way::every(), |board| senders(board, 10));
     measure("one who multicasts, one who receives, one who closes", Way::every(), closer);
 }
 
 fn measure(name: &str, way: Way, program: impl Fn(&Board)) {
+    measure_up_to(20_000, name, way, program);
+}
+
+fn measure_up_to(runs: u64, name: &str, way: Way, program: impl Fn(&Board)) {
     let start = Instant::now();
-    let found = explore(way.clone(), 20_000, program);
+    let found = explore(way.clone(), runs, program);
     let time = start.elapsed();
     let each = found.runs() as f64 / time.as_secs_f64();
     let end = found.bad().map_or("no bad end", |_| "a bad end");

@@ -216,6 +216,10 @@ impl Played<'_> {
         for _ in self.plan {
             state.add(Arc::clone(&slot), 1);
         }
+        if !self.rings.is_empty() {
+            // Else the first thread opens them, as steps.
+            state.chooser.tree_mut().iter_mut().for_each(|tree| tree.ask_for_all());
+        }
         state.tasks[0].at = At::Joins(Joins::Scope(1));
         let mut has_come = vec![false; self.plan.len()];
         loop {
@@ -484,4 +488,40 @@ fn run_threads(board: &Board, plan: &Plan) {
             });
         }
     });
+}
+
+#[test]
+#[ignore = "a try"]
+fn shrink_tried() {
+    let text = env::var("PLAN").unwrap();
+    let is_timed = env::var("TIMED").is_ok();
+    let mut plan: Plan = text
+        .split('/')
+        .map(|t| {
+            t.split(',').filter(|w| !w.is_empty()).map(|w| w.trim().parse().unwrap()).collect()
+        })
+        .collect();
+    let differs = |plan: &Plan| {
+        let (plainly, ..) = all_outcomes(&Way::every_plainly(), plan, is_timed);
+        let (slept, runs, _) = all_outcomes(&Way::every(), plan, is_timed);
+        (plainly != slept).then_some((plainly.len(), slept.len(), runs))
+    };
+    assert!(differs(&plan).is_some());
+    loop {
+        let mut smaller = None;
+        for thread in 0..plan.len() {
+            for at in 0..plan[thread].len() {
+                let mut less = plan.clone();
+                less[thread].remove(at);
+                if differs(&less).is_some() {
+                    smaller = Some(less);
+                }
+            }
+        }
+        match smaller {
+            Some(less) => plan = less,
+            None => break,
+        }
+    }
+    println!("SMALL {plan:?} {:?}", differs(&plan));
 }

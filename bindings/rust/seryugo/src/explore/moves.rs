@@ -121,14 +121,15 @@ impl Move {
         takes && self.by == By::Step && self.as_if.object == waits.as_if.object
     }
 
-    /// Whether this step, which doesn't commute with the earlier one, couldn't be made before it:
-    /// what it waits for wasn't there.
+    /// Whether this step, which doesn't commute with the earlier one, couldn't be made before it.
+    /// What it waits for wasn't there, and came after it or by it.
     pub fn waits_for(&self, earlier: &Move) -> bool {
-        if !self.as_if.kind.blocks() {
-            return false;
-        }
-        let is_there = earlier.is_full || earlier.as_if.kind == Kind::Close;
-        self.may_receive_from(earlier) || (self.as_if.object == earlier.as_if.object && !is_there)
+        let is_empty = match earlier.as_if.kind {
+            // A multicast commutes with these.
+            Kind::Close | Kind::Copy => false,
+            _ => self.as_if.object == earlier.as_if.object && !earlier.is_full,
+        };
+        self.as_if.kind.blocks() && (is_empty || self.may_receive_from(earlier))
     }
 
     /// Whether without the earlier step, which closed an empty port, this one may find a message

@@ -25,8 +25,16 @@ pub(crate) struct Ask {
 #[derive(Default)]
 pub(crate) struct Races {
     events: Vec<Event>,
-    /// What each thread's next step needs at least.
-    now: Vec<Clock>,
+    now: Vec<Thread>,
+}
+
+/// A thread of the run that is on.
+#[derive(Clone, Default)]
+struct Thread {
+    /// What its next step needs at least.
+    clock: Clock,
+    /// That step waits, and the steps before this place were looked at.
+    seen: usize,
 }
 
 impl Races {
@@ -41,25 +49,25 @@ impl Races {
 
     /// A thread starts another one.
     pub fn started(&mut self, task: usize, by: usize) {
-        let clock = self.now.get(by).cloned().unwrap_or_default();
-        self.now.resize_with(task + 1, Clock::default);
-        self.now[task] = clock;
+        let clock = self.now.get(by).map(|thread| thread.clock.clone()).unwrap_or_default();
+        self.now.resize_with(task + 1, Thread::default);
+        self.now[task] = Thread { clock, seen: 0 };
     }
 
     /// A thread has joined another one.
     pub fn joined(&mut self, task: usize, other: usize) {
-        let clock = self.now[other].clone();
-        self.now[task].join(&clock);
+        let clock = self.now[other].clock.clone();
+        self.now[task].clock.join(&clock);
     }
 
     /// The step at this place is made. Returns what it asks for, of choices that have more ways.
     pub fn made(&mut self, at: usize, made: &Move, has_ways: impl Fn(usize) -> bool) -> Vec<Ask> {
         let mut asked = Vec::new();
         if self.events.len() == at {
-            let before = &self.now[made.task];
+            let before = &self.now[made.task].clock;
             let mut past = before.clone();
             if made.by != By::Step {
-                self.now.iter().for_each(|clock| past.join(clock));
+                self.now.iter().for_each(|thread| past.join(&thread.clock));
             }
             for (place, event) in self.since_late().filter(|(_, event)| made.follows(&event.made)) {
                 let is_race = made.by == By::Step && !before.has(event.made.task, place);
@@ -71,21 +79,25 @@ impl Races {
             }
             self.events.push(Event { made: *made, past });
         }
-        let clock = &mut self.now[made.task];
-        clock.clone_from(&self.events[at].past);
-        clock.add(made.task, at);
+        let thread = &mut self.now[made.task];
+        thread.clock.clone_from(&self.events[at].past);
+        thread.clock.add(made.task, at);
+        thread.seen = 0;
         asked
     }
 
-    /// No thread can go on, and these wait. What they wait for may have been taken from them.
-    pub fn stuck(&self, waits: &[Move], has_ways: impl Fn(usize) -> bool) -> Vec<Ask> {
+    /// These wait after the last step. What they wait for may have been taken from them.
+    pub fn wait(&mut self, waits: &[Move], has_ways: impl Fn(usize) -> bool) -> Vec<Ask> {
         let mut asked = Vec::new();
-        for (place, event) in self.since_late().filter(|(place, _)| has_ways(*place)) {
-            let is_taken = |wait: &&Move| {
-                event.made.takes_from(wait) && !self.now[wait.task].has(event.made.task, place)
-            };
-            let taken = waits.iter().filter(is_taken);
-            asked.extend(taken.map(|wait| self.ask(place, wait, &self.now[wait.task])));
+        for wait in waits {
+            let thread = &self.now[wait.task];
+            let new = self.since_late().take_while(|(place, _)| *place >= thread.seen);
+            let taken = new.filter(|(place, event)| {
+                let is_race = !thread.clock.has(event.made.task, *place);
+                event.made.takes_from(wait) && is_race && has_ways(*place)
+            });
+            asked.extend(taken.map(|(place, _)| self.ask(place, wait, &thread.clock)));
+            self.now[wait.task].seen = self.events.len();
         }
         asked
     }

@@ -349,10 +349,10 @@ impl State {
                 stuck.push(way);
             }
         }
+        if let Some(tree) = self.chooser.tree_mut() {
+            tree.wait(&stuck);
+        }
         if moves.is_empty() {
-            if let Some(tree) = self.chooser.tree_mut() {
-                tree.stuck(&stuck);
-            }
             moves = self.late(stuck);
         }
         (!moves.is_empty()).then_some(moves)

@@ -47,7 +47,14 @@ pub(crate) struct Tree {
     /// order.
     is_repeat: bool,
     random: Random,
+    /// How many runs there were.
+    runs: u64,
+    /// Every order was run, and after this run there are this many repeats.
+    checks: Option<u64>,
 }
+
+/// After all orders it makes this many repeats at the most.
+const CHECKS: u64 = 8;
 
 impl Tree {
     /// A bound of preemptions doesn't go with sleep sets: an order that is left out may be the only
@@ -63,6 +70,8 @@ impl Tree {
             preempted: 0,
             is_repeat: false,
             random: Random::new(1),
+            runs: 0,
+            checks: None,
         }
     }
 
@@ -76,7 +85,7 @@ impl Tree {
     }
 
     pub fn begin(&mut self) {
-        (self.depth, self.preempted, self.is_repeat) = (0, 0, false);
+        (self.depth, self.preempted, self.is_repeat) = (0, 0, self.checks.is_some());
         if let Some(races) = &mut self.races {
             races.begin();
         }
@@ -96,14 +105,16 @@ impl Tree {
         }
     }
 
-    /// No thread can go on, and these wait.
-    pub fn stuck(&mut self, waits: &[Move]) {
-        let Some(races) = &self.races else { return };
+    /// These wait at the next choice.
+    pub fn wait(&mut self, waits: &[Move]) {
         if self.is_repeat || self.depth < self.nodes.len() {
             return;
         }
-        let asked = races.stuck(waits, |at| self.nodes[at].has_unasked());
-        self.ask(&asked);
+        if let Some(races) = &mut self.races {
+            let nodes = &self.nodes;
+            let asked = races.wait(waits, |at| nodes[at].has_unasked());
+            self.ask(&asked);
+        }
     }
 
     fn ask(&mut self, asked: &[Ask]) {
@@ -204,6 +215,7 @@ impl Tree {
 
     /// Goes back to the last choice that has another way. `false`: every order was run.
     pub fn next_run(&mut self) -> bool {
+        self.runs += 1;
         while let Some(node) = self.nodes.last_mut() {
             node.marks[node.at] = Mark::Tried;
             if let Some(at) = node.marks.iter().position(|mark| *mark == Mark::Open) {
@@ -214,7 +226,14 @@ impl Tree {
             }
             self.nodes.pop();
         }
-        false
+        self.checks()
+    }
+
+    /// Whether one more repeat is made, to see that it leaves the same: there were few.
+    fn checks(&mut self) -> bool {
+        let all = self.races.as_ref().map_or(0, |_| self.runs.min(CHECKS));
+        self.checks = self.checks.unwrap_or(all).checked_sub(1);
+        self.checks.is_some()
     }
 }
 

@@ -115,7 +115,7 @@ fn one_future_at_a_time_has_the_runs_of_a_call_that_blocks() {
             }
         });
     };
-    assert_eq!(clean(dine), (16, 142));
+    assert_eq!(clean(dine), (12, 142));
 }
 
 #[test]
