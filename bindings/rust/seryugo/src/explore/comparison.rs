@@ -5,6 +5,7 @@
 //! `SERYUGO_PROGRAMS=10000 cargo test --release --lib comparison` compares this many programs.
 
 mod futures;
+mod near;
 mod rings;
 
 use super::board::{sum_of, Pass};
@@ -21,6 +22,7 @@ use crate::owned::OwnedSeat;
 use crate::raw::{self, written};
 use crate::room::Numbers;
 use crate::switchboard::Switchboard;
+use near::{Near, FIRST_NEAR};
 use rings::{Rings, FIRST_RING};
 use std::collections::{BTreeMap, BTreeSet};
 use std::env;
@@ -45,28 +47,6 @@ const OTHER: u64 = 0;
 
 /// What each thread calls.
 type Plan = Vec<Vec<u64>>;
-
-/// The kinds of calls on a mailbox, a variable, and a channel with its ports.
-const FAMILIES: [&[u64]; 5] = [
-    &[0, 2, 4, 25, 3],
-    &[5, 6, 7, 8, 9, 10, 27],
-    &[15, 17, 18, 20, 19, 16, 17],
-    &[15, 17, 18, 20, 23, 24, 26, 28, 29],
-    &[11, 12, 13, 14, 21, 22],
-];
-
-/// A program whose calls meet more, since they are on few objects. Its last thread makes a call
-/// more.
-fn near_plan(number: u64) -> Plan {
-    let mut random = Random::new(mix(number, 13));
-    let family = FAMILIES[random.below(FAMILIES.len() as u64) as usize];
-    let other = FAMILIES[random.below(FAMILIES.len() as u64) as usize];
-    let mut call = || {
-        let family = if random.below(4) == 0 { other } else { family };
-        family[random.below(family.len() as u64) as usize]
-    };
-    (0..THREADS).map(|thread| (0..CALLS + thread / 2).map(|_| call()).collect()).collect()
-}
 
 /// A program uses few kinds, so that they meet.
 fn plan(number: u64) -> Plan {
@@ -182,6 +162,7 @@ struct Played<'p> {
     of: Objects,
     /// What lanes and feeds each thread has, if the program has some.
     rings: Vec<Rings>,
+    near: Near,
     /// How many calls each thread has made, and what it has seen.
     made: Vec<usize>,
     seen: Vec<u64>,
@@ -200,6 +181,7 @@ impl Played<'_> {
             is_timed,
             of,
             rings: rings::of(&board, plan, of),
+            near: Near::of(plan),
             seats: plan.iter().map(|_| board.seat_owned().unwrap()).collect(),
             board,
             made: vec![0; plan.len()],
@@ -241,6 +223,7 @@ impl Played<'_> {
                     // Every other thread waits with a time limit.
                     let is_timed = self.is_timed && thread % 2 == 0;
                     let step = match self.rings.get(thread) {
+                        _ if kind >= FIRST_NEAR => self.near.step(thread, kind, self.of),
                         Some(rings) if kind >= FIRST_RING => rings.step(kind),
                         _ => step(kind, self.of),
                     };
@@ -265,6 +248,10 @@ impl Played<'_> {
         self.made[thread] += 1;
         if pass != Pass::Go {
             self.seen[thread] = mix(self.seen[thread], at as u64 + 1);
+        } else if kind >= FIRST_NEAR {
+            let on = (&self.board, &mut self.seats[thread]);
+            let seen = self.near.call(thread, kind, self.of, on);
+            self.seen[thread] = mix(self.seen[thread], seen);
         } else if kind >= FIRST_RING {
             let (board, seat) = (&self.board, &mut self.seats[thread]);
             let (saw, seen) = self.rings[thread].call(board, seat, kind, message(thread, at));
@@ -389,10 +376,10 @@ fn sleep_sets_leave_out_no_outcome() {
 #[test]
 fn nor_if_calls_meet_more() {
     let numbers = 400_000 + first()..400_000 + first() + programs() / 4;
-    let (plain, slept) = compare(numbers.clone(), near_plan, false, |way| way);
+    let (plain, slept) = compare(numbers.clone(), near::plan, false, |way| way);
     println!("{plain} runs of every order, and {slept} that races ask for");
     assert!(slept < plain);
-    let (plain, slept) = compare(numbers, near_plan, true, |way| way);
+    let (plain, slept) = compare(numbers, near::plan, true, |way| way);
     assert!(slept < plain);
 }
 
