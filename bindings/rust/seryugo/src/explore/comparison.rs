@@ -5,6 +5,7 @@
 //! `SERYUGO_PROGRAMS=10000 cargo test --release --lib comparison` compares this many programs.
 
 mod futures;
+mod joins;
 mod near;
 mod rings;
 
@@ -475,40 +476,4 @@ fn run_threads(board: &Board, plan: &Plan) {
             });
         }
     });
-}
-
-#[test]
-#[ignore = "a try"]
-fn shrink_tried() {
-    let text = env::var("PLAN").unwrap();
-    let is_timed = env::var("TIMED").is_ok();
-    let mut plan: Plan = text
-        .split('/')
-        .map(|t| {
-            t.split(',').filter(|w| !w.is_empty()).map(|w| w.trim().parse().unwrap()).collect()
-        })
-        .collect();
-    let differs = |plan: &Plan| {
-        let (plainly, ..) = all_outcomes(&Way::every_plainly(), plan, is_timed);
-        let (slept, runs, _) = all_outcomes(&Way::every(), plan, is_timed);
-        (plainly != slept).then_some((plainly.len(), slept.len(), runs))
-    };
-    assert!(differs(&plan).is_some());
-    loop {
-        let mut smaller = None;
-        for thread in 0..plan.len() {
-            for at in 0..plan[thread].len() {
-                let mut less = plan.clone();
-                less[thread].remove(at);
-                if differs(&less).is_some() {
-                    smaller = Some(less);
-                }
-            }
-        }
-        match smaller {
-            Some(less) => plan = less,
-            None => break,
-        }
-    }
-    println!("SMALL {plan:?} {:?}", differs(&plan));
 }

@@ -1,0 +1,133 @@
+//! Random programs whose threads start others, and join some before their end. They are run by
+//! threads.
+
+use super::{call, objects, programs, Board, Objects, Plan};
+use crate::explore::choose::{mix, Random};
+use crate::explore::end::End;
+use crate::explore::runs::Explorer;
+use crate::explore::way::Way;
+use crate::explore::{scope, Thread};
+use crate::owned::OwnedSeat;
+use crate::room::Numbers;
+use std::collections::{BTreeMap, BTreeSet};
+use std::sync::Mutex;
+
+/// The thread starts its next one,
+const STARTS: u64 = 90;
+/// and joins the one that it has started last.
+const JOINS: u64 = 91;
+const FAMILIES: [&[u64]; 4] = [
+    &[0, 2, 4],
+    &[11, 12, 13, 14],
+    &[5, 6, 7, 10],
+    &[15, 17, 18, 20, 24],
+];
+
+/// The first thread starts two others, of which the first one starts another.
+fn plan(number: u64) -> Plan {
+    let mut random = Random::new(mix(number, 17));
+    let family = FAMILIES[random.below(FAMILIES.len() as u64) as usize];
+    let mut calls = |mut list: Vec<u64>, count: usize| {
+        for _ in 0..count {
+            let at = random.below(list.len() as u64 + 1) as usize;
+            list.insert(at, family[random.below(family.len() as u64) as usize]);
+        }
+        list
+    };
+    let joins = if number % 2 == 0 { JOINS } else { STARTS };
+    let last = if number % 4 < 2 {
+        vec![STARTS, JOINS]
+    } else {
+        vec![STARTS]
+    };
+    vec![
+        calls(vec![STARTS, joins, STARTS], 2),
+        calls(last, 2),
+        calls(vec![], 2),
+        calls(vec![], 1),
+    ]
+}
+
+/// What the threads of a run share: their seats are made before.
+struct Shared<'p> {
+    plan: &'p Plan,
+    seats: Vec<Mutex<Option<OwnedSeat<Numbers>>>>,
+    of: Objects,
+}
+
+/// A thread starts two at the most.
+fn run(thread: usize, shared: &Shared<'_>) {
+    let mut seat = shared.seats[thread].lock().unwrap().take().unwrap();
+    scope(|threads| {
+        let mut started = Vec::new();
+        let mut next = 2 * thread + 1;
+        for (at, kind) in shared.plan[thread].iter().enumerate() {
+            match *kind {
+                STARTS if next < shared.plan.len().min(2 * thread + 3) => {
+                    started.push(threads.spawn(move || run(next, shared)));
+                    next += 1;
+                }
+                STARTS => (),
+                JOINS => drop(started.pop().map(Thread::join)),
+                kind => call(&mut seat, kind, shared.of, super::message(thread, at)),
+            }
+        }
+    });
+}
+
+fn run_plan(board: &Board, plan: &Plan, kept: &Mutex<String>) {
+    let of = objects(&mut board.seat_owned().unwrap());
+    let seat = |_: &Vec<u64>| Mutex::new(Some(board.seat_owned().unwrap()));
+    let shared = Shared {
+        plan,
+        seats: plan.iter().map(seat).collect(),
+        of,
+    };
+    run(0, &shared);
+    let mut text = Vec::new();
+    board.take_journal_open().unwrap().write_to(&mut text).unwrap();
+    *kept.lock().unwrap() = String::from_utf8(text).unwrap();
+}
+
+/// What each seat has called and was answered, and how the run ended, in all runs.
+fn outcomes(way: Way, plan: &Plan) -> (BTreeSet<String>, u64) {
+    let kept = Mutex::new(String::new());
+    let program = |board: &Board| run_plan(board, plan, &kept);
+    let explorer = Explorer::new(way);
+    let mut outcomes = BTreeSet::new();
+    for number in 0.. {
+        let end = explorer.run(number, &program).end;
+        let journal = match end {
+            End::Done => kept.lock().unwrap().clone(),
+            End::Stalled { .. } => explorer.bad(0, end.clone()).journal,
+            end => panic!("{plan:?}: {end}"),
+        };
+        let mut seats: BTreeMap<&str, String> = BTreeMap::new();
+        for line in journal.lines().filter(|line| line.starts_with("seat")) {
+            seats.entry(line.split(' ').nth(1).unwrap()).or_default().push_str(line);
+        }
+        outcomes.insert(format!("{} {seats:?}", end.is_bad()));
+        if !explorer.next_run() {
+            assert_eq!(explorer.play.lock().beside, None, "{plan:?}");
+            return (outcomes, number + 1);
+        }
+    }
+    unreachable!("there are fewer runs than numbers")
+}
+
+#[test]
+fn threads_that_start_and_join_others_have_all_outcomes() {
+    let mut all = (0, 0);
+    for number in super::first()..super::first() + programs() / 5 {
+        let plan = plan(number);
+        let (plainly, plain_runs) = outcomes(Way::every_plainly(), &plan);
+        let (asked, runs) = outcomes(Way::every(), &plan);
+        assert!(plainly == asked, "program {number}, {plan:?}");
+        all = (all.0 + plain_runs, all.1 + runs);
+        if number % 100 == 99 {
+            println!("the same up to program {number}: {all:?} runs");
+        }
+    }
+    println!("{all:?} runs");
+    assert!(all.1 < all.0);
+}
