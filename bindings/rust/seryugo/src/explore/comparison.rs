@@ -367,10 +367,10 @@ fn programs() -> u64 {
 }
 
 #[test]
-fn sleep_sets_leave_out_no_outcome() {
+fn every_leaves_out_no_outcome() {
     let count = programs();
     let (plain, slept) = compare(first()..first() + count, plan, false, |way| way);
-    println!("{count} programs: {plain} runs of every order, and {slept} with sleep sets");
+    println!("{count} programs: {plain} runs of every order, and {slept} of those that differ");
     assert!(slept < plain);
 }
 
@@ -378,7 +378,7 @@ fn sleep_sets_leave_out_no_outcome() {
 fn nor_if_calls_meet_more() {
     let numbers = 400_000 + first()..400_000 + first() + programs() / 4;
     let (plain, slept) = compare(numbers.clone(), near::plan, false, |way| way);
-    println!("{plain} runs of every order, and {slept} that races ask for");
+    println!("{plain} runs of every order, and {slept} of those that differ");
     assert!(slept < plain);
     let (plain, slept) = compare(numbers, near::plan, true, |way| way);
     assert!(slept < plain);
@@ -397,7 +397,7 @@ fn nor_if_calls_end_by_a_time_limit_or_as_stalled() {
 fn nor_with_lanes_and_feeds() {
     let numbers = 300_000 + first()..300_000 + first() + programs() / 12;
     let (plain, slept) = compare(numbers.clone(), rings::plan, false, |way| way);
-    println!("{plain} runs of every order, and {slept} with sleep sets");
+    println!("{plain} runs of every order, and {slept} of those that differ");
     assert!(slept < plain);
     let (plain, slept) = compare(numbers.clone(), rings::plan, true, |way| way);
     assert!(slept < plain);
@@ -414,7 +414,7 @@ fn a_call_whose_time_passes_is_no_other_call() {
     assert_eq!(plainly, slept);
 }
 
-/// Of programs that share a flag beside the board, and of which sleep sets leave out an outcome,
+/// Of programs that share a flag beside the board, and of which `every` leaves out an outcome,
 /// most are seen to share something.
 #[test]
 fn what_threads_share_beside_the_board_is_mostly_seen() {

@@ -54,7 +54,7 @@ pub(crate) struct Tree {
 }
 
 /// After all orders it makes this many repeats at the most.
-const CHECKS: u64 = 8;
+pub(crate) const CHECKS: u64 = 8;
 
 impl Tree {
     /// A bound of preemptions doesn't go with sleep sets: an order that is left out may be the only
