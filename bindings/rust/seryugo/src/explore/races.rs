@@ -1,10 +1,13 @@
 //! Which choices of a run ask for other ways: those at which a step was made that another thread's
 //! later step could have come before.
 //!
-//! The steps of a run are in an order by what each needs: a thread's step needs its earlier ones,
-//! and a step needs the earlier ones with which it doesn't commute. Two steps that don't commute
-//! are a race, unless the later thread needed the other step to come to its own. Then the choice of
-//! the first one asks for a thread that leads to the other order.
+//! A step needs the earlier steps of its thread, and the earlier ones with which it doesn't commute.
+//! It also needs what those need. Two steps that don't commute are a race, unless the later one
+//! waited for the other one. Then the choice of the first step asks for a thread that leads to the
+//! other order. A thread that waits is in a race too, with the step that took what it waits for.
+//!
+//! If the choice has already a way that leads there, it asks for nothing. So most orders that leave
+//! the same are run once. Others call this dynamic partial order reduction by source sets.
 
 use super::clock::Clock;
 use super::moves::{By, Move};
