@@ -53,8 +53,8 @@ pub(crate) struct Tree {
     checks: Option<u64>,
 }
 
-/// After all orders it makes this many repeats at the most.
-pub(crate) const CHECKS: u64 = 8;
+/// After all orders it makes three repeats more than there were runs, and this many at the most.
+pub(crate) const CHECKS: u64 = 16;
 
 impl Tree {
     /// A bound of preemptions doesn't go with sleep sets: an order that is left out may be the only
@@ -231,7 +231,7 @@ impl Tree {
 
     /// Whether one more repeat is made, to see that it leaves the same: there were few.
     fn checks(&mut self) -> bool {
-        let all = self.races.as_ref().map_or(0, |_| self.runs.min(CHECKS));
+        let all = self.races.as_ref().map_or(0, |_| (self.runs + 3).min(CHECKS));
         self.checks = self.checks.unwrap_or(all).checked_sub(1);
         self.checks.is_some()
     }

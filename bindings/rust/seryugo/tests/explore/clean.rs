@@ -23,7 +23,7 @@ fn clean(program: impl Fn(&Board), runs: u64, repeats: u64, plain_runs: u64) {
 
 #[test]
 fn philosophers_with_an_order_of_forks() {
-    clean(|board| philosophers(board, 3, 1, true), 12, 6, 142);
+    clean(|board| philosophers(board, 3, 1, true), 15, 9, 142);
 }
 
 #[test]
@@ -40,7 +40,7 @@ fn one_that_sends_and_one_that_receives() {
         });
     };
     // Whether a message waits as the next one is sent makes no difference.
-    clean(program, 2, 1, 42);
+    clean(program, 5, 4, 42);
 }
 
 #[test]
@@ -60,7 +60,7 @@ fn threads_and_seats_that_come_and_go() {
         });
         assert_eq!(main.recv(letters).unwrap() + main.recv(letters).unwrap(), 1);
     };
-    clean(program, 4, 2, 2);
+    clean(program, 7, 5, 2);
 }
 
 #[test]

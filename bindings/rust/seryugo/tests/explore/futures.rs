@@ -80,7 +80,7 @@ fn panics(program: impl Fn(&Board), says: &str) -> Found {
     found
 }
 
-/// No order ends badly. Returns how many runs there were, and how many plainly.
+/// No order ends badly. Returns how many runs were no repeats, and how many there were plainly.
 fn clean(program: impl Fn(&Board)) -> (u64, u64) {
     let found = explore(Way::every(), 100_000, &program);
     assert!(found.is_clean() && found.is_whole() && found.beside().is_none(), "{found}");
@@ -90,7 +90,7 @@ fn clean(program: impl Fn(&Board)) -> (u64, u64) {
         let some = explore(way, 300, &program);
         assert!(some.is_clean() && !some.is_whole(), "{some}");
     }
-    (found.runs(), plainly.runs())
+    (found.runs() - found.repeats(), plainly.runs())
 }
 
 /// As the philosophers whose calls block.
@@ -115,7 +115,7 @@ fn one_future_at_a_time_has_the_runs_of_a_call_that_blocks() {
             }
         });
     };
-    assert_eq!(clean(dine), (12, 142));
+    assert_eq!(clean(dine), (6, 142));
 }
 
 #[test]
