@@ -192,18 +192,23 @@ impl Played<'_> {
         }
     }
 
-    /// Runs it: whether it is done, and not stalled.
-    fn run(&mut self, state: &mut State, run: u64) -> bool {
+    /// A run begins, in which the first thread has started the others.
+    fn begin(&self, state: &mut State, run: u64) {
         let slot = Arc::new(Slot::default());
         state.begin(Arc::clone(&self.board) as Arc<dyn super::board::Board>, &slot, run);
         for _ in self.plan {
             state.add(Arc::clone(&slot), 1);
         }
         if !self.rings.is_empty() {
-            // Else the first thread opens them, as steps.
+            // In a program of threads the first one opens them, as steps.
             state.chooser.tree_mut().iter_mut().for_each(|tree| tree.ask_for_all());
         }
         state.tasks[0].at = At::Joins(Joins::Scope(1));
+    }
+
+    /// Runs it: whether it is done, and not stalled.
+    fn run(&mut self, state: &mut State, run: u64) -> bool {
+        self.begin(state, run);
         let mut has_come = vec![false; self.plan.len()];
         loop {
             let task = state.pick();
