@@ -154,7 +154,7 @@ impl Priorities {
             best = self.best(moves);
         }
         self.choice += 1;
-        // Of its futures any one goes on.
+        // Any one of its futures goes on. Or its time passes.
         let own: Vec<&Move> = moves.iter().filter(|way| way.task == best.task).collect();
         match own.len() {
             1 => best,

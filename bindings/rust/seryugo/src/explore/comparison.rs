@@ -399,6 +399,14 @@ fn nor_if_calls_end_by_a_time_limit_or_as_stalled() {
 }
 
 #[test]
+fn nor_if_a_time_limit_passes_early() {
+    let numbers = 500_000 + first()..500_000 + first() + programs() / 4;
+    let (plain, slept) = compare(numbers, plan, true, |way| way.time_outs(1));
+    println!("{plain} runs of every order, and {slept} of those that differ");
+    assert!(slept < plain);
+}
+
+#[test]
 fn nor_with_lanes_and_feeds() {
     let numbers = 300_000 + first()..300_000 + first() + programs() / 12;
     let (plain, slept) = compare(numbers.clone(), rings::plan, false, |way| way);

@@ -26,12 +26,14 @@ impl Choice {
 /// The choices of a run, where more than one thread could go on. A digit or a letter is a thread,
 /// `(36)` one with a higher number, `[1]` its second future, `!` says that its call ends by its time
 /// or as stalled, and `{9}` that the same thread is chosen nine times. A `+` before all says that
-/// calls are let fail as stalled, and a `*` that polls of futures are steps.
+/// calls are let fail as stalled, a `*` that polls of futures are steps, and `!2:` that two calls
+/// may end by their time though something else can happen.
 #[derive(Clone, Default, PartialEq, Eq, Debug)]
 pub(crate) struct Schedule {
     pub choices: Vec<Choice>,
     pub tells_stalls: bool,
     pub polls_are_steps: bool,
+    pub time_outs: u32,
 }
 
 /// If the same choice follows this many times or more, the line has their count.
@@ -44,6 +46,9 @@ impl fmt::Display for Schedule {
         }
         if self.polls_are_steps {
             f.write_char('*')?;
+        }
+        if self.time_outs > 0 {
+            write!(f, "!{}:", self.time_outs)?;
         }
         for same in self.choices.chunk_by(PartialEq::eq) {
             let (text, count) = (one(same[0]), same.len());
@@ -73,6 +78,10 @@ impl Schedule {
     pub fn read(line: &str) -> Option<Schedule> {
         let (rest, tells_stalls) = has_prefix(line, '+');
         let (rest, polls_are_steps) = has_prefix(rest, '*');
+        let (time_outs, rest) = match rest.strip_prefix('!') {
+            Some(rest) => number_until(rest, ':')?,
+            None => (0, rest),
+        };
         let mut rest = rest.trim();
         let mut choices = Vec::new();
         while !rest.is_empty() {
@@ -84,6 +93,7 @@ impl Schedule {
             choices,
             tells_stalls,
             polls_are_steps,
+            time_outs: u32::try_from(time_outs).ok()?,
         })
     }
 }
@@ -142,11 +152,22 @@ mod tests {
             choices,
             tells_stalls: true,
             polls_are_steps: true,
+            time_outs: 12,
         };
-        assert_eq!(schedule.to_string(), "+*0b(40)!2{9}1[2]!");
-        assert_eq!(Schedule::read("+*0b(40)!2{9}1[2]!"), Some(schedule));
+        assert_eq!(schedule.to_string(), "+*!12:0b(40)!2{9}1[2]!");
+        assert_eq!(Schedule::read("+*!12:0b(40)!2{9}1[2]!"), Some(schedule));
         assert_eq!(Schedule::read(""), Some(Schedule::default()));
-        for line in ["?", "(1", "1{", "1{x}", "()", "!", "1{99999999999}"] {
+        for line in [
+            "?",
+            "(1",
+            "1{",
+            "1{x}",
+            "()",
+            "!",
+            "!1",
+            "!:1",
+            "1{99999999999}",
+        ] {
             assert_eq!(Schedule::read(line), None, "{line}");
         }
     }

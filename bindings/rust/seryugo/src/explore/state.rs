@@ -66,6 +66,8 @@ pub(crate) struct Limits {
     pub steps: u64,
     pub entries: u64,
     pub tells_stalls: bool,
+    /// So many calls may end by their time though something else can happen.
+    pub time_outs: u32,
     /// Whether each poll of a future is a step.
     pub polls_are_steps: bool,
 }
@@ -80,6 +82,10 @@ pub(crate) struct State {
     pub steps: u64,
     /// The journal has no more entries than this.
     most_entries: u64,
+    /// How many calls have ended by their time though something else could happen.
+    time_outs: u32,
+    /// How many shared values the run has made.
+    shared: u64,
     /// The choices of the run that had more than one way.
     pub choices: Vec<Choice>,
     /// The step on the object that the last step may have changed. `None`: on more of them.
@@ -133,6 +139,8 @@ impl State {
             current: 0,
             steps: 0,
             most_entries: 0,
+            time_outs: 0,
+            shared: 0,
             choices: Vec::new(),
             changed: None,
             last: VecDeque::new(),
@@ -152,7 +160,8 @@ impl State {
     /// A run begins, whose first thread has this slot.
     pub fn begin(&mut self, board: Arc<dyn Board>, main: &Arc<Slot>, run: u64) {
         self.chooser.begin(run);
-        if self.limits.tells_stalls || self.limits.polls_are_steps {
+        let is_more = self.limits.tells_stalls || self.limits.time_outs > 0;
+        if is_more || self.limits.polls_are_steps {
             self.chooser.tree_mut().iter_mut().for_each(|tree| tree.ask_for_all());
         }
         self.history.begin();
@@ -161,6 +170,7 @@ impl State {
         self.choices.clear();
         self.last.clear();
         (self.current, self.steps, self.scopes, self.most_entries) = (0, 0, 0, 0);
+        (self.time_outs, self.shared) = (0, 0);
         (self.end, self.text, self.changed) = (None, String::new(), None);
         self.add(Arc::clone(main), 0);
         self.tasks[0].at = At::Running;
@@ -199,6 +209,12 @@ impl State {
             self.text = self.board.as_ref().map(|board| board.text()).unwrap_or_default();
             self.end = Some(end);
         }
+    }
+
+    /// The number of a shared value that the run makes.
+    pub fn next_shared(&mut self) -> u64 {
+        self.shared += 1;
+        self.shared
     }
 
     /// A thread makes a step that only itself sees. `Err`: there were too many steps.
@@ -279,12 +295,13 @@ impl State {
             return Err(self.endless());
         }
         let last = self.last.back().map_or(0, |last| last.0);
-        let is_choice = moves.len() > 1;
+        let (is_choice, may_step) = (moves.len() > 1, moves[0].by == By::Step);
         let chosen = self.chooser.choose(moves, last, self.choices.len());
         let chosen = chosen.map_err(|astray| self.astray(&astray))?;
         if is_choice {
             self.choices.push(Choice::of(&chosen));
         }
+        self.time_outs += u32::from(may_step && chosen.by == By::TimeOut);
         self.go(&chosen)?;
         Ok(chosen.task)
     }
@@ -354,6 +371,8 @@ impl State {
         }
         if moves.is_empty() {
             moves = self.late(stuck);
+        } else {
+            moves.extend(self.early(&moves, &stuck));
         }
         (!moves.is_empty()).then_some(moves)
     }
@@ -367,6 +386,22 @@ impl State {
             #[cfg(test)]
             call.is_new(&**board);
         }
+    }
+
+    /// The calls whose time may pass though something else can happen.
+    fn early(&self, moves: &[Move], stuck: &[Move]) -> Vec<Move> {
+        if self.time_outs >= self.limits.time_outs {
+            return Vec::new();
+        }
+        let is_timed = |way: &&Move| {
+            let task = &self.tasks[way.task];
+            task.at == At::Step && task.call.is_timed
+        };
+        let passes = |way: &Move| Move {
+            by: By::TimeOut,
+            ..*way
+        };
+        moves.iter().chain(stuck).filter(is_timed).map(passes).collect()
     }
 
     /// What may happen if all threads are stuck at these calls.

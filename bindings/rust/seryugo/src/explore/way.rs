@@ -79,9 +79,11 @@ impl Way {
             panic!("{schedule:?} is no schedule");
         };
         let (tells_stalls, polls_are_steps) = (read.tells_stalls, read.polls_are_steps);
+        let time_outs = read.time_outs;
         let mut way = Way::of(Order::Again(read));
         way.limits.tells_stalls = tells_stalls;
         way.limits.polls_are_steps = polls_are_steps;
+        way.limits.time_outs = time_outs;
         way
     }
 
@@ -94,6 +96,7 @@ impl Way {
                 entries: 1 << 20,
                 tells_stalls: false,
                 polls_are_steps: false,
+                time_outs: 0,
             },
             patience: Duration::from_secs(5),
         }
@@ -127,6 +130,16 @@ impl Way {
     /// Until you say it, such a run ends as [`End::Stalled`](super::End::Stalled).
     pub fn stalls_are_told(mut self) -> Way {
         self.limits.tells_stalls = true;
+        self
+    }
+
+    /// In a run this many calls with a time limit may fail with
+    /// [`TimedOut`](crate::Error::TimedOut) though something else can happen, also if they would be
+    /// answered.
+    ///
+    /// Until you say it, a call's time passes only if no thread can go on.
+    pub fn time_outs(mut self, most: u32) -> Way {
+        self.limits.time_outs = most;
         self
     }
 

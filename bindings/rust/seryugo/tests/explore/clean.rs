@@ -1,7 +1,7 @@
 //! Programs without a bug: none is found, and it is said in how many runs.
 
 use crate::programs::{philosophers, seat, Board};
-use seryugo::explore::{self, explore, Way};
+use seryugo::explore::{self, explore, scope, Shared, Way};
 
 /// No order ends badly, and these are the runs of every order, with those that were repeats, and
 /// plainly.
@@ -98,4 +98,27 @@ fn halves_of_a_mailbox() {
     };
     let found = explore(Way::every().stalls_are_told(), 1_000, program);
     assert!(found.is_clean() && found.is_whole(), "{found}");
+}
+
+/// Each value that threads share has steps apart from those of others, made in the run or before.
+#[test]
+fn values_that_are_shared() {
+    let before = Shared::new(0);
+    let runs = |is_one: bool| {
+        let found = explore(Way::every(), 100, |_: &Board| {
+            let one = Shared::new(0);
+            let other = Shared::<u64>::default();
+            let second = if is_one { &one } else { &other };
+            scope(|threads| {
+                threads.spawn(|| one.with(|number| *number += 1));
+                threads.spawn(|| second.with(|number| *number += 1));
+                threads.spawn(|| before.with(|number| *number += 1));
+            });
+            assert_eq!(one.into_inner() + other.into_inner(), 2);
+        });
+        assert!(found.is_clean() && found.is_whole(), "{found}");
+        found.runs() - found.repeats()
+    };
+    assert_eq!((runs(false), runs(true)), (1, 2));
+    assert!(before.into_inner() > 2);
 }

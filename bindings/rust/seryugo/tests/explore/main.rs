@@ -14,3 +14,4 @@ mod real_runs;
 mod reruns;
 mod rings;
 mod table;
+mod time_outs;

@@ -71,6 +71,7 @@ impl State {
             choices: self.choices.clone(),
             tells_stalls: self.limits.tells_stalls,
             polls_are_steps: self.limits.polls_are_steps,
+            time_outs: self.limits.time_outs,
         }
     }
 
