@@ -148,7 +148,7 @@ scripts() {
     expect "no name of a script" 3 none some
 }
 
-# marked CASE MESSAGE COUNT: in the last chart the row that multicasts this message has so many marks.
+# marked CASE MESSAGE COUNT: in the last chart the row that multicasts this message has this many marks.
 marked() {
     if [ "$(grep " multicast $2\$" "$work/out" | tr -cd '*' | wc -c)" -eq "$3" ]; then pass; else fail "$1"; fi
 }
@@ -193,7 +193,7 @@ words() {
     expect "rows that are not there" 0 some none
 }
 
-# A report of so many steps.
+# A report of this many steps.
 long_report() {
     awk -v n="$1" 'BEGIN {
         for (i = 1; i <= n; i++) print "thread" i % 64 " send letters " i ": done"

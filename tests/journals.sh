@@ -274,7 +274,7 @@ faults() {
 # too_long LINE FRONT: what standard error says of a line that is too long, by its first 80 bytes.
 too_long() { printf 'journal: line %s: line too long\nexpected: at most 1,114,112 bytes\nfound: `%s`..' "$1" "$2"; }
 
-# long_line CASE BYTES: a line of so many bytes, of which few are kept.
+# long_line CASE BYTES: a line of this many bytes, of which few are kept.
 long_line() {
     { printf 'journal 2\nseat 0 mvar ='; head -c "$2" /dev/zero | tr '\0' a; printf ': made 0\nend 1\n'; } > "$work/in"
     (ulimit -v 65536 && run check < "$work/in" && echo "$status" > "$work/status")

@@ -20,7 +20,7 @@ mkdir "$folder"
 started=
 trap '[ -z "$started" ] || kill -9 "$started"; exit 1' HUP INT TERM
 
-# A run would end after so many messages of each thread, if it were not killed.
+# A run would end after this many messages of each thread, if it were not killed.
 most=2000000
 
 # build: the program, from a copy, so that nothing is left beside its sources.

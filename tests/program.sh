@@ -165,7 +165,7 @@ other_versions() {
 # So many threads, A1 and so on.
 threads() { awk -v count="$1" 'BEGIN { print "cml 1"; for (i = 1; i <= count; i++) print "thread A" i }'; }
 
-# A script of so many bytes, most of them a note.
+# A script of this many bytes, most of them a note.
 note() { awk -v bytes="$1" 'BEGIN { printf "cml 1\n#"; for (n = 8; n < bytes; n++) printf "#"; print "" }'; }
 
 long_texts() {
@@ -394,7 +394,7 @@ long_streams() {
     fi
 }
 
-# writes_up_to MOST ROOM STATUS ERR: a write takes so many bytes at most, and so many have room. The program writes just these.
+# writes_up_to MOST ROOM STATUS ERR: a write takes this many bytes at most, and this many have room. The program writes just these.
 writes_up_to() {
     run_so replay WRITE_MOST="$1" WRITE_ROOM="$2"
     head -c "$2" "$work/report" > "$work/want"

@@ -16,7 +16,7 @@ cd "$(dirname "$0")/.." || exit 1
 # figure NAME: this figure of the last run.
 figure() { sed -n "s/^$1: //p" "$work/out"; }
 
-# near CASE VALUE WANTED PERCENT: the value differs from what is wanted by at most so many percent.
+# near CASE VALUE WANTED PERCENT: the value differs from what is wanted by at most this many percent.
 near() {
     if awk -v value="$2" -v wanted="$3" -v percent="$4" 'BEGIN {
         off = (value - wanted) / wanted * 100
@@ -36,7 +36,7 @@ erlang() {
     }'
 }
 
-# simulated SERVERS LOAD RUNS CUSTOMERS PERCENT: over so many runs, with the seeds 1, 2 and so on, the mean wait is near the formula's,
+# simulated SERVERS LOAD RUNS CUSTOMERS PERCENT: over this many runs, with the seeds 1, 2 and so on, the mean wait is near the formula's,
 # and the utilisation near the load.
 simulated() {
     case="$1 servers at load $2"

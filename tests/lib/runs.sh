@@ -73,7 +73,7 @@ run_examples() {
 # The example with the most threads.
 busiest() { grep -c '^thread ' examples/scripts/*.cml | sort -t : -k 2 -n | tail -n 1 | sed 's|:.*||'; }
 
-# many_runs SCRIPT COUNT: so many runs of it, looked at together.
+# many_runs SCRIPT COUNT: this many runs of it, looked at together.
 many_runs() {
     mkdir "$work/many"
     number=0

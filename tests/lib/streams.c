@@ -5,8 +5,8 @@
  * READ_FAILS     the read that fails
  * READ_REST      if 1, all later reads fail too
  * READ_ERROR     the number of the error; else it is that of a fault of the device
- * READ_LATE      so many interrupted reads come first
- * READ_AGAIN     so many interrupted reads come before each other read
+ * READ_LATE      this many interrupted reads come first
+ * READ_AGAIN     this many interrupted reads come before each other read
  * READ_LINES     if 1, each read gives line ends, as many as it is asked for
  * WRITE_MOST     the most bytes that a write takes
  * WRITE_ROOM     how many bytes are taken before writes fail

@@ -92,7 +92,7 @@ class Switchboard(Unpicklable):
 
     @property
     def restored_from(self) -> Optional[Kept]:
-        """What is kept of the text that this was restored from, or None if it began anew.
+        """What is kept of the text that this was restored from, or None if it began at nothing.
 
         Later calls don't change it.
         """

@@ -80,7 +80,7 @@ fn built(libraries: &[Library], named_by: &'static str, mut folders: Vec<PathBuf
 }
 
 impl Place {
-    /// Links with the archives. If one is written anew, the crate is built anew.
+    /// Links with the archives. If one is written again, the crate is built again.
     fn link(&self) {
         for folder in &self.folders {
             println!("cargo:rustc-link-search=native={}", folder.display());

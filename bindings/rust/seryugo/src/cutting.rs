@@ -314,7 +314,7 @@ impl<R: Room> Switchboard<R> {
     /// answered while the journal has room, and then fails with `NotKept` too.
     /// [`keep`](Switchboard::keep) hands over what the journal has at the end.
     ///
-    /// If the switchboard keeps entries as you say it anew, they go to the new sink.
+    /// If you say again how the switchboard keeps entries, they go to the new sink.
     /// [`Refuse`](WhenFull::Refuse) drops them.
     ///
     /// ```

@@ -211,7 +211,7 @@ impl<R: Room> Keeper<R> {
 /// A call that writes a handle to entries of a room, and how many they are.
 pub(crate) type Take = extern "C" fn(&mut Handle, &mut Opening, &mut u64) -> u32;
 
-/// Where the text begins to which a switchboard adds its pieces. A compaction begins it anew.
+/// Where the text begins to which a switchboard adds its pieces. A compaction begins it again.
 #[derive(Clone, Copy, Default)]
 pub(crate) struct Start {
     /// How many entries the short journal stands for with which the text begins.

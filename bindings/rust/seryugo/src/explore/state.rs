@@ -66,7 +66,7 @@ pub(crate) struct Limits {
     pub steps: u64,
     pub entries: u64,
     pub tells_stalls: bool,
-    /// So many calls may end by their time though something else can happen.
+    /// This many calls may end by their time though something else can happen.
     pub time_outs: u32,
     /// Whether each poll of a future is a step.
     pub polls_are_steps: bool,
