@@ -26,8 +26,8 @@ replays() {
     fi
 }
 
-# Without a fault of memory.
-is_clean() { timeout 1200 valgrind -q --error-exitcode=99 --leak-check=full --errors-for-leak-kinds=definite "$@"; }
+# Without a fault of memory. Threads go on by turns: one that looks again and again would keep the others from going on.
+is_clean() { timeout 1200 valgrind -q --fair-sched=try --error-exitcode=99 --leak-check=full --errors-for-leak-kinds=definite "$@"; }
 
 replay_from_c() {
     check 'a program in C that replays is built' compile replay "$replay"

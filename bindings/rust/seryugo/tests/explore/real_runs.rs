@@ -113,7 +113,11 @@ fn calls_with_a_time_limit() {
             while count < EACH {
                 match receives.recv_timeout(letters, Duration::ZERO) {
                     Ok(_) => count += 1,
-                    Err(error) => assert_eq!(error, Error::TimedOut),
+                    Err(error) => {
+                        assert_eq!(error, Error::TimedOut);
+                        // Or it may keep the others from the processor.
+                        thread::sleep(Duration::from_micros(100));
+                    }
                 }
             }
             drop(guest);

@@ -202,7 +202,10 @@ fn feeds() {
                 threads.spawn(move || {
                     let mut left = 2 * EACH;
                     while left != 0 {
-                        feed.pump().unwrap();
+                        if feed.pump().unwrap() == 0 {
+                            // Or it may keep the others from the processor, as under valgrind.
+                            thread::sleep(Duration::from_micros(100));
+                        }
                         while feed.recv().unwrap().is_some() {
                             left -= 1;
                         }
