@@ -10,6 +10,9 @@ export LC_ALL
 program=$(absolute "$1")
 cd "$(dirname "$0")/.." || exit 1
 
+# left_out SHOWN ALL BEFORE: what a chart says if it shows this many of all rows, after those that come before them.
+left_out() { echo "$1 of $2 rows, after row $3"; }
+
 # well_formed CASE: the last run's output is XML, and its texts, one a line, are in $work/texts; without python3 nothing is tried.
 well_formed() {
     command -v python3 > /dev/null 2>&1 || return 0
@@ -187,7 +190,7 @@ words() {
     run --help < /dev/null
     expect "help" 0 some none
     run --text --from 2 --to 3 < examples/scripts/hello_mailbox.report
-    { sed -n '1,2p;4,5p' examples/scripts/hello_mailbox.chart; echo "2 of 5 rows, after row 1"; sed -n '8,$p' examples/scripts/hello_mailbox.chart; } > "$work/want"
+    { sed -n '1,2p;4,5p' examples/scripts/hello_mailbox.chart; left_out 2 5 1; sed -n '8,$p' examples/scripts/hello_mailbox.chart; } > "$work/want"
     if cmp -s "$work/out" "$work/want"; then pass; else fail "from the second row to the third"; fi
     run --text --from 7 < examples/scripts/hello_mailbox.report
     expect "rows that are not there" 0 some none
@@ -205,7 +208,7 @@ long_report() {
 sizes() {
     long_report 60000 > "$work/in"
     run --text < "$work/in"
-    if [ "$status" = 0 ] && [ "$(grep -c ' send ' "$work/out")" = 500 ] && grep -qx "500 of 60000 rows, after row 0" "$work/out"; then
+    if [ "$status" = 0 ] && [ "$(grep -c ' send ' "$work/out")" = 500 ] && grep -qx "$(left_out 500 60000 0)" "$work/out"; then
         pass
     else
         fail "500 rows of a long report"

@@ -8,6 +8,7 @@ mod futures;
 mod joins;
 mod near;
 mod rings;
+mod threads;
 
 use super::board::{sum_of, Pass};
 use super::choose::{mix, Random};

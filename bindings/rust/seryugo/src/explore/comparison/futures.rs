@@ -1,16 +1,14 @@
 //! Random programs of futures, run by threads.
 
+use super::threads::{keep, outcomes};
 use super::{programs, Board};
 use crate::explore::choose::{mix, Random};
-use crate::explore::end::End;
-use crate::explore::runs::Explorer;
 use crate::explore::scope;
 use crate::explore::tree::CHECKS;
 use crate::explore::way::Way;
 use crate::names::{MVar, Mailbox};
 use crate::owned::OwnedSeat;
 use crate::room::Numbers;
-use std::collections::{BTreeMap, BTreeSet};
 use std::future::{poll_fn, Future};
 use std::pin::{pin, Pin};
 use std::sync::{Arc, Mutex};
@@ -152,45 +150,7 @@ fn run_plan(board: &Board, plan: &[Vec<u64>], kept: &Mutex<String>) {
             });
         }
     });
-    let mut text = Vec::new();
-    board.take_journal_open().unwrap().write_to(&mut text).unwrap();
-    *kept.lock().unwrap() = String::from_utf8(text).unwrap();
-}
-
-/// What each seat has called and was answered, and how the run ended, in all runs.
-fn outcomes(way: Way, plan: &[Vec<u64>]) -> (BTreeSet<String>, u64) {
-    let kept = Mutex::new(String::new());
-    let program = |board: &Board| run_plan(board, plan, &kept);
-    let mut explorer = Explorer::new(way.clone());
-    let mut outcomes = BTreeSet::new();
-    let mut runs = 0;
-    loop {
-        let end = explorer.run(runs, &program).end;
-        runs += 1;
-        if matches!(end, End::Unfit(_)) {
-            // Polls are steps.
-            let mut way = way.clone();
-            way.limits.polls_are_steps = true;
-            explorer = Explorer::new(way);
-            outcomes.clear();
-            continue;
-        }
-        let journal = match end {
-            End::Done => kept.lock().unwrap().clone(),
-            End::Stalled { .. } => explorer.bad(0, end.clone()).journal,
-            end => panic!("{plan:?}: {end}"),
-        };
-        let mut seats: BTreeMap<&str, String> = BTreeMap::new();
-        for line in journal.lines().filter(|line| line.starts_with("seat")) {
-            let seat = line.split(' ').nth(1).unwrap();
-            seats.entry(seat).or_default().push_str(line);
-        }
-        outcomes.insert(format!("{} {seats:?}", end.is_bad()));
-        if !explorer.next_run() {
-            assert_eq!(explorer.play.lock().beside, None, "{plan:?}");
-            return (outcomes, runs);
-        }
-    }
+    keep(board, kept);
 }
 
 #[test]
@@ -203,8 +163,9 @@ fn futures_have_the_outcomes_of_every_order() {
             0 => |way| way,
             _ => Way::stalls_are_told,
         };
-        let (plainly, plain_runs) = outcomes(change(Way::every_plainly()), &plan);
-        let (slept, runs) = outcomes(change(Way::every()), &plan);
+        let run = |board: &Board, kept: &Mutex<String>| run_plan(board, &plan, kept);
+        let (plainly, plain_runs) = outcomes(&change(Way::every_plainly()), &plan, run);
+        let (slept, runs) = outcomes(&change(Way::every()), &plan, run);
         assert_eq!(plainly, slept, "program {number}, {plan:?}");
         all = (all.0 + plain_runs, all.1 + runs);
         if number % 50 == 49 {
@@ -219,10 +180,11 @@ fn futures_have_the_outcomes_of_every_order() {
 fn a_future_at_a_time_waits_as_a_call() {
     for number in 0..programs() / 10 {
         let plan = plan(number, FIRST_OF_SEVERAL);
-        let (waits, runs) = outcomes(Way::every(), &plan);
+        let run = |board: &Board, kept: &Mutex<String>| run_plan(board, &plan, kept);
+        let (waits, runs) = outcomes(&Way::every(), &plan, run);
         let mut way = Way::every();
         way.limits.polls_are_steps = true;
-        let (polled, polled_runs) = outcomes(way, &plan);
+        let (polled, polled_runs) = outcomes(&way, &plan, run);
         assert_eq!(waits, polled, "program {number}, {plan:?}");
         assert!(runs <= polled_runs + CHECKS);
     }

@@ -1,15 +1,13 @@
 //! Random programs whose threads start others, and join some before their end. They are run by
 //! threads.
 
+use super::threads::{keep, outcomes};
 use super::{call, objects, programs, Board, Objects, Plan};
 use crate::explore::choose::{mix, Random};
-use crate::explore::end::End;
-use crate::explore::runs::Explorer;
 use crate::explore::way::Way;
 use crate::explore::{scope, Thread};
 use crate::owned::OwnedSeat;
 use crate::room::Numbers;
-use std::collections::{BTreeMap, BTreeSet};
 use std::sync::Mutex;
 
 /// The thread starts its next one,
@@ -84,35 +82,7 @@ fn run_plan(board: &Board, plan: &Plan, kept: &Mutex<String>) {
         of,
     };
     run(0, &shared);
-    let mut text = Vec::new();
-    board.take_journal_open().unwrap().write_to(&mut text).unwrap();
-    *kept.lock().unwrap() = String::from_utf8(text).unwrap();
-}
-
-/// What each seat has called and was answered, and how the run ended, in all runs.
-fn outcomes(way: Way, plan: &Plan) -> (BTreeSet<String>, u64) {
-    let kept = Mutex::new(String::new());
-    let program = |board: &Board| run_plan(board, plan, &kept);
-    let explorer = Explorer::new(way);
-    let mut outcomes = BTreeSet::new();
-    for number in 0.. {
-        let end = explorer.run(number, &program).end;
-        let journal = match end {
-            End::Done => kept.lock().unwrap().clone(),
-            End::Stalled { .. } => explorer.bad(0, end.clone()).journal,
-            end => panic!("{plan:?}: {end}"),
-        };
-        let mut seats: BTreeMap<&str, String> = BTreeMap::new();
-        for line in journal.lines().filter(|line| line.starts_with("seat")) {
-            seats.entry(line.split(' ').nth(1).unwrap()).or_default().push_str(line);
-        }
-        outcomes.insert(format!("{} {seats:?}", end.is_bad()));
-        if !explorer.next_run() {
-            assert_eq!(explorer.play.lock().beside, None, "{plan:?}");
-            return (outcomes, number + 1);
-        }
-    }
-    unreachable!("there are fewer runs than numbers")
+    keep(board, kept);
 }
 
 #[test]
@@ -120,8 +90,9 @@ fn threads_that_start_and_join_others_have_all_outcomes() {
     let mut all = (0, 0);
     for number in super::first()..super::first() + programs() / 5 {
         let plan = plan(number);
-        let (plainly, plain_runs) = outcomes(Way::every_plainly(), &plan);
-        let (asked, runs) = outcomes(Way::every(), &plan);
+        let run = |board: &Board, kept: &Mutex<String>| run_plan(board, &plan, kept);
+        let (plainly, plain_runs) = outcomes(&Way::every_plainly(), &plan, run);
+        let (asked, runs) = outcomes(&Way::every(), &plan, run);
         assert!(plainly == asked, "program {number}, {plan:?}");
         all = (all.0 + plain_runs, all.1 + runs);
         if number % 100 == 99 {
