@@ -38,6 +38,10 @@ pub fn compact<M: Message, L: MessageLog<M>>(
     let Ok(mut new) = Board::new(alloc, limit) else {
         return Err(Refusal::NoMemory);
     };
+    // Each object has an entry at least. So the journal is not moved again and again while it grows.
+    let Ok(()) = new.reserve(board.object_count().min(limit) as usize) else {
+        return Err(Refusal::NoMemory);
+    };
     make_all(board, &mut new, who)?;
     send_all(board, &mut new, who, &slowest)?;
     settle_all(alloc, board, &mut new, who)?;

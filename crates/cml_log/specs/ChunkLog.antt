@@ -2,7 +2,7 @@
 use Rattle.std.specs.Prelude.{◌≡◌, ℕ, ◌+◌, ◌*◌, ◌/◌, ◌<◌, ◌≤◌, ◌==◌, cond, false, List, [], ◌∷◌, map, Option, Some}
 use Rattle.std.specs.Prelude.{None, slice_index_or, refl}
 use Rattle.std.specs.Coded.{Coded, code_by, coded×, coded_ℕ}
-use Rattle.cml_log.specs.declared.chunk_log.Cursor.{Cursor}
+use Rattle.cml_log.specs.declared.cursors.Cursor.{Cursor}
 use Rattle.cml_log.specs.Log.{Log, log_code, place_at}
 use Rattle.cml_log.specs.Chain.{Chunks, LiesAt, count_at, end_of, is_idle}
 

@@ -7,6 +7,7 @@ pub mod Row
 pub mod Contents
 pub mod Chain
 pub mod Linked
+pub mod Cursors
 pub mod ChunkLog
 -- the names that others import from here
 pub use Log.{IsOpen, Opens, chunk_count, chunk_start, cursor_count, empty_log, least, next_of, owed_items, place_at, place_of, trimmed}
@@ -20,10 +21,11 @@ pub use Contents.{KeepsCounts, Rewrites, cell_of, items_of, link_at, link_of, ro
 pub use Contents.{with_cursors, with_link, with_row, with_taken}
 pub use Chain.{Chunks, LiesAt, Passed, Pushed, cell_at, count_at, count_of, end_of, is_idle, passed, with_count}
 pub use Linked.{IsChain, IsLinked}
+pub use Cursors.{slots_of}
 pub use ChunkLog.{HoldsChunk, IsAhead, IsHeld, IsTrim, IsWhole, cursor_at, log_of, place_in, standing, weight}
 pub use declared.chunk.Chunk.{Chunk}
 pub use declared.chunk.raw.Address.{Address}
 pub use declared.chunk.raw.Counter.{Counter}
-pub use declared.chunk_log.Cursor.{Cursor}
+pub use declared.cursors.Cursor.{Cursor}
 pub use declared.row.Slot.{Slot}
 pub use declared.row.gone.Gone.{Gone}

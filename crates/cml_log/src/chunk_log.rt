@@ -2,73 +2,43 @@ ghost use Rattle.std.specs.Prelude.{◌≡◌, ℕ, ◌+◌, ◌-◌, ◌%◌, �
 ghost use Rattle.std.specs.Prelude.{IfSome, IfNone, IsSome};
 ghost use Rattle.std.specs.Prelude.{length, slice_get, slice_set, option_copied};
 ghost use Rattle.std.proofs.Common.{rules};
-ghost use Rattle.slab.specs.Slab.{ContainsKey, HasRoomFor};
 ghost use Rattle.cml_log.specs.{chunk_of, cursor_at, end_of, log_of, trimmed, with_place, IsAhead, IsTrim, IsWhole};
 
 use crate::chain::Chain;
-use crate::chunk::Address;
+use crate::cursors::{Cursor, Cursors};
 use crate::{Back, Key, MessageLog};
-use slab::Slab;
 use std::alloc::{AllocError, Global};
-use std::marker::{Model, Send};
-
-// Where a cursor is: its place, and where the place's chunk lies.
-#[derive(Clone, Copy)]
-struct Cursor {
-    at: Address,
-    place: u64,
-}
-
-// Makes room for one cursor more. For the first it is exact, since a mailbox has no other.
-fn make_room(cursors: &mut Slab<Cursor>) -> Result<(), AllocError>
-    ensures room { OnOk result (HasRoomFor cursors.new 1) }
-    ensures rest_kept { cursors.new ≡ record cursors.old { capacity = cursors.new.capacity } }
-{
-    if cursors.is_empty() {
-        return cursors.reserve_exact(1);
-    }
-    cursors.reserve(1)
-}
-
-// Moves the cursor under a key.
-fn move_to(cursors: &mut Slab<Cursor>, key: usize, to: Cursor)
-    requires { ContainsKey cursors.old key }
-    ensures { cursors.new.slots ≡ slice_set cursors.old.slots key (Some to) }
-{
-    if let Some(cursor) = cursors.get_mut(key) {
-        *cursor = to;
-    }
-}
+use std::marker::Model;
 
 // Moves the cursor under a key past the item at its place.
 #[inline(always)]
 fn step<T: Drop, const N: usize>(
     chain: &mut Chain<T, N>,
-    cursors: &mut Slab<Cursor>,
+    cursors: &mut Cursors,
     key: usize,
     cursor: Cursor,
 )
-    requires trim { IsTrim N chain.old cursors.old.slots }
-    requires found { cursor_at cursors.old.slots key ≡ Some cursor }
+    requires trim { IsTrim N chain.old cursors.old }
+    requires found { cursor_at cursors.old key ≡ Some cursor }
     requires below { cursor.place + 1 ≤ end_of N chain.old }
-    requires ahead { IsAhead N chain.old (slice_set cursors.old.slots key
+    requires ahead { IsAhead N chain.old (slice_set cursors.old key
         (Some (record { at = cursor.at; place = cursor.place + 1 }))) }
-    ensures whole { IsWhole N chain.new cursors.new.slots }
-    ensures log { log_of N chain.new cursors.new.slots
-        ≡ trimmed (chunk_of N) (with_place (log_of N chain.old cursors.old.slots) key (Some (cursor.place + 1))) }
+    ensures whole { IsWhole N chain.new cursors.new }
+    ensures log { log_of N chain.new cursors.new
+        ≡ trimmed (chunk_of N) (with_place (log_of N chain.old cursors.old) key (Some (cursor.place + 1))) }
     ensures followed { chain.new.followed ≤ chain.old.followed + 1 }
     ensures given { chain.new.given ≤ chain.old.given + 1 }
 {
     let Cursor { at, place } = cursor;
     let place = place + 1;
     if place % N as u64 != 0 {
-        move_to(cursors, key, Cursor { at, place });
+        cursors.move_to(key, Cursor { at, place });
         return;
     }
     let next = chain.follow(at);
     // So that one cursor more in the next chunk can be counted.
     let _ = cursors.len();
-    move_to(cursors, key, Cursor { at: next, place });
+    cursors.move_to(key, Cursor { at: next, place });
     chain.leave(at);
     chain.enter(next);
     if chain.is_idle() {
@@ -83,7 +53,7 @@ fn step<T: Drop, const N: usize>(
 #[derive(Drop)]
 pub struct ChunkLog<T: Drop, const N: usize> {
     chain: Chain<T, N>,
-    cursors: Slab<Cursor>,
+    cursors: Cursors,
 }
 
 impl<T: Drop, const N: usize> Model for ChunkLog<T, N> {
@@ -93,9 +63,9 @@ impl<T: Drop, const N: usize> Model for ChunkLog<T, N> {
 
     ghost coded = { counted_code T.code };
 
-    ghost view = { λ a. counted_of N a.chain a.cursors.slots };
+    ghost view = { λ a. counted_of N a.chain a.cursors };
 
-    ghost invariant = { λ a. IsWhole N a.chain a.cursors.slots };
+    ghost invariant = { λ a. IsWhole N a.chain a.cursors };
 }
 
 impl<T: Drop, const N: usize> MessageLog<T> for ChunkLog<T, N> {
@@ -117,7 +87,7 @@ impl<T: Drop, const N: usize> MessageLog<T> for ChunkLog<T, N> {
     fn new(alloc: Global) -> Result<Self, AllocError> {
         Ok(ChunkLog {
             chain: Chain::new(alloc)?,
-            cursors: Slab::new(alloc),
+            cursors: Cursors::new(alloc),
         })
     }
 
@@ -148,11 +118,11 @@ impl<T: Drop, const N: usize> MessageLog<T> for ChunkLog<T, N> {
             at: self.chain.end(),
             place: self.chain.next(),
         };
-        make_room(&mut self.cursors)?;
+        let key = self.cursors.add(cursor)?;
         // So that one cursor more in its chunk can be counted.
-        let _ = self.cursors.capacity();
+        let _ = self.cursors.len();
         self.chain.enter(cursor.at);
-        Ok(Key(self.cursors.insert_reserved(cursor)))
+        Ok(Key(key))
     }
 
     fn copy_cursor(&mut self, k: Key) -> Result<Key, AllocError>
@@ -161,11 +131,11 @@ impl<T: Drop, const N: usize> MessageLog<T> for ChunkLog<T, N> {
         ensures err { OnErr result (self.new.log ≡ self.old.log) }
         ensures counts { KeepsCounted self.old self.new }
     {
-        let original = self.cursors[k.0];
-        make_room(&mut self.cursors)?;
-        let _ = self.cursors.capacity();
+        let original = self.cursors.get(k.0);
+        let key = self.cursors.add(original)?;
+        let _ = self.cursors.len();
         self.chain.enter(original.at);
-        Ok(Key(self.cursors.insert_reserved(original)))
+        Ok(Key(key))
     }
 
     fn close_cursor(&mut self, k: Key)
@@ -179,7 +149,7 @@ impl<T: Drop, const N: usize> MessageLog<T> for ChunkLog<T, N> {
     }
 
     fn peek(&self, k: Key) -> Option<&T> {
-        let cursor = self.cursors[k.0];
+        let cursor = self.cursors.get(k.0);
         self.chain
             .item(cursor.at, (cursor.place % N as u64) as usize)
     }
@@ -195,7 +165,7 @@ impl<T: Drop, const N: usize> MessageLog<T> for ChunkLog<T, N> {
         ensures followed { self.new.followed ≤ self.old.followed + 1 }
         ensures given { self.new.given ≤ self.old.given + 1 }
     {
-        let cursor = self.cursors[k.0];
+        let cursor = self.cursors.get(k.0);
         step(&mut self.chain, &mut self.cursors, k.0, cursor);
     }
 
@@ -217,7 +187,7 @@ impl<T: Drop, const N: usize> MessageLog<T> for ChunkLog<T, N> {
         if self.cursors.len() != 1 {
             return None;
         }
-        let cursor = self.cursors[k.0];
+        let cursor = self.cursors.get(k.0);
         let item = self
             .chain
             .take(cursor.at, (cursor.place % N as u64) as usize);
@@ -234,11 +204,11 @@ impl<T: Drop, const N: usize> MessageLog<T> for ChunkLog<T, N> {
     }
 
     fn place(&self, k: Key) -> u64 {
-        self.cursors[k.0].place
+        self.cursors.get(k.0).place
     }
 
     fn owed(&self, k: Key) -> u64 {
-        self.chain.next() - self.cursors[k.0].place
+        self.chain.next() - self.cursors.get(k.0).place
     }
 
     fn cursors(&self) -> usize {

@@ -22,6 +22,7 @@ mod back;
 mod chain;
 mod chunk;
 mod chunk_log;
+mod cursors;
 mod key;
 mod message_log;
 mod places;

@@ -14,11 +14,11 @@ counted {T} c at next =
     with_count left next.number next.at (count_at left.cells next.number + 1)
 
 -- the cursor moves within its chunk
-moves : (g : _) (c : After-move_to g) → TrimsTo g.row.N c.args.chain.now c.move_to.new.cursors.slots
-    (with_place (log_of g.row.N c.args.chain.now c.args.cursors.now.slots) c.args.key (Some (c.args.cursor.place + 1)))
+moves : (g : _) (c : After-move_to g) → TrimsTo g.row.N c.args.chain.now c.move_to.new.self
+    (with_place (log_of g.row.N c.args.chain.now c.args.cursors.now) c.args.key (Some (c.args.cursor.place + 1)))
 moves g c =
-    moved_trims g.row.N c.args.chain.now c.args.cursors.now.slots c.requires.trim c.args.key c.args.cursor c.requires.found
-    c.requires.below c.move_to.new.cursors.slots c.if-place-ne0.true c.move_to.ensures
+    moved_trims g.row.N c.args.chain.now c.args.cursors.now c.requires.trim c.args.key c.args.cursor c.requires.found
+    c.requires.below c.move_to.new.self c.if-place-ne0.true c.move_to.ensures
 
 -- or comes into the next
 steps : (g : _) (c : After-enter g) → c.enter.new.self ≡ counted c.args.chain.now c.args.cursor.at c.follow-next.result
@@ -28,20 +28,20 @@ steps g c =
     (c.leave.ensures ∙ ap (λ m. with_count m c.args.cursor.at.number c.args.cursor.at.at
     (count_at m.cells c.args.cursor.at.number - 1)) c.follow-next.ensures.followed)
 
-comes : (g : _) (c : After-enter g) → StandsIn g.row.N c.follow-next.result c.enter.new.self c.move_to-2.new.cursors.slots
-    (with_place (log_of g.row.N c.args.chain.now c.args.cursors.now.slots) c.args.key (Some (c.args.cursor.place + 1)))
+comes : (g : _) (c : After-enter g) → StandsIn g.row.N c.follow-next.result c.enter.new.self c.move_to-2.new.self
+    (with_place (log_of g.row.N c.args.chain.now c.args.cursors.now) c.args.key (Some (c.args.cursor.place + 1)))
 comes g c =
-    stands_in g.row.N c.args.chain.now c.args.cursors.now.slots c.requires.trim c.args.key c.args.cursor c.requires.found
-    c.requires.below c.follow-next.result c.move_to-2.new.cursors.slots c.enter.new.self c.if-place-ne0.false c.follow-next.ensures.number
+    stands_in g.row.N c.args.chain.now c.args.cursors.now c.requires.trim c.args.key c.args.cursor c.requires.found
+    c.requires.below c.follow-next.result c.move_to-2.new.self c.enter.new.self c.if-place-ne0.false c.follow-next.ensures.number
     c.follow-next.ensures.lies c.move_to-2.ensures (steps g c)
 
 -- its place is the same
-places : (g : _) (c : After-enter g) → map place_in c.move_to-2.new.cursors.slots
-    ≡ map place_in (set c.args.cursors.now.slots c.args.key (Some (record { at = c.args.cursor.at; place = c.args.cursor.place + 1 })))
+places : (g : _) (c : After-enter g) → map place_in c.move_to-2.new.self
+    ≡ map place_in (set c.args.cursors.now c.args.key (Some (record { at = c.args.cursor.at; place = c.args.cursor.place + 1 })))
 places g c =
     ap (map place_in) c.move_to-2.ensures
-    ∙ map-set place_in c.args.cursors.now.slots c.args.key (Some (record { at = c.follow-next.result; place = c.args.cursor.place + 1 }))
-    ∙ sym (map-set place_in c.args.cursors.now.slots c.args.key (Some (record { at = c.args.cursor.at; place = c.args.cursor.place + 1 })))
+    ∙ map-set place_in c.args.cursors.now c.args.key (Some (record { at = c.follow-next.result; place = c.args.cursor.place + 1 }))
+    ∙ sym (map-set place_in c.args.cursors.now c.args.key (Some (record { at = c.args.cursor.at; place = c.args.cursor.place + 1 })))
 
 pub returns-then-place-ne0-clause-whole : goal.returns-then-place-ne0-clause-whole
 returns-then-place-ne0-clause-whole g c =
@@ -60,7 +60,7 @@ follow-next-requires g c =
       omega arith,
       (
         held.lies,
-        before_end g.row.N c.args.chain.now c.args.cursors.now.slots c.requires.trim c.args.key c.args.cursor
+        before_end g.row.N c.args.chain.now c.args.cursors.now c.requires.trim c.args.key c.args.cursor
             c.requires.found c.requires.below c.if-place-ne0.false,
       ),
     )
@@ -68,7 +68,7 @@ follow-next-requires g c =
 pub leave-requires : goal.leave-requires
 leave-requires g c =
     let held = c.requires.trim.is_held.held c.args.key c.args.cursor c.requires.found in
-    let some = entered g.row.N c.args.chain.now c.args.cursors.now.slots c.requires.trim.is_held c.args.key
+    let some = entered g.row.N c.args.chain.now c.args.cursors.now c.requires.trim.is_held c.args.key
     c.args.cursor c.requires.found in (
       omega arith,
       (
@@ -85,7 +85,7 @@ enter-requires g c =
     let lies = lies-recounted c.args.chain.now.cells c.args.cursor.at.number c.args.cursor.at.at
     (count_at c.args.chain.now.cells c.args.cursor.at.number - 1) held.lies c.follow-next.result.number
     c.follow-next.result.at c.follow-next.ensures.lies in
-    let room = room_next g.row.N c.args.chain.now c.args.cursors.now.slots c.requires.trim c.args.key c.args.cursor
+    let room = room_next g.row.N c.args.chain.now c.args.cursors.now c.requires.trim c.args.key c.args.cursor
     c.requires.found c.requires.below c.follow-next.result.number c.follow-next.ensures.number in
     let same = ap (λ m. count_at m.cells c.follow-next.result.number) left in (
       omega arith,
@@ -105,8 +105,8 @@ pub returns-then-is_idle-clause-whole : goal.returns-then-is_idle-clause-whole
 returns-then-is_idle-clause-whole g c =
     let at = goal.at.returns-then-is_idle-clause-whole g c in
     let trim = ((comes g at.After-enter).gone (sym c.is_idle.ensures ∙ c.if-is_idle.true)).trim in
-    subst (λ m. IsWhole g.row.N m c.move_to-2.new.cursors.slots) (sym c.pass_head_to.ensures)
-    (record { is_trim = trim; is_ahead = IsAhead-whole g.row.N _ c.move_to-2.new.cursors.slots trim.is_held refl })
+    subst (λ m. IsWhole g.row.N m c.move_to-2.new.self) (sym c.pass_head_to.ensures)
+    (record { is_trim = trim; is_ahead = IsAhead-whole g.row.N _ c.move_to-2.new.self trim.is_held refl })
 
 pub returns-else-is_idle-clause-whole : goal.returns-else-is_idle-clause-whole
 returns-else-is_idle-clause-whole g c =
@@ -115,15 +115,15 @@ returns-else-is_idle-clause-whole g c =
     record {
       is_trim = ((comes g at.After-enter).busy (sym c.is_idle.ensures ∙ c.if-is_idle.false)).trim;
       is_ahead = IsAhead-stepped g.row.N c.args.chain.now c.enter.new.self
-          (set c.args.cursors.now.slots c.args.key (Some (record { at = c.args.cursor.at; place = c.args.cursor.place + 1 })))
-          c.move_to-2.new.cursors.slots c.requires.ahead (ap (λ m. m.given) same) (ap (λ m. m.taken) same)
+          (set c.args.cursors.now c.args.key (Some (record { at = c.args.cursor.at; place = c.args.cursor.place + 1 })))
+          c.move_to-2.new.self c.requires.ahead (ap (λ m. m.given) same) (ap (λ m. m.taken) same)
           (ap (end_of g.row.N) same) (places g at.After-enter);
     }
 
 pub returns-then-is_idle-clause-log : goal.returns-then-is_idle-clause-log
 returns-then-is_idle-clause-log g c =
     let at = goal.at.returns-then-is_idle-clause-log g c in
-    ap (λ m. log_of g.row.N m c.move_to-2.new.cursors.slots) c.pass_head_to.ensures
+    ap (λ m. log_of g.row.N m c.move_to-2.new.self) c.pass_head_to.ensures
     ∙ ((comes g at.After-enter).gone (sym c.is_idle.ensures ∙ c.if-is_idle.true)).log
 
 pub returns-else-is_idle-clause-log : goal.returns-else-is_idle-clause-log

@@ -4,30 +4,30 @@ use Rattle.cml_log.specs.{IsOpen, owed_items, place_of, trimmed, with_place, end
 use Rattle.cml_log.proofs.LogLemmas.{place_of-owed}
 use Rattle.cml_log.proofs.AheadLemmas.{IsAhead-moved}
 use Rattle.cml_log.proofs.CursorsLemmas.{IsTidy-shown, place_shown}
-use Rattle.cml_log.proofs.chunk_log.ChunkLogMessageLog.advance.Goals.{After-index-cursor}
+use Rattle.cml_log.proofs.chunk_log.ChunkLogMessageLog.advance.Goals.{After-get-cursor}
 use Rattle.cml_log.proofs.chunk_log.ChunkLogMessageLog.advance.Goals as goal
 
 -- what the fields showed before the call
-abbrev was : (g : _) (c : After-index-cursor g) → Log g.row.T.Denot
-was g c = log_of g.row.N c.self.inside.chain c.self.inside.cursors.slots
+abbrev was : (g : _) (c : After-get-cursor g) → Log g.row.T.Denot
+was g c = log_of g.row.N c.self.inside.chain c.self.inside.cursors
 
 -- the key's cursor is at its place
-stands : (g : _) (c : After-index-cursor g) → place_of (was g c) c.k.inside.0 ≡ c.index-cursor.result.now.place
+stands : (g : _) (c : After-get-cursor g) → place_of (was g c) c.k.inside.0 ≡ c.get-cursor.result.place
 stands g c =
-    place_shown g.row.N c.self.inside.chain c.self.inside.cursors.slots c.k.inside.0 c.index-cursor.result.now c.index-cursor.ensures
+    place_shown g.row.N c.self.inside.chain c.self.inside.cursors c.k.inside.0 c.get-cursor.result c.get-cursor.ensures
 
 -- which isn't the end
-below : (g : _) (c : After-index-cursor g) → c.index-cursor.result.now.place + 1 ≤ end_of g.row.N c.self.inside.chain
+below : (g : _) (c : After-get-cursor g) → c.get-cursor.result.place + 1 ≤ end_of g.row.N c.self.inside.chain
 below g c =
     let trim = c.self.invariant.is_trim in
-    let tidy = IsTidy-shown g.row.N c.self.inside.chain c.self.inside.cursors.slots trim.is_held trim.trim in
+    let tidy = IsTidy-shown g.row.N c.self.inside.chain c.self.inside.cursors trim.is_held trim.trim in
     let opened = subst (λ m. IsOpen m.log c.args.k) (sym c.self.view_is) c.requires.opened in
     let owed = subst (λ m. 0 < length (owed_items m.log c.args.k)) (sym c.self.view_is) c.requires.owed in
     omega (arith, ap (place_of (was g c)) (sym c.k.view_is) ∙ stands g c, place_of-owed g.row.N (was g c) c.args.k tidy opened owed)
 
 -- the place after it is the one that the contract names
-goes_on : (g : _) (c : After-index-cursor g)
-    → trimmed (chunk_of g.row.N) (with_place (was g c) c.k.inside.0 (Some (c.index-cursor.result.now.place + 1)))
+goes_on : (g : _) (c : After-get-cursor g)
+    → trimmed (chunk_of g.row.N) (with_place (was g c) c.k.inside.0 (Some (c.get-cursor.result.place + 1)))
     ≡ trimmed (chunk_of g.row.N) (with_place c.args.self.now.log c.args.k (Some (place_of c.args.self.now.log c.args.k + 1)))
 goes_on g c =
     ap (λ p. trimmed (chunk_of g.row.N) (with_place (was g c) c.k.inside.0 (Some (p + 1)))) (sym (stands g c))
@@ -41,16 +41,16 @@ step-requires g c =
       (
         c.self.invariant.is_trim,
         (
-          c.index-cursor.ensures,
+          c.get-cursor.ensures,
           (
-            below g at.After-index-cursor,
-            IsAhead-moved g.row.N c.self.inside.chain c.self.inside.cursors.slots c.k.inside.0 c.index-cursor.result.now
-                (record { at = c.index-cursor.result.now.at; place = c.index-cursor.result.now.place + 1 }) c.self.invariant.is_ahead
-                c.index-cursor.ensures (omega arith),
+            below g at.After-get-cursor,
+            IsAhead-moved g.row.N c.self.inside.chain c.self.inside.cursors c.k.inside.0 c.get-cursor.result
+                (record { at = c.get-cursor.result.at; place = c.get-cursor.result.place + 1 }) c.self.invariant.is_ahead
+                c.get-cursor.ensures (omega arith),
           ),
         ),
       ),
     )
 
 pub returns-clause-log : goal.returns-clause-log
-returns-clause-log g c = c.step.ensures.log ∙ goes_on g (goal.at.returns-clause-log g c).After-index-cursor
+returns-clause-log g c = c.step.ensures.log ∙ goes_on g (goal.at.returns-clause-log g c).After-get-cursor

@@ -8,30 +8,30 @@ use Rattle.cml_log.proofs.LogLemmas.{place_of-owed}
 use Rattle.cml_log.proofs.StandingLemmas.{count_places}
 use Rattle.cml_log.proofs.AheadLemmas.{IsAhead-taken, IsTrim-taken, sole_head, sole_left, sole_written}
 use Rattle.cml_log.proofs.CursorsLemmas.{IsTidy-shown, peeked, place_shown}
-use Rattle.cml_log.proofs.chunk_log.ChunkLogMessageLog.take.Goals.{After-len, After-index-cursor}
+use Rattle.cml_log.proofs.chunk_log.ChunkLogMessageLog.take.Goals.{After-len, After-get-cursor}
 use Rattle.cml_log.proofs.chunk_log.ChunkLogMessageLog.take.Goals as goal
 
 -- what the fields showed before the call
-abbrev was : (g : _) (c : After-index-cursor g) → Log g.row.T.Denot
-was g c = log_of g.row.N c.self.inside.chain c.self.inside.cursors.slots
+abbrev was : (g : _) (c : After-get-cursor g) → Log g.row.T.Denot
+was g c = log_of g.row.N c.self.inside.chain c.self.inside.cursors
 
 -- the key's cursor is at its place
-stands : (g : _) (c : After-index-cursor g) → place_of (was g c) c.k.inside.0 ≡ c.index-cursor.result.now.place
+stands : (g : _) (c : After-get-cursor g) → place_of (was g c) c.k.inside.0 ≡ c.get-cursor.result.place
 stands g c =
-    place_shown g.row.N c.self.inside.chain c.self.inside.cursors.slots c.k.inside.0 c.index-cursor.result.now c.index-cursor.ensures
+    place_shown g.row.N c.self.inside.chain c.self.inside.cursors c.k.inside.0 c.get-cursor.result c.get-cursor.ensures
 
 -- which isn't the end
-below : (g : _) (c : After-index-cursor g) → c.index-cursor.result.now.place + 1 ≤ end_of g.row.N c.self.inside.chain
+below : (g : _) (c : After-get-cursor g) → c.get-cursor.result.place + 1 ≤ end_of g.row.N c.self.inside.chain
 below g c =
     let trim = c.self.invariant.is_trim in
-    let tidy = IsTidy-shown g.row.N c.self.inside.chain c.self.inside.cursors.slots trim.is_held trim.trim in
+    let tidy = IsTidy-shown g.row.N c.self.inside.chain c.self.inside.cursors trim.is_held trim.trim in
     let opened = subst (λ m. IsOpen m.log c.args.k) (sym c.self.view_is) c.requires.opened in
     let owed = subst (λ m. 0 < length (owed_items m.log c.args.k)) (sym c.self.view_is) c.requires.owed in
     omega (arith, ap (place_of (was g c)) (sym c.k.view_is) ∙ stands g c, place_of-owed g.row.N (was g c) c.args.k tidy opened owed)
 
 -- the place after it is the one that the contract names
-goes_on : (g : _) (c : After-index-cursor g)
-    → trimmed (chunk_of g.row.N) (with_place (was g c) c.k.inside.0 (Some (c.index-cursor.result.now.place + 1)))
+goes_on : (g : _) (c : After-get-cursor g)
+    → trimmed (chunk_of g.row.N) (with_place (was g c) c.k.inside.0 (Some (c.get-cursor.result.place + 1)))
     ≡ trimmed (chunk_of g.row.N) (with_place c.args.self.now.log c.args.k (Some (place_of c.args.self.now.log c.args.k + 1)))
 goes_on g c =
     ap (λ p. trimmed (chunk_of g.row.N) (with_place (was g c) c.k.inside.0 (Some (p + 1)))) (sym (stands g c))
@@ -39,12 +39,12 @@ goes_on g c =
     ∙ ap (λ m. trimmed (chunk_of g.row.N) (with_place m.log c.args.k (Some (place_of m.log c.args.k + 1)))) c.self.view_is
 
 -- it is the only one
-sole : (g : _) (c : After-index-cursor g) → count_by is_some c.self.inside.cursors.slots ≡ 1
+sole : (g : _) (c : After-get-cursor g) → count_by is_some c.self.inside.cursors ≡ 1
 sole g c = sym c.len.ensures ∙ c.if-len-ne1.false
 
 counts : (g : _) (c : After-len g) → cursor_count c.args.self.now.log ≡ c.len.result
 counts g c =
-    sym (ap (λ m. cursor_count m.log) c.self.view_is) ∙ count_places c.self.inside.cursors.slots ∙ sym c.len.ensures
+    sym (ap (λ m. cursor_count m.log) c.self.view_is) ∙ count_places c.self.inside.cursors ∙ sym c.len.ensures
 
 pub returns-then-len-ne1-clause-sole : goal.returns-then-len-ne1-clause-sole
 returns-then-len-ne1-clause-sole g c =
@@ -60,20 +60,20 @@ pub take-item-requires : goal.take-item-requires
 take-item-requires g c =
     let at = goal.at.take-item-requires g c in
     let trim = c.self.invariant.is_trim in
-    let held = trim.is_held.held c.k.inside.0 c.index-cursor.result.now c.index-cursor.ensures in (
+    let held = trim.is_held.held c.k.inside.0 c.get-cursor.result c.get-cursor.ensures in (
       omega arith,
       (
         held.lies,
         (
-          sole_head g.row.N c.self.inside.chain c.self.inside.cursors.slots trim c.k.inside.0 c.index-cursor.result.now
-              c.index-cursor.ensures (sole g at.After-index-cursor),
+          sole_head g.row.N c.self.inside.chain c.self.inside.cursors trim c.k.inside.0 c.get-cursor.result
+              c.get-cursor.ensures (sole g at.After-get-cursor),
           (
-            mod-lt c.index-cursor.result.now.place trim.is_held.holds_one,
+            mod-lt c.get-cursor.result.place trim.is_held.holds_one,
             (
-              sole_left g.row.N c.self.inside.chain c.self.inside.cursors.slots trim c.k.inside.0 c.index-cursor.result.now
-                  c.index-cursor.ensures (sole g at.After-index-cursor) c.self.invariant.is_ahead,
-              sole_written g.row.N c.self.inside.chain c.self.inside.cursors.slots trim c.k.inside.0 c.index-cursor.result.now
-                  c.index-cursor.ensures (sole g at.After-index-cursor) (below g at.After-index-cursor),
+              sole_left g.row.N c.self.inside.chain c.self.inside.cursors trim c.k.inside.0 c.get-cursor.result
+                  c.get-cursor.ensures (sole g at.After-get-cursor) c.self.invariant.is_ahead,
+              sole_written g.row.N c.self.inside.chain c.self.inside.cursors trim c.k.inside.0 c.get-cursor.result
+                  c.get-cursor.ensures (sole g at.After-get-cursor) (below g at.After-get-cursor),
             ),
           ),
         ),
@@ -86,18 +86,18 @@ step-requires g c =
     let trim = c.self.invariant.is_trim in (
       omega arith,
       (
-        subst (λ m. IsTrim g.row.N m c.self.inside.cursors.slots) (sym c.take-item.ensures.taken)
-            (IsTrim-taken g.row.N c.self.inside.chain c.self.inside.cursors.slots trim _),
+        subst (λ m. IsTrim g.row.N m c.self.inside.cursors) (sym c.take-item.ensures.taken)
+            (IsTrim-taken g.row.N c.self.inside.chain c.self.inside.cursors trim _),
         (
-          c.index-cursor.ensures,
+          c.get-cursor.ensures,
           (
-            subst (λ m. c.index-cursor.result.now.place + 1 ≤ end_of g.row.N m) (sym c.take-item.ensures.taken)
-                (below g at.After-index-cursor),
-            subst (λ m. IsAhead g.row.N m (set c.self.inside.cursors.slots c.k.inside.0
-                (Some (record { at = c.index-cursor.result.now.at; place = c.index-cursor.result.now.place + 1 }))))
+            subst (λ m. c.get-cursor.result.place + 1 ≤ end_of g.row.N m) (sym c.take-item.ensures.taken)
+                (below g at.After-get-cursor),
+            subst (λ m. IsAhead g.row.N m (set c.self.inside.cursors c.k.inside.0
+                (Some (record { at = c.get-cursor.result.at; place = c.get-cursor.result.place + 1 }))))
                 (sym c.take-item.ensures.taken)
-                (IsAhead-taken g.row.N c.self.inside.chain c.self.inside.cursors.slots trim c.k.inside.0 c.index-cursor.result.now
-                c.index-cursor.ensures (sole g at.After-index-cursor) (below g at.After-index-cursor)),
+                (IsAhead-taken g.row.N c.self.inside.chain c.self.inside.cursors trim c.k.inside.0 c.get-cursor.result
+                c.get-cursor.ensures (sole g at.After-get-cursor) (below g at.After-get-cursor)),
           ),
         ),
       ),
@@ -106,14 +106,14 @@ step-requires g c =
 pub returns-clause-moved : goal.returns-clause-moved
 returns-clause-moved g c =
     let at = goal.at.returns-clause-moved g c in
-    let held = c.self.invariant.is_trim.is_held.held c.k.inside.0 c.index-cursor.result.now c.index-cursor.ensures in
-    let place : c.index-cursor.result.now.place ≡ place_of (was g at.After-index-cursor) c.args.k =
-    sym (stands g at.After-index-cursor) ∙ ap (place_of (was g at.After-index-cursor)) c.k.view_is in (
-      sym (peeked g.row.N c.self.inside.chain c.index-cursor.result.now held
+    let held = c.self.invariant.is_trim.is_held.held c.k.inside.0 c.get-cursor.result c.get-cursor.ensures in
+    let place : c.get-cursor.result.place ≡ place_of (was g at.After-get-cursor) c.args.k =
+    sym (stands g at.After-get-cursor) ∙ ap (place_of (was g at.After-get-cursor)) c.k.view_is in (
+      sym (peeked g.row.N c.self.inside.chain c.get-cursor.result held
           ∙ ap (λ p. slice_get (drop (p - g.row.N * c.self.inside.chain.given) c.self.inside.chain.items) 0) place
           ∙ ap (λ m. slice_get (owed_items m.log c.args.k) 0) c.self.view_is) ∙ c.take-item.ensures.item,
       c.step.ensures.log
-          ∙ ap (λ m. trimmed (chunk_of g.row.N) (with_place (log_of g.row.N m c.self.inside.cursors.slots) c.k.inside.0
-          (Some (c.index-cursor.result.now.place + 1)))) c.take-item.ensures.taken
-          ∙ goes_on g at.After-index-cursor,
+          ∙ ap (λ m. trimmed (chunk_of g.row.N) (with_place (log_of g.row.N m c.self.inside.cursors) c.k.inside.0
+          (Some (c.get-cursor.result.place + 1)))) c.take-item.ensures.taken
+          ∙ goes_on g at.After-get-cursor,
     )
