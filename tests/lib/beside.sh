@@ -24,8 +24,10 @@ beside() {
 
 # counted NAME: does one step, shows what it tells with its name before each line, and keeps how many passed and failed.
 counted() {
-    timeout --kill-after 30 $longest sh "$0" --alone "$work" "$1" > "$work/$1.told" 2>&1
+    sh -c 'echo $$ > "$0" && exec timeout "$@"' "$work/$1.process" --kill-after 30 $longest \
+        sh "$0" --alone "$work" "$1" > "$work/$1.told" 2>&1
     status=$?
+    rm -f "$work/$1.process"
     [ $status -ne 124 ] || echo "failed: the step did not end within $longest seconds" >> "$work/$1.told"
     grep -v '^[0-9]* passed, [0-9]* failed$' "$work/$1.told" | sed "s/^/$1: /"
     sed -n 's/^\([0-9]*\) passed, \([0-9]*\) failed$/\1 \2/p' "$work/$1.told" |
@@ -49,4 +51,5 @@ esac
 
 work=$(mktemp -d) || exit 1
 trap 'rm -rf "$work"' EXIT
-trap 'exit 1' HUP INT TERM
+# An interrupt from a terminal reaches this script, but no step: `timeout` makes a process group for it.
+trap 'kill $(cat "$work"/*.process 2> /dev/null) 2> /dev/null; exit 1' HUP INT TERM
