@@ -1,7 +1,8 @@
 /* What a message costs from C, on one thread and without a lock: `speed [MESSAGES [ROUNDS]]`. A seat sends it and receives it, again
  * and again. Beside it a ring and a journal by hand, whose entries have as many bytes as those of a room of numbers. Both cut the
- * journal after each 10,000 messages. A line has the workload, the way, and the median of the rounds in nanoseconds a
- * message, two spaces apart at least. All come in turn in each round. */
+ * journal after each 10,000 messages. A short journal is made of as many empty mailboxes as MESSAGES, and of half as many with a
+ * message in each. A line has the workload, the way, and the median of the rounds in nanoseconds a message, two spaces apart at
+ * least. All come in turn in each round. */
 #include "checks.h"
 
 #include <string.h>
@@ -31,19 +32,29 @@ static void free_all(void)
     close_one(&has_room, room);
 }
 
-static void open_room(uint32_t (*open)(uint64_t limit, struct seryugo *room))
+static double now(void)
 {
-    RETURNS(DONE, open(LIMIT, &room));
+    struct timespec time;
+
+    clock_gettime(CLOCK_MONOTONIC, &time);
+    return (double)time.tv_sec * 1e9 + (double)time.tv_nsec;
+}
+
+static void open_room(uint32_t (*open)(uint64_t limit, struct seryugo *room), uint64_t limit)
+{
+    RETURNS(DONE, open(limit, &room));
     has_room = true;
     RETURNS(DONE, seryugo_new_seat(&room, &seat));
     RETURNS(DONE, seryugo_new_mailbox(&room, seat, &mailbox));
     RETURNS(DONE, seryugo_cut(&room));
 }
 
-static void numbers(uint64_t messages, size_t length)
+static double numbers(uint64_t messages, size_t length)
 {
+    const double start = now();
+
     (void)length;
-    open_room(seryugo_room_open);
+    open_room(seryugo_room_open, LIMIT);
     for (uint64_t n = 1; n <= messages; n++) {
         uint64_t received = 0;
 
@@ -55,14 +66,16 @@ static void numbers(uint64_t messages, size_t length)
         }
     }
     free_all();
+    return now() - start;
 }
 
-static void bytes(uint64_t messages, size_t length)
+static double bytes(uint64_t messages, size_t length)
 {
     static uint8_t supply[MOST_BYTES];
+    const double start = now();
 
     memset(supply, 'x', sizeof supply);
-    open_room(seryugo_bytes_room_open);
+    open_room(seryugo_bytes_room_open, LIMIT);
     for (uint64_t n = 1; n <= messages; n++) {
         struct seryugo_bytes received;
 
@@ -76,6 +89,29 @@ static void bytes(uint64_t messages, size_t length)
         }
     }
     free_all();
+    return now() - start;
+}
+
+/* Makes a short journal of this many objects and kept messages: each mailbox has `kept` messages. */
+static double compacts(uint64_t messages, size_t kept)
+{
+    struct seryugo taken;
+    uint64_t count;
+    double start, time;
+
+    open_room(seryugo_room_open, messages + LIMIT);
+    for (uint64_t n = 1; n + kept < messages; n += 1 + kept) {
+        RETURNS(DONE, seryugo_new_mailbox(&room, seat, &mailbox));
+        for (size_t left = kept; left > 0; left--) {
+            RETURNS(DONE, seryugo_send(&room, seat, mailbox, n));
+        }
+    }
+    start = now();
+    RETURNS(DONE, seryugo_compact(&room, &taken, &count));
+    time = now() - start;
+    seryugo_close(taken);
+    free_all();
+    return time;
 }
 
 static uint32_t note(struct entry entry)
@@ -112,8 +148,10 @@ __attribute__((noinline)) static uint32_t recv_by_hand(uint64_t *message)
     return told;
 }
 
-static void by_hand(uint64_t messages, size_t length)
+static double by_hand(uint64_t messages, size_t length)
 {
+    const double start = now();
+
     (void)length;
     entries = 0;
     for (uint64_t n = 1; n <= messages; n++) {
@@ -126,29 +164,24 @@ static void by_hand(uint64_t messages, size_t length)
             entries = 0;
         }
     }
+    return now() - start;
 }
 
 static const struct {
     const char *workload, *way;
-    void (*pass)(uint64_t messages, size_t length);
-    size_t length;
+    double (*pass)(uint64_t messages, size_t size);
+    size_t size;
 } ways[] = {
     {"in C, a number", "a seat", numbers, 0},
     {"in C, a number", "by hand", by_hand, 0},
     {"in C, 8 bytes", "a seat", bytes, 8},
     {"in C, 64 bytes", "a seat", bytes, 64},
     {"in C, 1,000 bytes", "a seat", bytes, 1000},
+    {"in C, a short journal", "of empty mailboxes", compacts, 0},
+    {"in C, a short journal", "of mailboxes with a message", compacts, 1},
 };
 
 #define WAYS (sizeof ways / sizeof *ways)
-
-static double now(void)
-{
-    struct timespec time;
-
-    clock_gettime(CLOCK_MONOTONIC, &time);
-    return (double)time.tv_sec * 1e9 + (double)time.tv_nsec;
-}
 
 static int compare(const void *left, const void *right)
 {
@@ -169,10 +202,7 @@ int main(int argc, char **argv)
     }
     for (size_t round = 0; round < rounds; round++) {
         for (size_t way = 0; way < WAYS; way++) {
-            const double start = now();
-
-            ways[way].pass(messages, ways[way].length);
-            times[way][round] = (now() - start) / (double)messages;
+            times[way][round] = ways[way].pass(messages, ways[way].size) / (double)messages;
         }
     }
     for (size_t way = 0; way < WAYS; way++) {
