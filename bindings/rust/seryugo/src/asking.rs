@@ -5,7 +5,7 @@ use crate::error::Error;
 use crate::message::Message;
 use crate::names::{Mailbox, Object};
 use crate::owned::Holds;
-use crate::raw::done;
+use crate::raw::{code, done};
 use crate::request::{Asker, Request};
 use crate::room::{Bytes, Carries};
 use crate::seat::Seat;
@@ -89,7 +89,7 @@ impl<H: Holds<Bytes>> Seat<'_, Bytes, H> {
         mailbox: Mailbox<Request<Q, A>>,
         question: M,
     ) -> Result<A, RequestError<M>> {
-        self.request_by(mailbox, question, Seat::wait)
+        self.request_by(mailbox, question, |seat, want| seat.wait(want, |answer| answer))
     }
 
     /// The same, but it blocks no longer than this.
@@ -249,8 +249,9 @@ impl<H: Holds<Bytes>> Seat<'_, Bytes, H> {
 /// What a wait for a question's answer has ended with. `None`: it was an answer to an older one.
 fn answer_in<A: Message>(asker: &Asker<A>, received: Answer<Bytes>) -> Option<Result<A, Error>> {
     match received {
-        Ok(received) => asker.answer_of(received.as_slice()),
-        Err(refused) => Some(Err(refused.into())),
+        Ok((code::DONE, received)) => asker.answer_of(received.as_slice()),
+        Ok((code, _)) => Some(Err(Error::of_code(code))),
+        Err(error) => Some(Err(error)),
     }
 }
 

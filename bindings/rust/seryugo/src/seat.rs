@@ -143,7 +143,7 @@ impl<R: Room, H: Holds<R>> Seat<'_, R, H> {
     {
         let sent = self.here(mailbox).and_then(|mailbox| {
             let code = R::with_sent(&message, |sent| {
-                self.call(Give::Send.on(mailbox), |room, seat| {
+                self.call(Give::Send.on(mailbox), move |room, seat| {
                     R::give(Give::Send, room, seat, mailbox, sent)
                 })
             });
@@ -179,7 +179,7 @@ impl<R: Room, H: Holds<R>> Seat<'_, R, H> {
     {
         let sent = self.here(channel).and_then(|channel| {
             let code = R::with_sent(&message, |sent| {
-                self.call(Give::Multicast.on(channel), |room, seat| {
+                self.call(Give::Multicast.on(channel), move |room, seat| {
                     R::give(Give::Multicast, room, seat, channel, sent)
                 })
             });
@@ -211,7 +211,7 @@ impl<R: Room, H: Holds<R>> Seat<'_, R, H> {
         R: Carries<S::Message>,
     {
         let source = self.here(source)?;
-        let found = self.poll(Read::Recv.poll_of(source), |room, seat, to| {
+        let found = self.poll(Read::Recv.poll_of(source), move |room, seat, to| {
             match R::poll(Read::Recv, room, seat, source, to) {
                 code::CLOSED => code::NOTHING,
                 code => code,
@@ -246,7 +246,7 @@ impl<R: Room, H: Holds<R>> Seat<'_, R, H> {
     {
         let put = self.here(variable).and_then(|variable| {
             let code = R::with_sent(&message, |sent| {
-                self.call(Give::Put.on(variable), |room, seat| {
+                self.call(Give::Put.on(variable), move |room, seat| {
                     R::give(Give::Put, room, seat, variable, sent)
                 })
             });
@@ -277,7 +277,7 @@ impl<R: Room, H: Holds<R>> Seat<'_, R, H> {
         R: Carries<V::Message>,
     {
         let variable = self.here(variable)?;
-        self.poll(Read::Get.poll_of(variable), |room, seat, to| {
+        self.poll(Read::Get.poll_of(variable), move |room, seat, to| {
             R::poll(Read::Get, room, seat, variable, to)
         })
     }
@@ -303,7 +303,7 @@ impl<R: Room, H: Holds<R>> Seat<'_, R, H> {
         R: Carries<T>,
     {
         let variable = self.here(variable)?;
-        self.poll(Read::Take.poll_of(variable), |room, seat, to| {
+        self.poll(Read::Take.poll_of(variable), move |room, seat, to| {
             R::poll(Read::Take, room, seat, variable, to)
         })
     }
@@ -331,7 +331,8 @@ impl<R: Room, H: Holds<R>> Seat<'_, R, H> {
         }
     }
 
-    /// Makes a call that never blocks. `Err`: a rerun doesn't let it be made.
+    /// Makes a call that never blocks. `Err`: a rerun doesn't let it be made. Where nobody decides
+    /// when calls are made, a call that owns what it uses (`move`) puts none of it into memory.
     #[inline]
     pub(crate) fn call(
         &mut self,
@@ -339,7 +340,7 @@ impl<R: Room, H: Holds<R>> Seat<'_, R, H> {
         call: impl FnOnce(&mut Handle, u64) -> u32,
     ) -> Result<u32, Error> {
         let seat = self.ready();
-        let call = |room: &mut Handle| call(room, seat);
+        let call = move |room: &mut Handle| call(room, seat);
         if let Some(conductor) = &self.board.conductor {
             return self.board.call_conducted(conductor, &self.parker, seat, step, call);
         }

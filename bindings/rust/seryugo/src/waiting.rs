@@ -48,7 +48,7 @@ impl<R: Room, H: Holds<R>> Seat<'_, R, H> {
         R: Carries<S::Message>,
     {
         let source = self.here(source)?;
-        received::<R, S>(source, self.wait(Want::Read(Read::Recv, source)))
+        self.wait(Want::Read(Read::Recv, source), move |answer| received::<R, S>(source, answer))
     }
 
     /// The same, but it blocks no longer than this.
@@ -157,7 +157,7 @@ impl<R: Room, H: Holds<R>> Seat<'_, R, H> {
         R: Carries<V::Message>,
     {
         let variable = self.here(variable)?;
-        held::<R, _>(self.wait(Want::Read(Read::Get, variable)))
+        self.wait(Want::Read(Read::Get, variable), held::<R, _>)
     }
 
     /// The same, but it blocks no longer than this.
@@ -257,7 +257,7 @@ impl<R: Room, H: Holds<R>> Seat<'_, R, H> {
         R: Carries<T>,
     {
         let variable = self.here(variable)?;
-        held::<R, _>(self.wait(Want::Read(Read::Take, variable)))
+        self.wait(Want::Read(Read::Take, variable), held::<R, _>)
     }
 
     /// The same, but it blocks no longer than this.
@@ -357,7 +357,7 @@ impl<R: Room, H: Holds<R>> Seat<'_, R, H> {
         R: Carries<T>,
     {
         let held = self.here(variable).and_then(|variable| {
-            held::<R, _>(R::with_sent(&message, |sent| self.wait(Want::Swap(variable, sent))))
+            R::with_sent(&message, |sent| self.wait(Want::Swap(variable, sent), held::<R, _>))
         });
         handing_back(held, message)
     }

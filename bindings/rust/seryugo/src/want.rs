@@ -1,6 +1,6 @@
 //! How a seat waits for what it wants.
 
-use crate::calls::{Calls, Read};
+use crate::calls::{self, Calls, Read};
 use crate::error::Error;
 use crate::explore::{Kind, Pass, Step};
 use crate::kind::Misfit;
@@ -45,35 +45,9 @@ impl<R: Room> Want<'_, R> {
     }
 }
 
-/// Why a call that waits has no message.
-pub(crate) enum Refused {
-    Code(u32),
-    TimedOut,
-    /// A rerun doesn't let it be made.
-    Failed(Error),
-}
-
-impl From<Refused> for Error {
-    #[cold]
-    fn from(refused: Refused) -> Error {
-        match refused {
-            Refused::Code(code) => Error::of_code(code),
-            Refused::TimedOut => Error::TimedOut,
-            Refused::Failed(error) => error,
-        }
-    }
-}
-
-/// What a call that waits has received.
-pub(crate) type Answer<R> = Result<<R as Calls>::Received, Refused>;
-
-#[inline]
-fn answer<R: Room>(code: u32, received: R::Received) -> Answer<R> {
-    match code {
-        code::DONE => Ok(received),
-        _ => Err(Refused::Code(code)),
-    }
-}
+/// The code that a call that waits has returned, and what it has received if it was done. `Err`: it
+/// ended before it was answered.
+pub(crate) type Answer<R> = Result<(u32, <R as Calls>::Received), Error>;
 
 /// What was received from the mailbox or the port of this number.
 #[inline]
@@ -81,28 +55,50 @@ pub(crate) fn received<R: Carries<S::Message>, S: Source>(
     source: u64,
     answer: Answer<R>,
 ) -> Result<S::Received, Error> {
-    match answer {
-        Ok(message) => S::received(Some(R::read(message)?)),
-        Err(Refused::Code(code::CLOSED)) => S::received(None),
-        Err(refused) => Err(Error::from(refused).misfit(Misfit::Feed(source))),
+    match answer? {
+        (code::DONE, message) => S::received(Some(R::read(message)?)),
+        (code::CLOSED, _) => S::received(None),
+        (code, _) => Err(Error::of_code(code).misfit(Misfit::Feed(source))),
     }
 }
 
 /// The message that a variable held.
 #[inline]
 pub(crate) fn held<R: Carries<T>, T>(answer: Answer<R>) -> Result<T, Error> {
-    R::read(answer?)
+    let (code, message) = answer?;
+    calls::received::<R, T>(code, message)
 }
 
 impl<'a, R: Room, H: Holds<R>> Seat<'a, R, H> {
+    /// Makes a call that may block, and reads its answer.
+    #[inline]
+    pub(crate) fn wait<T>(&mut self, want: Want<'_, R>, read: impl FnOnce(Answer<R>) -> T) -> T {
+        self.ready();
+        if self.board.conductor.is_some() {
+            return self.decided(move |seat| read(seat.wait_conducted(want)));
+        }
+        read(Ok(self.wait_freely(want)))
+    }
+
+    /// Makes a call of a switchboard that is explored or rerun. It is apart from the others, so that
+    /// they put nothing into memory for it, and look at no answer twice.
+    #[cold]
+    fn decided<T>(&mut self, call: impl FnOnce(&mut Self) -> T) -> T {
+        call(self)
+    }
+
+    fn wait_conducted(&mut self, want: Want<'_, R>) -> Answer<R> {
+        match self.conducted(want, false) {
+            Some(answer) => answer,
+            None => Ok(self.wait_freely(want)),
+        }
+    }
+
     /// Makes a call that may block. If its seat is parked, this waits until the seat is woken, and
     /// makes the call again.
     #[inline]
-    pub(crate) fn wait(&mut self, want: Want<'_, R>) -> Answer<R> {
-        let seat = self.ready();
-        if let Some(answer) = self.conducted(want, false) {
-            return answer;
-        }
+    fn wait_freely(&mut self, want: Want<'_, R>) -> (u32, R::Received) {
+        let seat = self.number();
         let mut received = R::nothing();
         let mut code =
             self.board.ask(&self.parker, false, |room| want.ask(room, seat, false, &mut received));
@@ -115,30 +111,25 @@ impl<'a, R: Room, H: Holds<R>> Seat<'a, R, H> {
                 .ask(&self.parker, true, |room| want.ask(room, seat, true, &mut received));
             self.is_parked = false;
         }
-        answer::<R>(code, received)
+        (code, received)
     }
 
     /// Lets an exploration or a rerun decide when the call is made. `None`: make it now, as any
     /// other.
-    #[inline]
     fn conducted(&mut self, want: Want<'_, R>, is_timed: bool) -> Option<Answer<R>> {
         let conductor = self.board.conductor.as_ref()?;
         let (seat, mut received) = (self.number(), R::nothing());
         let asked = self.board.ask_conducted(conductor, seat, want.step(), is_timed, |inside| {
             inside.ask_at_last(seat, false, |room| want.ask(room, seat, false, &mut received))
         });
-        match asked {
-            Ok(None) => None,
-            Ok(Some(code)) => Some(answer::<R>(code, received)),
-            Err(refused) => Some(Err(refused)),
-        }
+        asked.transpose().map(|code| Ok((code?, received)))
     }
 
     /// The same, but no longer than this. A limit that no clock reaches is none.
     pub(crate) fn wait_for(&mut self, want: Want<'_, R>, timeout: Duration) -> Answer<R> {
         match Instant::now().checked_add(timeout) {
             Some(deadline) => self.wait_until(want, deadline),
-            None => self.wait(want),
+            None => self.wait(want, |answer| answer),
         }
     }
 
@@ -164,10 +155,10 @@ impl<'a, R: Room, H: Holds<R>> Seat<'a, R, H> {
             };
             self.is_parked = false;
             if code != code::PARKED {
-                return answer::<R>(code, received);
+                return Ok((code, received));
             }
             if is_last {
-                return Err(Refused::TimedOut);
+                return Err(Error::TimedOut);
             }
             is_last = !self.parker.park_until(deadline);
             is_again = true;
@@ -205,7 +196,7 @@ impl<R: Room, H: Holds<R>> Waiting<'_, '_, '_, R, H> {
             .board
             .ask(&self.seat.parker, is_again, |room| want.ask(room, seat, is_again, &mut received));
         self.seat.is_parked = code == code::PARKED;
-        (!self.seat.is_parked).then(|| answer::<R>(code, received))
+        (!self.seat.is_parked).then_some(Ok((code, received)))
     }
 
     #[cold]
@@ -227,7 +218,7 @@ impl<R: Room, H: Holds<R>> Waiting<'_, '_, '_, R, H> {
                 waker.wake_by_ref();
                 Some(Poll::Pending)
             }
-            Some(Pass::Stalled) => Some(Poll::Ready(Err(Refused::Code(code::STALLED)))),
+            Some(Pass::Stalled) => Some(Poll::Ready(Err(Error::Stalled))),
             Some(_) => None,
         }
     }

@@ -9,10 +9,9 @@ use crate::entry::{Call, Who};
 use crate::error::Error;
 use crate::inside::Inside;
 use crate::parker::Parker;
-use crate::raw::{code, Handle};
+use crate::raw::Handle;
 use crate::room::{Bytes, Room};
 use crate::switchboard::Switchboard;
-use crate::want::Refused;
 use std::sync::Arc;
 
 /// Who decides when the calls of a switchboard are made.
@@ -81,7 +80,7 @@ impl<R: Room> Switchboard<R> {
         step: Step,
         is_timed: bool,
         call: impl FnOnce(&mut Inside<R>) -> u32,
-    ) -> Result<Option<u32>, Refused> {
+    ) -> Result<Option<u32>, Error> {
         let kind = if is_timed {
             WaitKind::MayPass
         } else {
@@ -90,13 +89,12 @@ impl<R: Room> Switchboard<R> {
         match conductor {
             Conductor::Exploration(play) => match play.pass(self, seat, step, is_timed) {
                 Pass::Go | Pass::Pending => Ok(None),
-                Pass::TimedOut => Err(Refused::TimedOut),
-                Pass::Stalled => Err(Refused::Code(code::STALLED)),
+                Pass::TimedOut => Err(Error::TimedOut),
+                Pass::Stalled => Err(Error::Stalled),
             },
             Conductor::Rerun(follower) => {
                 let entering = follower.enter(Caller::of_seat(seat, step), kind)?;
-                let made = entering.map(|entering| self.make_again(entering, call));
-                made.transpose().map_err(Refused::Failed)
+                entering.map(|entering| self.make_again(entering, call)).transpose()
             }
         }
     }

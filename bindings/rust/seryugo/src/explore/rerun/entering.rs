@@ -9,7 +9,6 @@ use crate::error::Error;
 use crate::inside::Inside;
 use crate::raw::code;
 use crate::room::Room;
-use crate::want::Refused;
 
 /// A call whose entry is next.
 pub(crate) struct Entering<'f, R: Room> {
@@ -22,11 +21,7 @@ impl<R: Room> Follower<R> {
     /// Waits until the caller's next entry is next. `None`: all entries were made, and the call goes
     /// on freely.
     #[inline]
-    pub fn enter(
-        &self,
-        caller: Caller,
-        kind: WaitKind,
-    ) -> Result<Option<Entering<'_, R>>, Refused> {
+    pub fn enter(&self, caller: Caller, kind: WaitKind) -> Result<Option<Entering<'_, R>>, Error> {
         let thread = threads::calls_in(&self.notes);
         let maker = self.maker(caller.who);
         if let Some(maker) = maker {
@@ -35,7 +30,7 @@ impl<R: Room> Follower<R> {
         let position = self.position_of(maker);
         let own = self.plan.entries.get(position);
         if kind == WaitKind::MayPass && own.is_some_and(|own| own.step != caller.step) {
-            return Err(Refused::TimedOut);
+            return Err(Error::TimedOut);
         }
         let waits = Waits {
             caller,
@@ -48,10 +43,10 @@ impl<R: Room> Follower<R> {
                 position,
                 caller,
             })),
-            Turn::End => self.goes_on(caller).map(|()| None).map_err(Refused::Failed),
-            Turn::Failed(error) => Err(Refused::Failed(error)),
-            Turn::GivenUp if kind == WaitKind::Blocks => Err(Refused::Code(code::STALLED)),
-            Turn::GivenUp => Err(Refused::TimedOut),
+            Turn::End => self.goes_on(caller).map(|()| None),
+            Turn::Failed(error) => Err(error),
+            Turn::GivenUp if kind == WaitKind::Blocks => Err(Error::Stalled),
+            Turn::GivenUp => Err(Error::TimedOut),
         }
     }
 }

@@ -10,7 +10,6 @@ use crate::inside::Inside;
 use crate::raw::code;
 use crate::room::Room;
 use crate::switchboard::Switchboard;
-use crate::want::Refused;
 
 impl<R: Room> Switchboard<R> {
     /// Opens a feed of this channel by this call, which makes its port by an entry.
@@ -56,8 +55,8 @@ impl<R: Room> Switchboard<R> {
         match follower.enter(caller, WaitKind::MayPass) {
             Ok(Some(entering)) => self.pump_again(follower, &entering, feed),
             Ok(None) => self.change(None, |inside| inside.pump(feed)),
-            Err(Refused::TimedOut) => Ok(0),
-            Err(refused) => Err(refused.into()),
+            Err(Error::TimedOut) => Ok(0),
+            Err(error) => Err(error),
         }
     }
 
