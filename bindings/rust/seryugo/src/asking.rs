@@ -89,7 +89,7 @@ impl<H: Holds<Bytes>> Seat<'_, Bytes, H> {
         mailbox: Mailbox<Request<Q, A>>,
         question: M,
     ) -> Result<A, RequestError<M>> {
-        self.request_by(mailbox, question, |seat, want| seat.wait(want, |answer| answer))
+        self.request_by(mailbox, question, Seat::answer_to)
     }
 
     /// The same, but it blocks no longer than this.

@@ -30,7 +30,7 @@ impl<T: Message> Carries<T> for Bytes {
     }
 
     #[inline]
-    fn read(received: Received) -> Result<T, Error> {
+    fn read(received: &Received) -> Result<T, Error> {
         let bytes = received.as_slice();
         T::from_bytes(bytes).ok_or_else(|| Error::unreadable::<T>(bytes))
     }

@@ -89,7 +89,7 @@ pub trait Calls: Sized {
 
 /// The message that a call has received, if it was done.
 #[inline]
-pub fn received<R: Carries<T>, T>(code: u32, received: R::Received) -> Result<T, Error> {
+pub fn received<R: Carries<T>, T>(code: u32, received: &R::Received) -> Result<T, Error> {
     done(code)?;
     R::read(received)
 }

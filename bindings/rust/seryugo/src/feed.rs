@@ -153,7 +153,7 @@ impl<R: Room, T, H: Holds<R>> Feed<'_, R, T, H> {
         let mut found = R::nothing();
         match R::feed_recv(&mut self.handle, &mut found) {
             code::NOTHING => Ok(None),
-            code => received::<R, T>(code, found).map(Some),
+            code => received::<R, T>(code, &found).map(Some),
         }
     }
 }

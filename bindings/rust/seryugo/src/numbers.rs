@@ -30,8 +30,8 @@ impl Carries<u64> for Numbers {
     }
 
     #[inline]
-    fn read(received: u64) -> Result<u64, Error> {
-        Ok(received)
+    fn read(received: &u64) -> Result<u64, Error> {
+        Ok(*received)
     }
 }
 

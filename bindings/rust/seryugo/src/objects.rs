@@ -266,7 +266,7 @@ impl<R: Room> Switchboard<R> {
         let code = R::held(&mut self.lock().handle, variable, &mut found);
         match code {
             code::NOTHING => Ok(None),
-            code => received::<R, _>(code, found).map(Some),
+            code => received::<R, _>(code, &found).map(Some),
         }
     }
 

@@ -104,7 +104,7 @@ pub trait Carries<T>: Room {
 
     /// The message that was received.
     #[doc(hidden)]
-    fn read(received: Self::Received) -> Result<T, Error>;
+    fn read(received: &Self::Received) -> Result<T, Error>;
 }
 
 /// What an implementation of [`Carries`] has.

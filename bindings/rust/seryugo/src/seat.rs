@@ -327,7 +327,7 @@ impl<R: Room, H: Holds<R>> Seat<'_, R, H> {
         let mut found = R::nothing();
         match self.call(step, |room, seat| call(room, seat, &mut found))? {
             code::NOTHING => Ok(None),
-            code => received::<R, T>(code, found).map(Some),
+            code => received::<R, T>(code, &found).map(Some),
         }
     }
 

@@ -1,13 +1,13 @@
 //! The calls of a seat that wait: until they are answered, up to a time limit, or as futures.
 
-use crate::calls::Read;
+use crate::calls::{self, Read};
 use crate::error::{handing_back, Error, SendError};
 use crate::names::{MVar, Source, Variable};
 use crate::owned::Holds;
 use crate::room::{Carries, Room};
 use crate::seat::Seat;
 use crate::sent_as::SentAs;
-use crate::want::{held, received, Want};
+use crate::want::{held, received, received_from, Want};
 use std::time::{Duration, Instant};
 
 /// # Calls that wait
@@ -48,7 +48,9 @@ impl<R: Room, H: Holds<R>> Seat<'_, R, H> {
         R: Carries<S::Message>,
     {
         let source = self.here(source)?;
-        self.wait(Want::Read(Read::Recv, source), move |answer| received::<R, S>(source, answer))
+        self.wait(Want::Read(Read::Recv, source), move |code, message| {
+            received_from::<R, S>(source, code, message)
+        })
     }
 
     /// The same, but it blocks no longer than this.
@@ -157,7 +159,7 @@ impl<R: Room, H: Holds<R>> Seat<'_, R, H> {
         R: Carries<V::Message>,
     {
         let variable = self.here(variable)?;
-        self.wait(Want::Read(Read::Get, variable), held::<R, _>)
+        self.wait(Want::Read(Read::Get, variable), calls::received::<R, _>)
     }
 
     /// The same, but it blocks no longer than this.
@@ -257,7 +259,7 @@ impl<R: Room, H: Holds<R>> Seat<'_, R, H> {
         R: Carries<T>,
     {
         let variable = self.here(variable)?;
-        self.wait(Want::Read(Read::Take, variable), held::<R, _>)
+        self.wait(Want::Read(Read::Take, variable), calls::received::<R, _>)
     }
 
     /// The same, but it blocks no longer than this.
@@ -357,7 +359,9 @@ impl<R: Room, H: Holds<R>> Seat<'_, R, H> {
         R: Carries<T>,
     {
         let held = self.here(variable).and_then(|variable| {
-            R::with_sent(&message, |sent| self.wait(Want::Swap(variable, sent), held::<R, _>))
+            R::with_sent(&message, |sent| {
+                self.wait(Want::Swap(variable, sent), calls::received::<R, _>)
+            })
         });
         handing_back(held, message)
     }

@@ -55,10 +55,21 @@ pub(crate) fn received<R: Carries<S::Message>, S: Source>(
     source: u64,
     answer: Answer<R>,
 ) -> Result<S::Received, Error> {
-    match answer? {
-        (code::DONE, message) => S::received(Some(R::read(message)?)),
-        (code::CLOSED, _) => S::received(None),
-        (code, _) => Err(Error::of_code(code).misfit(Misfit::Feed(source))),
+    let (code, message) = answer?;
+    received_from::<R, S>(source, code, &message)
+}
+
+/// The same by a call's code.
+#[inline]
+pub(crate) fn received_from<R: Carries<S::Message>, S: Source>(
+    source: u64,
+    code: u32,
+    message: &R::Received,
+) -> Result<S::Received, Error> {
+    match code {
+        code::DONE => S::received(Some(R::read(message)?)),
+        code::CLOSED => S::received(None),
+        _ => Err(Error::of_code(code).misfit(Misfit::Feed(source))),
     }
 }
 
@@ -66,70 +77,43 @@ pub(crate) fn received<R: Carries<S::Message>, S: Source>(
 #[inline]
 pub(crate) fn held<R: Carries<T>, T>(answer: Answer<R>) -> Result<T, Error> {
     let (code, message) = answer?;
-    calls::received::<R, T>(code, message)
+    calls::received::<R, T>(code, &message)
 }
 
 impl<'a, R: Room, H: Holds<R>> Seat<'a, R, H> {
-    /// Makes a call that may block, and reads its answer.
+    /// Makes a call that may block, and reads its code and what it has received, which isn't moved.
     #[inline]
-    pub(crate) fn wait<T>(&mut self, want: Want<'_, R>, read: impl FnOnce(Answer<R>) -> T) -> T {
+    pub(crate) fn wait<T>(
+        &mut self,
+        want: Want<'_, R>,
+        read: impl FnOnce(u32, &R::Received) -> Result<T, Error>,
+    ) -> Result<T, Error> {
         self.ready();
         if self.board.conductor.is_some() {
-            return self.decided(move |seat| read(seat.wait_conducted(want)));
+            return self.decided(move |seat| {
+                let (code, message) = seat.answer_to(want)?;
+                read(code, &message)
+            });
         }
-        read(Ok(self.wait_freely(want)))
+        let mut message = R::nothing();
+        let code = self.wait_freely(want, &mut message);
+        read(code, &message)
     }
 
-    /// Makes a call of a switchboard that is explored or rerun. It is apart from the others, so that
-    /// they put nothing into memory for it, and look at no answer twice.
-    #[cold]
-    fn decided<T>(&mut self, call: impl FnOnce(&mut Self) -> T) -> T {
-        call(self)
-    }
-
-    fn wait_conducted(&mut self, want: Want<'_, R>) -> Answer<R> {
-        match self.conducted(want, false) {
-            Some(answer) => answer,
-            None => Ok(self.wait_freely(want)),
-        }
-    }
-
-    /// Makes a call that may block. If its seat is parked, this waits until the seat is woken, and
-    /// makes the call again.
-    #[inline]
-    fn wait_freely(&mut self, want: Want<'_, R>) -> (u32, R::Received) {
-        let seat = self.number();
-        let mut received = R::nothing();
-        let mut code =
-            self.board.ask(&self.parker, false, |room| want.ask(room, seat, false, &mut received));
-        while code == code::PARKED {
-            self.parker.park();
-            // If a sink panics in this call, the seat's next one withdraws it, or the seat's end.
-            self.is_parked = true;
-            code = self
-                .board
-                .ask(&self.parker, true, |room| want.ask(room, seat, true, &mut received));
-            self.is_parked = false;
-        }
-        (code, received)
-    }
-
-    /// Lets an exploration or a rerun decide when the call is made. `None`: make it now, as any
-    /// other.
-    fn conducted(&mut self, want: Want<'_, R>, is_timed: bool) -> Option<Answer<R>> {
-        let conductor = self.board.conductor.as_ref()?;
-        let (seat, mut received) = (self.number(), R::nothing());
-        let asked = self.board.ask_conducted(conductor, seat, want.step(), is_timed, |inside| {
-            inside.ask_at_last(seat, false, |room| want.ask(room, seat, false, &mut received))
-        });
-        asked.transpose().map(|code| Ok((code?, received)))
+    /// Makes a call that may block, whoever decides when, and returns its answer.
+    pub(crate) fn answer_to(&mut self, want: Want<'_, R>) -> Answer<R> {
+        self.ready();
+        self.conducted(want, false).unwrap_or_else(|| {
+            let mut message = R::nothing();
+            Ok((self.wait_freely(want, &mut message), message))
+        })
     }
 
     /// The same, but no longer than this. A limit that no clock reaches is none.
     pub(crate) fn wait_for(&mut self, want: Want<'_, R>, timeout: Duration) -> Answer<R> {
         match Instant::now().checked_add(timeout) {
             Some(deadline) => self.wait_until(want, deadline),
-            None => self.wait(want, |answer| answer),
+            None => self.answer_to(want),
         }
     }
 
@@ -145,7 +129,7 @@ impl<'a, R: Room, H: Holds<R>> Seat<'a, R, H> {
         let mut is_last = deadline <= Instant::now();
         loop {
             let ask = |room: &mut Handle| want.ask(room, seat, is_again, &mut received);
-            // As in `wait`.
+            // As in `wait_freely`.
             self.is_parked = is_again;
             let code = if is_last {
                 self.board
@@ -174,6 +158,41 @@ impl<'a, R: Room, H: Holds<R>> Seat<'a, R, H> {
             want,
             is_awaited: false,
         }
+    }
+
+    /// Makes a call of a switchboard that is explored or rerun. It is apart from the others, so that
+    /// they put nothing into memory for it, and look at no answer twice.
+    #[cold]
+    fn decided<T>(&mut self, call: impl FnOnce(&mut Self) -> T) -> T {
+        call(self)
+    }
+
+    /// Makes a call that may block, and that nobody decides: its code. If its seat is parked, this
+    /// waits until the seat is woken, and makes the call again.
+    #[inline]
+    fn wait_freely(&mut self, want: Want<'_, R>, to: &mut R::Received) -> u32 {
+        let seat = self.number();
+        let mut code = self.board.ask(&self.parker, false, |room| want.ask(room, seat, false, to));
+        while code == code::PARKED {
+            self.parker.park();
+            // If a sink panics in this call, the seat's next one withdraws it, or the seat's end.
+            self.is_parked = true;
+            code = self.board.ask(&self.parker, true, |room| want.ask(room, seat, true, to));
+            self.is_parked = false;
+        }
+        code
+    }
+
+    /// Lets an exploration or a rerun decide when the call is made. `None`: make it now, as any
+    /// other.
+    #[inline]
+    fn conducted(&mut self, want: Want<'_, R>, is_timed: bool) -> Option<Answer<R>> {
+        let conductor = self.board.conductor.as_ref()?;
+        let (seat, mut received) = (self.number(), R::nothing());
+        let asked = self.board.ask_conducted(conductor, seat, want.step(), is_timed, |inside| {
+            inside.ask_at_last(seat, false, |room| want.ask(room, seat, false, &mut received))
+        });
+        asked.transpose().map(|code| Ok((code?, received)))
     }
 }
 
