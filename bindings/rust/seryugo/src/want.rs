@@ -100,7 +100,8 @@ impl<'a, R: Room, H: Holds<R>> Seat<'a, R, H> {
         read(code, &message)
     }
 
-    /// Makes a call that may block, whoever decides when, and returns its answer.
+    /// Makes a call that may block, also one that an exploration or a rerun decides. Returns its
+    /// answer.
     pub(crate) fn answer_to(&mut self, want: Want<'_, R>) -> Answer<R> {
         self.ready();
         self.conducted(want, false).unwrap_or_else(|| {
