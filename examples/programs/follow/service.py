@@ -43,6 +43,22 @@ def sealed(*pieces):
     return texts
 
 
+def puts(number):
+    """What this client puts: numbered words of its own, into three queues in turn.
+
+    Each line is made when the client takes it. If a loop made the generator in its body, the loop's
+    variable could be the next client's number by then.
+    """
+    return (f"put q{(n + number) % 3 + 1} {number}.{n}" for n in itertools.count(1))
+
+
+def clients_requests():
+    """Each client's number and requests: three put words, and three get what is there."""
+    for number in PLACES:
+        yield number, puts(number)
+        yield f"1{number}", itertools.repeat(f"get q{number}")
+
+
 class Client:
     """A client that asks again and again, until its standard input ends."""
 
@@ -166,11 +182,8 @@ class Service(Cases):
     # ---- clients ----
 
     def start_clients(self):
-        """Three put numbered words into three queues, and three get what is there."""
-        for number in PLACES:
-            puts = (f"put q{(n + number) % 3 + 1} {number}.{n}" for n in itertools.count(1))
-            self.clients.append(Client(self, number, puts))
-            self.clients.append(Client(self, f"1{number}", itertools.repeat(f"get q{number}")))
+        for number, requests in clients_requests():
+            self.clients.append(Client(self, number, requests))
 
     def stop_clients(self):
         """Each client stops after the answer to its last request."""

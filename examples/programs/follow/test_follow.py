@@ -18,7 +18,8 @@ import subprocess
 import sys
 import time
 
-from service import FOLDER, PLACES, Client, Service, free_port, sealed  # noqa: I001
+from service import FOLDER, PLACES, Client, Service  # noqa: I001
+from service import clients_requests, free_port, sealed
 from test_short import Short
 from cases import TOP, has, left_out, main, wait_until
 
@@ -97,6 +98,14 @@ class Follow(Service):
             self.assertEqual(asked.said().splitlines(), answers)
         self.stop(2)
         self.stop(1)
+
+    def test_own_words(self):
+        """Each client puts words of its own, also if it takes them once all have started."""
+        for number, requests in list(clients_requests()):
+            if number in PLACES:
+                words = [next(requests).split()[2] for _ in range(3)]
+                with self.case(f"what client {number} puts"):
+                    self.assertEqual(words, [f"{number}.{n}" for n in (1, 2, 3)])
 
     def test_kills(self):
         for place in PLACES:
