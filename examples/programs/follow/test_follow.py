@@ -223,6 +223,17 @@ class Follow(Service):
         client.program.ends()
         return client
 
+    def test_who_put(self):
+        """In the journal each word is followed by the request of its own client that put it."""
+        journal = self.dump().decode()
+        put = r"^seat \d+ send \d+ =(\d+\.\d+): done\n"
+        request = r"seat \d+ (?:mvar|swap \d+) =client%20(\d+)%20(\d+)%20done: "
+        found = re.findall(put + request, journal, re.M)
+        with self.case("who put each word"):
+            others = [(word, client, n) for word, client, n in found if word != f"{client}.{n}"]
+            self.assertEqual(others[:3], [], f"{len(others)} words are not their client's")
+            self.assertEqual(len(found), len(re.findall(put, journal, re.M)))
+
     def test_each_put_once(self):
         """Each put that was answered was received once.
 
