@@ -131,10 +131,10 @@ static void take(void *context, const struct entry *entry)
     follower->last = entry->id;
 }
 
-/* Reads what is there, and doesn't wait for more. */
+/* Reads what is there, and doesn't wait for more. If the process is to stop, it leaves the rest. */
 static void catch_up(struct follower *follower)
 {
-    while (stream_read(follower->redis, 0, take, follower) != 0) {
+    while (!is_stopping && stream_read(follower->redis, 0, take, follower) != 0) {
     }
 }
 
@@ -170,7 +170,9 @@ bool follower_wait(struct follower *follower, const struct lease *lease, uint64_
         *epoch = follower->redis->seen.epoch + 1;
         if (begin_epoch(follower, lease, *epoch)) {
             catch_up(follower);
-            return true;
+            if (!is_stopping) {
+                return true;
+            }
         }
         lease_release(lease);
     }
