@@ -46,6 +46,7 @@ mod conductor;
 mod end;
 mod found;
 mod history;
+mod lock;
 mod moves;
 mod panics;
 mod pinned;
@@ -70,6 +71,7 @@ pub(crate) use step::{Kind, Step};
 
 pub use end::{End, Waits};
 pub use found::{Bad, Found};
+pub use lock::{Condition, Guard, Lock};
 pub use rerun::{rerun, Diverged, Reran, Rerun, RerunError, Stop};
 pub use runs::{again, explore};
 pub use scope::{aside, scope, Scope, Thread};

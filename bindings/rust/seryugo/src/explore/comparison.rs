@@ -6,6 +6,7 @@
 
 mod futures;
 mod joins;
+mod locks;
 mod near;
 mod rings;
 mod threads;
@@ -222,6 +223,8 @@ impl Played<'_> {
                 if let Some(answer) = answer {
                     state.saw(task, answer);
                 }
+                let seen = self.near.locks.after(thread, self.made[thread] - 1, self.plan, state);
+                self.seen[thread] = mix(self.seen[thread], seen);
             }
             match self.plan[thread].get(self.made[thread]) {
                 Some(kind) => {
@@ -234,9 +237,9 @@ impl Played<'_> {
                         Some(rings) if kind >= FIRST_RING => rings.step(kind),
                         _ => step(kind, self.of),
                     };
-                    state.arrive(task, seat, step, is_timed);
+                    state.arrive(task, seat, step, is_timed && step.kind != Kind::Lock);
                 }
-                None => state.finish(task),
+                None => locks::finish(state, task),
             }
         }
     }

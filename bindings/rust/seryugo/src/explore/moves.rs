@@ -22,7 +22,7 @@ pub(crate) struct Move {
     pub step: Step,
     /// What the step does to objects, as a step on one of them.
     pub as_if: Step,
-    /// The channel of the port that the step uses, or `NONE`.
+    /// The channel of the port that the step uses, the condition that it has waited for, or `NONE`.
     pub channel: u64,
     /// Whether the object has something: a message, or that it is closed.
     pub is_full: bool,
@@ -44,8 +44,8 @@ impl Move {
             return false;
         }
         let (one, two) = (self.as_if.kind, other.as_if.kind);
-        if one == Kind::Aside || two == Kind::Aside {
-            return one != two || self.as_if.object != other.as_if.object;
+        if one.is_beside() || two.is_beside() {
+            return !one.is_beside() || !two.is_beside() || !self.meets_beside(other);
         }
         if one == Kind::LookAtAll || two == Kind::LookAtAll || self.is_on_lane_of(other) {
             return false;
@@ -62,6 +62,12 @@ impl Move {
             return self.is_apart_from(other) && other.is_apart_from(self);
         }
         on_one_object(one, two, is_full) || on_one_object(two, one, is_full)
+    }
+
+    /// Whether both use one thing beside the board.
+    fn meets_beside(&self, other: &Move) -> bool {
+        let theirs = [other.as_if.object, other.channel];
+        [self.as_if.object, self.channel].iter().any(|own| *own != NONE && theirs.contains(own))
     }
 
     /// Whether both use one lane.
@@ -116,6 +122,7 @@ impl Move {
         let takes = match self.as_if.kind {
             Kind::Recv | Kind::Poll => self.place != NONE,
             Kind::Take | Kind::TakePoll => self.is_full,
+            Kind::Lock => true,
             _ => false,
         };
         takes && self.by == By::Step && self.as_if.object == waits.as_if.object

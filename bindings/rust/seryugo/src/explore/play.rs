@@ -50,8 +50,12 @@ pub(crate) fn leave() {
 }
 
 /// The exploration of which this is a thread, and its number there.
+#[inline]
 pub(crate) fn own() -> Option<(Arc<Play>, usize)> {
-    OWN.with_borrow(Clone::clone)
+    match PLAYS.load(Ordering::Relaxed) {
+        0 => None,
+        _ => OWN.with_borrow(Clone::clone),
+    }
 }
 
 /// Whether this thread's panics are kept, and if so, whether they are printed too.
@@ -110,6 +114,21 @@ impl Play {
         }
         drop(state);
         unwind(board, step)
+    }
+
+    /// The calling thread is about to make a step beside the board, and waits until it may.
+    #[cold]
+    pub fn pass_beside(&self, step: Step, is_timed: bool) -> Pass {
+        let board = self.lock().board.clone();
+        board.map_or(Pass::Go, |board| self.pass(&*board, NONE, step, is_timed))
+    }
+
+    /// The calling thread lets this lock go.
+    #[cold]
+    pub fn release(&self, lock: u64) {
+        if let Some(task) = self.task() {
+            self.lock().release(task, lock);
+        }
     }
 
     /// The calling thread polls a future that calls so. `None`: the future isn't answered, and is to

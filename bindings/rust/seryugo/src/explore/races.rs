@@ -5,12 +5,15 @@
 //! It also needs what those need. Two steps that don't commute are a race, unless the later one
 //! waited for the other one. Then the choice of the first step asks for a thread that leads to the
 //! other order. A thread that waits is in a race too, with the step that took what it waits for.
+//! A thread takes a lock after all that its last holder did before it let the lock go.
 //!
 //! If the choice has already a way that leads there, it asks for nothing. So most orders that leave
 //! the same are run once. Others call this dynamic partial order reduction by source sets.
 
 use super::clock::Clock;
 use super::moves::{By, Move};
+use super::step::Kind;
+use std::collections::HashMap;
 
 /// A step of the run, with those that it needs.
 struct Event {
@@ -29,6 +32,8 @@ pub(crate) struct Ask {
 pub(crate) struct Races {
     events: Vec<Event>,
     now: Vec<Thread>,
+    /// What came before each lock was let go.
+    released: HashMap<u64, Clock>,
 }
 
 /// A thread of the run that is on.
@@ -43,6 +48,7 @@ struct Thread {
 impl Races {
     pub fn begin(&mut self) {
         self.now.clear();
+        self.released.clear();
     }
 
     /// The next run has the first steps of this one, this many.
@@ -63,6 +69,11 @@ impl Races {
         self.now[task].clock.join(&clock);
     }
 
+    /// A thread lets this lock go.
+    pub fn released(&mut self, task: usize, lock: u64) {
+        self.released.insert(lock, self.now[task].clock.clone());
+    }
+
     /// The step at this place is made. Returns what it asks for, of choices that have more ways.
     pub fn made(&mut self, at: usize, made: &Move, has_ways: impl Fn(usize) -> bool) -> Vec<Ask> {
         let mut asked = Vec::new();
@@ -79,6 +90,9 @@ impl Races {
                 }
                 past.join(&event.past);
                 past.add(event.made.task, place);
+            }
+            if made.step.kind == Kind::Lock {
+                self.released.get(&made.step.object).iter().for_each(|before| past.join(before));
             }
             self.events.push(Event { made: *made, past });
         }

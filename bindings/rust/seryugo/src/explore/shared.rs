@@ -43,21 +43,34 @@ const MADE_OUTSIDE: u64 = 1 << 63;
 /// How many were made outside explorations.
 static OTHERS: AtomicU64 = AtomicU64::new(0);
 
+/// The number of the next value, lock or condition.
+pub(super) fn next_number() -> u64 {
+    match play::own() {
+        Some((play, _)) => MADE_IN_A_RUN + play.lock().next_shared(),
+        None => MADE_OUTSIDE + OTHERS.fetch_add(1, Ordering::Relaxed),
+    }
+}
+
+/// A number as a reader sees it.
+pub(super) fn shown(number: u64) -> u64 {
+    [MADE_IN_A_RUN, MADE_OUTSIDE]
+        .iter()
+        .find_map(|from| number.checked_sub(*from))
+        .unwrap_or(number)
+}
+
 impl<T> Shared<T> {
     /// A value that is shared. In a run of an exploration its number depends on the run alone.
     pub fn new(value: T) -> Shared<T> {
-        let number = match play::own() {
-            Some((play, _)) => MADE_IN_A_RUN + play.lock().next_shared(),
-            None => MADE_OUTSIDE + OTHERS.fetch_add(1, Ordering::Relaxed),
-        };
         Shared {
-            number,
+            number: next_number(),
             value: Mutex::new(value),
         }
     }
 
     /// Uses the value. No other thread does so meanwhile. Make no call of a switchboard in it: in
-    /// an exploration another thread may wait for the value then, and never come back.
+    /// an exploration another thread may wait for the value then, and never come back. A
+    /// [`Lock`](super::Lock) may be had over calls.
     pub fn with<R>(&self, used: impl FnOnce(&mut T) -> R) -> R {
         aside(self.number);
         used(&mut self.value.lock().unwrap_or_else(PoisonError::into_inner))

@@ -10,6 +10,7 @@ use super::step::{Kind, Step, NONE};
 use super::worker::{Slot, Worker};
 use crate::inside::MOST_MOVED;
 use calls::{Awaited, Call};
+use locks::Locks;
 use std::collections::VecDeque;
 use std::ptr;
 use std::sync::Arc;
@@ -19,6 +20,7 @@ pub(crate) use calls::Polled;
 
 mod calls;
 mod ending;
+mod locks;
 mod notes;
 
 /// What a thread joins: the threads of a scope, or one.
@@ -86,6 +88,7 @@ pub(crate) struct State {
     time_outs: u32,
     /// How many shared values the run has made.
     shared: u64,
+    pub locks: Locks,
     /// The choices of the run that had more than one way.
     pub choices: Vec<Choice>,
     /// The step on the object that the last step may have changed. `None`: on more of them.
@@ -141,6 +144,7 @@ impl State {
             most_entries: 0,
             time_outs: 0,
             shared: 0,
+            locks: Locks::default(),
             choices: Vec::new(),
             changed: None,
             last: VecDeque::new(),
@@ -170,7 +174,7 @@ impl State {
         self.choices.clear();
         self.last.clear();
         (self.current, self.steps, self.scopes, self.most_entries) = (0, 0, 0, 0);
-        (self.time_outs, self.shared) = (0, 0);
+        (self.time_outs, self.shared, self.locks) = (0, 0, Locks::default());
         (self.end, self.text, self.changed) = (None, String::new(), None);
         self.add(Arc::clone(main), 0);
         self.tasks[0].at = At::Running;
@@ -320,6 +324,7 @@ impl State {
         let is_on_one = !kind.opens_or_ends() && as_if.kind != Kind::LookAtAll;
         self.changed = is_on_one.then_some(as_if);
         self.take_turn(chosen);
+        self.locks.made(chosen.task, chosen.step);
         let task = &mut self.tasks[chosen.task];
         self.last.push_back((chosen.task, task.call.seat, task.call.step));
         task.entries = entries.0;
@@ -381,10 +386,16 @@ impl State {
     fn look(&mut self) {
         let Some(board) = &self.board else { return };
         let changed = self.changed.map(|changed| changed.object);
-        for call in self.tasks.iter_mut().flat_map(Task::calls_mut) {
-            call.look_at(&**board, changed);
-            #[cfg(test)]
-            call.is_new(&**board);
+        for (number, task) in self.tasks.iter_mut().enumerate() {
+            for call in task.calls_mut() {
+                if call.step.kind.is_beside() {
+                    call.look = Some(self.locks.look(number, call.step));
+                    continue;
+                }
+                call.look_at(&**board, changed);
+                #[cfg(test)]
+                call.is_new(&**board);
+            }
         }
     }
 
@@ -395,7 +406,7 @@ impl State {
         }
         let is_timed = |way: &&Move| {
             let task = &self.tasks[way.task];
-            task.at == At::Step && task.call.is_timed
+            task.at == At::Step && self.may_pass(way)
         };
         let passes = |way: &Move| Move {
             by: By::TimeOut,
@@ -404,15 +415,21 @@ impl State {
         moves.iter().chain(stuck).filter(is_timed).map(passes).collect()
     }
 
+    /// Whether the time of a call may pass: who waits for a condition has its lock again then.
+    fn may_pass(&self, way: &Move) -> bool {
+        self.tasks[way.task].call.is_timed && self.locks.is_free(way.step)
+    }
+
     /// What may happen if all threads are stuck at these calls.
     fn late(&self, mut stuck: Vec<Move>) -> Vec<Move> {
-        let is_timed = stuck.iter().any(|way| self.tasks[way.task].call.is_timed);
+        let is_timed = stuck.iter().any(|way| self.may_pass(way));
         let by = if is_timed { By::TimeOut } else { By::Stall };
         if is_timed {
-            stuck.retain(|way| self.tasks[way.task].call.is_timed);
+            stuck.retain(|way| self.may_pass(way));
         } else if !self.limits.tells_stalls || !self.stall().0 {
             stuck.clear();
         }
+        stuck.retain(|way| is_timed || !way.step.kind.is_beside());
         for way in &mut stuck {
             way.by = by;
         }

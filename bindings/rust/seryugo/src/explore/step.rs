@@ -1,6 +1,7 @@
 //! What a thread is about to do: a call with its object, a look, or what it marks as beside the
 //! board.
 
+use super::shared;
 use crate::calls::{Give, Read};
 use crate::entry::Call;
 use std::fmt;
@@ -35,6 +36,16 @@ pub(crate) enum Kind {
     LookAtAll,
     /// Uses what lies beside the board under this number.
     Aside,
+    /// Takes the lock of this number.
+    Lock,
+    /// Begins to wait for the condition of this number. Then its thread lets its lock go.
+    Await,
+    /// Takes the lock of this number again, once it is notified.
+    Relock,
+    /// Wakes one thread that waits for the condition of this number.
+    NotifyOne,
+    /// Wakes all.
+    NotifyAll,
     /// Opens a lane to this object.
     OpenLane,
     /// Sends on the lane of this number.
@@ -75,9 +86,24 @@ impl Kind {
 
     /// Whether an accepted call of this kind has one entry in the journal.
     pub fn has_entry(self) -> bool {
-        use Kind::{Aside, FeedRecv, LaneSend, Look, LookAtAll, OpenLane};
-        let has_none = matches!(self, Look | LookAtAll | Aside | OpenLane | LaneSend | FeedRecv);
-        !has_none && !self.moves_many() && self != Kind::EndFeed
+        use Kind::{FeedRecv, LaneSend, Look, LookAtAll, OpenLane};
+        let has_none = matches!(self, Look | LookAtAll | OpenLane | LaneSend | FeedRecv);
+        !has_none && !self.is_beside() && !self.moves_many() && self != Kind::EndFeed
+    }
+
+    /// Whether it is on what lies beside the board.
+    pub fn is_beside(self) -> bool {
+        matches!(self, Kind::Aside | Kind::Lock) || self.is_of_condition()
+    }
+
+    /// Whether it takes a lock.
+    pub fn locks(self) -> bool {
+        matches!(self, Kind::Lock | Kind::Relock)
+    }
+
+    /// Whether it waits for a condition, or notifies who does.
+    pub fn is_of_condition(self) -> bool {
+        matches!(self, Kind::Await | Kind::Relock | Kind::NotifyOne | Kind::NotifyAll)
     }
 
     /// Whether it may have an entry for each of many messages.
@@ -124,6 +150,11 @@ impl Kind {
             Kind::Look => "a look at",
             Kind::LookAtAll => "a look at the journal",
             Kind::Aside => "aside",
+            Kind::Lock => "lock",
+            Kind::Await => "wait for condition",
+            Kind::Relock => "a condition, to have again lock",
+            Kind::NotifyOne => "notify_one of condition",
+            Kind::NotifyAll => "notify_all of condition",
             Kind::OpenLane => "open_lane",
             Kind::LaneSend => "lane.send",
             Kind::Drain => "drain",
@@ -183,10 +214,11 @@ impl Step {
 impl fmt::Display for Step {
     fn fmt(&self, f: &mut fmt::Formatter<'_>) -> fmt::Result {
         f.write_str(self.kind.word())?;
-        if self.object != NONE {
-            write!(f, " {}", self.object)?;
+        match self.object {
+            NONE => Ok(()),
+            number if self.kind.is_beside() => write!(f, " {}", shared::shown(number)),
+            number => write!(f, " {number}"),
         }
-        Ok(())
     }
 }
 

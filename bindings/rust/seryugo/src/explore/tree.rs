@@ -3,6 +3,7 @@
 use super::choose::Random;
 use super::moves::{By, Move};
 use super::races::{Ask, Races};
+use super::step::Kind;
 
 /// What has become of a way at a choice.
 #[derive(Clone, Copy, PartialEq)]
@@ -105,6 +106,13 @@ impl Tree {
         }
     }
 
+    /// A thread lets this lock go.
+    pub fn released(&mut self, task: usize, lock: u64) {
+        if let Some(races) = &mut self.races {
+            races.released(task, lock);
+        }
+    }
+
     /// These wait at the next choice.
     pub fn wait(&mut self, waits: &[Move]) {
         if self.is_repeat || self.depth < self.nodes.len() {
@@ -140,7 +148,8 @@ impl Tree {
             };
             return Ok(moves[any]);
         }
-        if self.races.is_some() && moves.iter().any(|way| way.step.kind.is_of_rings()) {
+        let has_no_races = |kind: Kind| kind.is_of_rings() || kind.is_of_condition();
+        if self.races.is_some() && moves.iter().any(|way| has_no_races(way.step.kind)) {
             self.ask_for_all();
         }
         let chosen = match self.nodes.get(self.depth) {

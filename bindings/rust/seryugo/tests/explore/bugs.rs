@@ -9,7 +9,7 @@ use seryugo::Error;
 use std::time::Duration;
 
 /// A program with a bug: every way finds it, and its schedule leads there again.
-fn found(program: impl Fn(&Board)) -> Found {
+pub fn found(program: impl Fn(&Board)) -> Found {
     let found = explore(Way::every(), 10_000, &program);
     println!("{found}");
     let bad = found.bad().expect("a bug");
@@ -32,12 +32,12 @@ fn found(program: impl Fn(&Board)) -> Found {
 }
 
 /// It ends by a panic that says this.
-fn panics(program: impl Fn(&Board), says: &str) {
+pub fn panics(program: impl Fn(&Board), says: &str) {
     let found = found(program);
     let End::Panicked { message, .. } = found.bad().unwrap().end() else {
         panic!("{found}")
     };
-    assert!(message.contains(says) && message.contains("explore/bug"), "{message}");
+    assert!(message.contains(says) && message.contains("tests/explore/"), "{message}");
 }
 
 /// It ends with threads that wait at these calls.

@@ -5,7 +5,7 @@ use seryugo::explore::{self, explore, scope, Shared, Way};
 
 /// No order ends badly, and these are the runs of every order, with those that were repeats, and
 /// plainly.
-fn clean(program: impl Fn(&Board), runs: u64, repeats: u64, plain_runs: u64) {
+pub fn clean(program: impl Fn(&Board), runs: u64, repeats: u64, plain_runs: u64) {
     let found = explore(Way::every(), 10_000, &program);
     println!("{found}");
     assert!(found.is_clean() && found.is_whole() && found.beside().is_none(), "{found}");

@@ -9,6 +9,7 @@ mod ends;
 mod first;
 mod futures;
 mod lanes;
+mod locks;
 mod programs;
 mod real_runs;
 mod reruns;

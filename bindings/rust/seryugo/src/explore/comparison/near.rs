@@ -1,6 +1,7 @@
 //! Random programs whose calls meet more, since they are on few objects. Some threads receive from
 //! ports that they have made.
 
+use super::locks::{self, FIRST_LOCK};
 use super::{step, Board, Objects, Plan};
 use crate::explore::choose::{mix, Random};
 use crate::explore::step::{Kind, Step, NONE};
@@ -55,6 +56,7 @@ pub(super) struct Own {
 pub(super) struct Near {
     own: Vec<Own>,
     aside: [u64; 2],
+    pub locks: locks::Values,
 }
 
 impl Near {
@@ -62,6 +64,7 @@ impl Near {
         Near {
             own: vec![Own { port: None }; plan.len()],
             aside: [0; 2],
+            locks: locks::Values::default(),
         }
     }
 
@@ -77,6 +80,7 @@ impl Near {
             56 => Kind::Recv.on(port),
             57 => Kind::Poll.on(port),
             58 => Kind::Close.on(port),
+            FIRST_LOCK.. => locks::step(kind),
             _ => Kind::Look.on(port),
         }
     }
@@ -104,6 +108,7 @@ impl Near {
             56 => drop(seat.recv(port)),
             57 => drop(seat.recv_poll(port)),
             58 => drop(seat.close(port)),
+            FIRST_LOCK.. => (),
             _ => return board.owed(port).unwrap_or(NONE),
         }
         0

@@ -13,6 +13,7 @@ pub(crate) struct Call {
     pub step: Step,
     /// As in [`Move`].
     pub as_if: Step,
+    /// As in [`Move`].
     pub channel: u64,
     pub is_timed: bool,
     /// Whether it is that of a future, which returns if it isn't answered.
@@ -117,10 +118,13 @@ impl State {
         self.tasks[task].awaited.retain(|awaited| awaited.call.seat != seat);
         self.tasks[task].granted = None;
         self.tasks[task].goes_on();
-        let call = Call {
+        let mut call = Call {
             is_timed,
             ..self.call(seat, step)
         };
+        if step.kind == Kind::Relock {
+            call.channel = self.locks.awaited_by(task);
+        }
         self.arrive_at(task, call);
     }
 

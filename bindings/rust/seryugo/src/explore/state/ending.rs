@@ -1,5 +1,6 @@
 //! How a run ends if it can't go on.
 
+use super::calls::Call;
 use super::{At, State, Task};
 use crate::explore::end::{End, Waits};
 use crate::explore::moves::Move;
@@ -10,8 +11,9 @@ use crate::explore::tree::Astray;
 impl State {
     /// As [`Board::stall`].
     pub(super) fn stall(&self) -> (bool, Vec<u64>) {
-        let waits: Vec<(u64, Step)> =
-            self.tasks.iter().flat_map(Task::calls).map(|call| (call.seat, call.step)).collect();
+        let calls = self.tasks.iter().flat_map(Task::calls);
+        let on_board = calls.filter(|call| !call.step.kind.is_beside());
+        let waits: Vec<(u64, Step)> = on_board.map(|call| (call.seat, call.step)).collect();
         self.board.as_ref().map(|board| board.stall(&waits)).unwrap_or_default()
     }
 
@@ -23,7 +25,11 @@ impl State {
                 seat: None,
                 call: None,
             });
-            task.calls().map(move |call| waits(number, call.seat, call.step)).chain(joins)
+            let at = move |call: &Call| Waits {
+                call: Some(self.locks.told(call.step)),
+                ..waits(number, call.seat, call.step)
+            };
+            task.calls().map(at).chain(joins)
         });
         let (is_told, free) = self.stall();
         End::Stalled {

@@ -39,7 +39,7 @@ impl State {
     /// Notes what a step saw that has no entry, and what it may have changed. The journal had had
     /// this many entries before.
     fn see(&mut self, done: &mut Done, step: Step, entries: u64) {
-        let thing = mix(step.object, u64::from(step.kind == Kind::Aside));
+        let thing = thing(step);
         match step.kind {
             Kind::LookAtAll => self.history.saw_all(done),
             Kind::Look => match self.board.as_ref().and_then(|board| board.counts(step.object)) {
@@ -50,6 +50,7 @@ impl State {
                 self.history.saw(done, thing);
                 self.history.changed(*done, thing);
             }
+            Kind::Lock | Kind::Relock => self.history.saw(done, thing),
             Kind::Put | Kind::Take | Kind::TakePoll | Kind::Swap => {
                 self.history.changed(*done, thing);
             }
@@ -60,6 +61,18 @@ impl State {
                 sums.for_each(|(_, message)| history::saw(done, message));
             }
             _ => (),
+        }
+    }
+
+    /// A thread lets a lock go. Who has it next sees what this one did before.
+    pub fn release(&mut self, task: usize, lock: u64) {
+        if !self.locks.release(task, lock) || self.end.is_some() {
+            return;
+        }
+        self.settle(task);
+        self.history.changed(self.tasks[task].done, thing(Kind::Lock.on(lock)));
+        if let Some(tree) = self.chooser.tree_mut() {
+            tree.released(task, lock);
         }
     }
 
@@ -86,4 +99,9 @@ impl State {
             ));
         }
     }
+}
+
+/// By which what lies beside the board is told from an object.
+fn thing(step: Step) -> u64 {
+    mix(step.object, u64::from(step.kind.is_beside()))
 }

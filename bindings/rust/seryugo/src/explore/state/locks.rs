@@ -1,0 +1,103 @@
+//! The locks of a run: who has which, and who waits for a condition.
+
+use crate::explore::board::Look;
+use crate::explore::step::{Kind, Step, NONE};
+use std::collections::HashMap;
+use std::panic::Location;
+
+/// The locks and conditions of a run.
+#[derive(Default)]
+pub(crate) struct Locks {
+    /// Which thread has a lock.
+    holders: HashMap<u64, usize>,
+    /// Who waits for a condition: the condition, and the thread.
+    waiting: Vec<(u64, usize)>,
+    /// Each wakes one of its threads.
+    notified: Vec<Vec<usize>>,
+    /// Where each lock was made.
+    places: HashMap<u64, &'static Location<'static>>,
+}
+
+impl Locks {
+    /// Notes where a lock was made.
+    pub fn note(&mut self, lock: u64, place: &'static Location<'static>) {
+        self.places.insert(lock, place);
+    }
+
+    /// What such a step of a thread finds.
+    pub fn look(&self, task: usize, step: Step) -> Look {
+        let is_notified = || self.notified.iter().any(|woken| woken.contains(&task));
+        let is_woken = step.kind != Kind::Relock || is_notified();
+        Look {
+            is_answered: self.is_free(step) && is_woken,
+            is_full: false,
+            place: NONE,
+        }
+    }
+
+    /// Whether nobody has the lock that a step takes.
+    pub fn is_free(&self, step: Step) -> bool {
+        !step.kind.locks() || !self.holders.contains_key(&step.object)
+    }
+
+    /// The condition that a thread waits for, or `NONE`.
+    pub fn awaited_by(&self, task: usize) -> u64 {
+        self.waiting.iter().find(|(_, waits)| *waits == task).map_or(NONE, |waits| waits.0)
+    }
+
+    /// A thread makes such a step.
+    pub fn made(&mut self, task: usize, step: Step) {
+        match step.kind {
+            Kind::Lock => drop(self.holders.insert(step.object, task)),
+            Kind::Relock => {
+                self.holders.insert(step.object, task);
+                self.wake(task);
+            }
+            Kind::Await => self.waiting.push((step.object, task)),
+            Kind::NotifyOne => self.notified.push(self.of_condition(step.object).collect()),
+            Kind::NotifyAll => {
+                let each: Vec<usize> = self.of_condition(step.object).collect();
+                self.notified.extend(each.into_iter().map(|task| vec![task]));
+            }
+            _ => (),
+        }
+    }
+
+    fn of_condition(&self, condition: u64) -> impl Iterator<Item = usize> + '_ {
+        let waits = self.waiting.iter().filter(move |waits| waits.0 == condition);
+        waits.map(|waits| waits.1)
+    }
+
+    /// The thread waits no more. It uses up one notification, and no other one wakes it.
+    fn wake(&mut self, task: usize) {
+        if let Some(used) = self.notified.iter().position(|woken| woken.contains(&task)) {
+            self.notified.remove(used);
+        }
+        self.waiting.retain(|(_, waits)| *waits != task);
+        for woken in &mut self.notified {
+            woken.retain(|other| *other != task);
+        }
+        self.notified.retain(|woken| !woken.is_empty());
+    }
+
+    /// A thread lets a lock go. Returns whether it had it.
+    pub fn release(&mut self, task: usize, lock: u64) -> bool {
+        let had = self.holders.get(&lock) == Some(&task);
+        if had {
+            self.holders.remove(&lock);
+        }
+        had
+    }
+
+    /// A step, with where its lock was made and who has it.
+    pub fn told(&self, step: Step) -> String {
+        let mut text = step.to_string();
+        if step.kind.locks() {
+            let place = self.places.get(&step.object);
+            text.extend(place.map(|place| format!(" of {}:{}", place.file(), place.line())));
+            let holder = self.holders.get(&step.object);
+            text.extend(holder.map(|holder| format!(", which thread {holder} has")));
+        }
+        text
+    }
+}
