@@ -2,10 +2,11 @@
 
 use crate::outbox::Outbox;
 use crate::protocol::{Name, Refusal};
+use seryugo::explore::{Condition, Guard, Lock};
 use std::collections::HashMap;
 use std::io::{self, ErrorKind, Read};
 use std::net::{SocketAddr, TcpStream};
-use std::sync::{Arc, Condvar, Mutex, MutexGuard, PoisonError};
+use std::sync::{Arc, Mutex, PoisonError};
 use std::time::{Duration, Instant};
 
 /// How often a thread that reads or writes looks whether its connection has ended.
@@ -61,9 +62,9 @@ impl Connection {
 /// All connections.
 #[derive(Default)]
 pub struct Connections {
-    list: Mutex<List>,
+    list: Lock<List>,
     /// A connection has ended.
-    ended: Condvar,
+    ended: Condition,
 }
 
 #[derive(Default)]
@@ -91,15 +92,16 @@ impl Connections {
 
     /// Gives a connection its name. If another one has the name, that one ends first.
     pub fn take_name(&self, connection: &Arc<Connection>, name: &Name) -> Result<(), Refusal> {
-        let until = Instant::now() + PATIENCE;
-        let mut list = self.lock();
-        while let Some(earlier) = list.named.get(name) {
-            earlier.outbox.end("bye replaced: a later connection has your name");
-            let left = until.saturating_duration_since(Instant::now());
-            if left.is_zero() {
-                return Err(Refusal::NameInUse);
-            }
-            (list, _) = self.ended.wait_timeout(list, left).unwrap_or_else(PoisonError::into_inner);
+        let has_earlier = |list: &mut List| {
+            let earlier = list.named.get(name);
+            earlier.is_some_and(|earlier| {
+                earlier.outbox.end("bye replaced: a later connection has your name");
+                true
+            })
+        };
+        let (mut list, is_in_use) = self.ended.wait_timeout_while(self.lock(), PATIENCE, has_earlier);
+        if is_in_use {
+            return Err(Refusal::NameInUse);
         }
         list.named.insert(name.clone(), connection.clone());
         *connection.name.lock().unwrap_or_else(PoisonError::into_inner) = Some(name.clone());
@@ -134,8 +136,8 @@ impl Connections {
         list.open.values().for_each(|connection| connection.outbox.end(last));
     }
 
-    fn lock(&self) -> MutexGuard<'_, List> {
-        self.list.lock().unwrap_or_else(PoisonError::into_inner)
+    fn lock(&self) -> Guard<'_, List> {
+        self.list.lock()
     }
 }
 

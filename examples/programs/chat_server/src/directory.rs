@@ -6,10 +6,11 @@
 use crate::keeper::Keeper;
 use crate::messages::{Record, Said};
 use crate::protocol::{Name, Refusal};
+use seryugo::explore::{Guard, Lock};
 use seryugo::{Channel, Error, MVar, Mailbox, Object, Port, Seat, Switchboard};
 use std::collections::{BTreeMap, HashMap};
 use std::sync::atomic::{AtomicU64, Ordering};
-use std::sync::{Arc, Mutex, MutexGuard, PoisonError};
+use std::sync::Arc;
 
 /// A room. What is said goes into the queue; once it is kept, on the channel.
 #[derive(Debug)]
@@ -23,7 +24,7 @@ pub struct Room {
     /// How many messages were published before those that the channel counts: a short journal's counts begin at 0.
     before: u64,
     /// The number of the last message that was said.
-    last: Mutex<u64>,
+    last: Lock<u64>,
     /// The number of the last message that was published. Only the publisher changes it.
     published: AtomicU64,
 }
@@ -40,7 +41,7 @@ impl Room {
             channel: objects.channel,
             slot: objects.slot,
             before: published.checked_sub(counted)?,
-            last: Mutex::new(last.max(published)),
+            last: Lock::new(last.max(published)),
             published: AtomicU64::new(published),
         })
     }
@@ -51,8 +52,8 @@ impl Room {
     }
 
     /// Who has this lock gives the next message its number.
-    pub fn numbering(&self) -> MutexGuard<'_, u64> {
-        self.last.lock().unwrap_or_else(PoisonError::into_inner)
+    pub fn numbering(&self) -> Guard<'_, u64> {
+        self.last.lock()
     }
 
     pub fn published(&self) -> u64 {
@@ -128,7 +129,7 @@ pub struct Directory<'a> {
     keeper: &'a Keeper<'a>,
     most_rooms: u64,
     most_members: u64,
-    books: Mutex<Books>,
+    books: Lock<Books>,
 }
 
 impl<'a> Directory<'a> {
@@ -139,7 +140,7 @@ impl<'a> Directory<'a> {
             keeper,
             most_rooms: rooms,
             most_members: members,
-            books: Mutex::new(books),
+            books: Lock::new(books),
         }
     }
 
@@ -302,8 +303,8 @@ impl<'a> Directory<'a> {
         }
     }
 
-    fn lock(&self) -> MutexGuard<'_, Books> {
-        self.books.lock().unwrap_or_else(PoisonError::into_inner)
+    fn lock(&self) -> Guard<'_, Books> {
+        self.books.lock()
     }
 }
 

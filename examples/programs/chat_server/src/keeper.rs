@@ -1,34 +1,40 @@
-//! Keeps the journal: takes it piece by piece, and appends each piece to the file. If the file is long, makes a short one.
+//! Keeps the journal: takes it piece by piece, and has each piece stored. If the store is long, makes a short journal.
 
 use crate::failure::Failure;
-use crate::history::{said, History};
-use crate::journal_file::JournalFile;
-use crate::messages::Said;
+use crate::queue::Queue;
+use crate::store::{tell_goes_on, Store};
+use seryugo::explore::{Condition, Guard, Lock};
 use seryugo::{Error, Journal, Switchboard};
 use std::collections::VecDeque;
-use std::fmt::Display;
 use std::future::{poll_fn, Future};
-use std::io::{self, Write};
 use std::pin::pin;
 use std::sync::atomic::{AtomicBool, AtomicU64, Ordering};
-use std::sync::mpsc::Sender;
-use std::sync::{Condvar, Mutex, MutexGuard, PoisonError, RwLock, RwLockReadGuard};
+use std::sync::{PoisonError, RwLock, RwLockReadGuard};
 use std::time::Duration;
 
 /// The journal is taken once it has this many entries, or once it is full.
 const PIECE: u64 = 1_000;
 
-/// It is taken once a client waits for an entry to be kept, and so much time has passed, in which others may come.
-const GATHER: Duration = Duration::from_millis(5);
-
-/// It is taken so often at the least, if there is anything in it.
-const LONGEST: Duration = Duration::from_secs(1);
-
-/// How many pieces may wait to be written. Then the threads wait that fill the journal.
+/// How many pieces may wait to be stored. Then the threads wait that fill the journal.
 const WAITING: usize = 4;
 
-/// Messages that have come into the file, each with its queue's number.
-pub type Messages = Vec<(u64, Said)>;
+/// When the journal is taken before it has a piece.
+#[derive(Clone, Copy)]
+pub struct Pace {
+    /// A client waits for an entry to be kept, and so much time has passed, in which others may come.
+    pub gather: Duration,
+    /// So often at the least, if there is anything in it.
+    pub longest: Duration,
+}
+
+impl Default for Pace {
+    fn default() -> Pace {
+        Pace {
+            gather: Duration::from_millis(5),
+            longest: Duration::from_secs(1),
+        }
+    }
+}
 
 pub struct Keeper<'a> {
     board: &'a Switchboard,
@@ -37,22 +43,23 @@ pub struct Keeper<'a> {
     calls: AtomicU64,
     /// Each call is made with a share of it. Who has all of it sees a journal to which nothing is added.
     gate: RwLock<()>,
-    /// A file has at least this many bytes before it is made short.
+    pace: Pace,
+    /// A store has at least this many bytes before it is made short.
     compact_from: u64,
     /// Whether a short journal is to be made.
     is_long: AtomicBool,
-    state: Mutex<State>,
-    /// There is something to write.
-    work: Condvar,
+    state: Lock<State>,
+    /// There is something to store.
+    work: Condition,
     /// There is room for another piece, or more is kept.
-    progress: Condvar,
+    progress: Condition,
 }
 
-/// What is to be written.
+/// What is to be stored.
 enum Piece {
-    /// It follows what was written before.
+    /// It follows what was stored before.
     Next(Journal),
-    /// It stands for all that was written before.
+    /// It stands for all that was stored before.
     Short(Journal),
 }
 
@@ -65,23 +72,24 @@ struct State {
 }
 
 impl<'a> Keeper<'a> {
-    /// Keeps a journal with this limit, all of which is in the file as yet.
-    pub fn new(board: &'a Switchboard, limit: u64, compact_from: u64) -> Keeper<'a> {
+    /// Keeps a journal with this limit, all of which is in the store as yet.
+    pub fn new(board: &'a Switchboard, limit: u64, compact_from: u64, pace: Pace) -> Keeper<'a> {
         Keeper {
             board,
             piece: PIECE.min(limit),
             calls: AtomicU64::new(0),
             gate: RwLock::new(()),
+            pace,
             compact_from,
             is_long: AtomicBool::new(false),
-            state: Mutex::new(State {
+            state: Lock::new(State {
                 pieces: VecDeque::new(),
                 is_wanted: false,
                 is_ending: false,
                 kept: board.entries(),
             }),
-            work: Condvar::new(),
-            progress: Condvar::new(),
+            work: Condition::new(),
+            progress: Condition::new(),
         }
     }
 
@@ -123,9 +131,7 @@ impl<'a> Keeper<'a> {
 
     /// Takes the journal if it has a piece: else another thread has just taken it.
     pub fn make_room(&self) -> Result<(), Error> {
-        let state = self.lock();
-        let mut state =
-            self.progress.wait_while(state, |state| state.pieces.len() >= WAITING).unwrap_or_else(PoisonError::into_inner);
+        let mut state = self.progress.wait_while(self.lock(), |state| state.pieces.len() >= WAITING);
         if self.board.entries() - self.board.cut_at() >= self.piece {
             self.take(&mut state)?;
             self.work.notify_one();
@@ -137,8 +143,7 @@ impl<'a> Keeper<'a> {
     pub fn keep_all(&self) {
         let wanted = self.board.entries();
         self.want();
-        let state = self.progress.wait_while(self.lock(), |state| state.kept < wanted);
-        drop(state.unwrap_or_else(PoisonError::into_inner));
+        drop(self.progress.wait_while(self.lock(), |state| state.kept < wanted));
     }
 
     /// Has the journal taken soon: a client waits for what the last call did.
@@ -156,13 +161,13 @@ impl<'a> Keeper<'a> {
         self.work.notify_one();
     }
 
-    /// Whether the file is long, and the publisher is to [make a short journal](Keeper::shorten).
+    /// Whether the store is long, and the publisher is to [make a short journal](Keeper::shorten).
     pub fn is_long(&self) -> bool {
         self.is_long.load(Ordering::Relaxed)
     }
 
-    /// Makes a short journal, which the keeper puts in the file's place. Other threads make no call meanwhile. All that was called
-    /// before is in pieces too, so that the file can go on without the short journal.
+    /// Makes a short journal, which the keeper puts in the store's place. Other threads make no call meanwhile. All that was called
+    /// before is in pieces too, so that the store can go on without the short journal.
     pub fn shorten(&self) -> Result<(), Error> {
         self.is_long.store(false, Ordering::Relaxed);
         let mut state = self.lock();
@@ -179,8 +184,8 @@ impl<'a> Keeper<'a> {
         Ok(())
     }
 
-    /// Writes the pieces as they come, until the end. Hands over to the publisher the messages that are kept.
-    pub fn run(&self, mut file: JournalFile, history: &History, publisher: &Sender<Messages>) -> Result<(), Failure> {
+    /// Has the pieces stored as they come, until the end. Hands over to the publisher the messages that are kept.
+    pub fn run(&self, store: &mut impl Store, publisher: &Queue) -> Result<(), Failure> {
         loop {
             let (pieces, is_last) = self.next_pieces()?;
             let mut next = Vec::new();
@@ -188,46 +193,45 @@ impl<'a> Keeper<'a> {
                 match piece {
                     Piece::Next(journal) => next.push(journal),
                     Piece::Short(short) => {
-                        self.write(&mut file, history, publisher, &std::mem::take(&mut next))?;
-                        replace(&mut file, history, &short)?;
+                        self.append(store, publisher, &std::mem::take(&mut next))?;
+                        store.replace(&short)?;
                     }
                 }
             }
-            self.write(&mut file, history, publisher, &next)?;
+            self.append(store, publisher, &next)?;
             if is_last {
+                publisher.end();
                 return Ok(());
             }
         }
     }
 
-    /// Appends pieces to the file, and says so.
-    fn write(
-        &self,
-        file: &mut JournalFile,
-        history: &History,
-        publisher: &Sender<Messages>,
-        pieces: &[Journal],
-    ) -> Result<(), Failure> {
+    /// Has pieces stored, and says so.
+    fn append(&self, store: &mut impl Store, publisher: &Queue, pieces: &[Journal]) -> Result<(), Failure> {
         if pieces.is_empty() {
             return Ok(());
         }
-        let messages = append(file, history, pieces)?;
+        let messages = store.append(pieces)?;
         self.lock().kept += pieces.iter().map(|piece| piece.len() as u64).sum::<u64>();
         self.progress.notify_all();
-        if file.wants_look(self.compact_from) {
+        if store.wants_look(self.compact_from) {
             self.is_long.store(true, Ordering::Relaxed);
         }
-        // Behind the end there is no publisher. The next server publishes what this one hasn't.
-        let _ = publisher.send(messages);
+        publisher.push(messages);
         Ok(())
     }
 
     /// Waits for pieces. Returns them with what else the journal has, and whether they are the last ones.
     fn next_pieces(&self) -> Result<(VecDeque<Piece>, bool), Error> {
         let is_idle = |state: &mut State| state.pieces.is_empty() && !state.is_ending;
-        let state = self.wait_while(self.lock(), LONGEST, |state| is_idle(state) && !state.is_wanted);
-        let gather = if state.is_wanted { GATHER } else { Duration::ZERO };
-        let mut state = self.wait_while(state, gather, is_idle);
+        let is_unwanted = |state: &mut State| is_idle(state) && !state.is_wanted;
+        let (state, _) = self.work.wait_timeout_while(self.lock(), self.pace.longest, is_unwanted);
+        let gather = if state.is_wanted {
+            self.pace.gather
+        } else {
+            Duration::ZERO
+        };
+        let (mut state, _) = self.work.wait_timeout_while(state, gather, is_idle);
         state.is_wanted = false;
         if self.board.entries() > self.board.cut_at() {
             self.take(&mut state)?;
@@ -235,17 +239,6 @@ impl<'a> Keeper<'a> {
         let pieces = std::mem::take(&mut state.pieces);
         self.progress.notify_all();
         Ok((pieces, state.is_ending))
-    }
-
-    /// Waits for work while this holds, and no longer than this.
-    fn wait_while<'s>(
-        &self,
-        state: MutexGuard<'s, State>,
-        longest: Duration,
-        holds: impl FnMut(&mut State) -> bool,
-    ) -> MutexGuard<'s, State> {
-        let waited = self.work.wait_timeout_while(state, longest, holds);
-        waited.unwrap_or_else(PoisonError::into_inner).0
     }
 
     /// Takes the journal, with the state locked, so that pieces are in their order.
@@ -260,43 +253,7 @@ impl<'a> Keeper<'a> {
         self.gate.read().unwrap_or_else(PoisonError::into_inner)
     }
 
-    fn lock(&self) -> MutexGuard<'_, State> {
-        self.state.lock().unwrap_or_else(PoisonError::into_inner)
+    fn lock(&self) -> Guard<'_, State> {
+        self.state.lock()
     }
-}
-
-/// Appends pieces to the file. Once the disk has them, history has their messages.
-fn append(file: &mut JournalFile, history: &History, pieces: &[Journal]) -> Result<Messages, Failure> {
-    let mut text = Vec::new();
-    pieces.iter().try_for_each(|piece| file.add_text(&mut text, piece))?;
-    let place = file.append(&text)?;
-    file.sync()?;
-    let mut messages = Messages::new();
-    let noted = history.note(place, &text[..], |queue, word| {
-        messages.push((queue, said(word)?));
-        Ok(())
-    });
-    noted.map_err(|error| file.failure(error))?;
-    Ok(messages)
-}
-
-/// Puts a short journal in the file's place, if it is short enough. If it can't be written, the file goes on as it is.
-fn replace(file: &mut JournalFile, history: &History, short: &Journal) -> Result<(), Failure> {
-    let entries = short.len() as u64;
-    if !file.is_worth(entries) {
-        return Ok(());
-    }
-    let mut text = Vec::new();
-    let replaced = short.write_sealed_to(None, &mut text).and_then(|sum| file.replace(&text, entries, sum));
-    if let Err(error) = replaced {
-        tell_goes_on(&error);
-        return Ok(());
-    }
-    file.sync_name()?;
-    history.go_over(file.reader()?, &text).map_err(|error| file.failure(error))
-}
-
-/// Says on standard error why there is no short file. If that can't be written, the server goes on all the same.
-fn tell_goes_on(why: &dyn Display) {
-    let _ = writeln!(io::stderr(), "chat_server: the journal can't be made short, and goes on in its file: {why}");
 }

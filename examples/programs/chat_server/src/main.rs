@@ -8,21 +8,26 @@ mod arguments;
 mod connection;
 mod damage;
 mod directory;
+#[cfg(test)]
+mod explored;
 mod failure;
 mod history;
 mod journal_file;
 mod journal_text;
 mod keeper;
+mod keeping;
 mod lines;
 mod messages;
 mod outbox;
 mod progress;
 mod protocol;
 mod publisher;
+mod queue;
 mod recovery;
 mod seats;
 mod server;
 mod session;
+mod store;
 mod wait;
 mod writer;
 
@@ -32,19 +37,18 @@ use directory::Directory;
 use failure::Failure;
 use history::History;
 use journal_file::{JournalFile, Opened};
-use keeper::{Keeper, Messages};
-use recovery::{Found, Mending};
+use keeper::{Keeper, Pace};
+use recovery::Found;
 use seats::Seats;
 use server::Server;
-use seryugo::Port;
 use std::ffi::OsString;
 use std::io::{self, Write};
 use std::net::{TcpListener, TcpStream};
 use std::process::ExitCode;
 use std::sync::atomic::{AtomicBool, Ordering};
-use std::sync::mpsc::{channel, Receiver, Sender};
 use std::time::Duration;
 use std::{env, thread};
+use store::Disk;
 
 fn main() -> ExitCode {
     match run() {
@@ -90,7 +94,7 @@ fn serve(arguments: &Arguments) -> Result<(), Failure> {
     // The port is bound before the file is changed.
     let listener = TcpListener::bind(arguments.listen).map_err(Failure::Listen)?;
     let file = opened.go_on()?;
-    let keeper = Keeper::new(&board, arguments.limits.entries, arguments.limits.compact_from);
+    let keeper = Keeper::new(&board, arguments.limits.entries, arguments.limits.compact_from, Pace::default());
     let directory = Directory::new(&board, &keeper, books, arguments.limits.rooms, arguments.limits.members);
     let server = Server {
         board: &board,
@@ -102,29 +106,23 @@ fn serve(arguments: &Arguments) -> Result<(), Failure> {
         limits: arguments.limits,
         is_ending: AtomicBool::new(false),
     };
-    run_threads(&server, file, &listener, &strays)
+    let disk = Disk {
+        file,
+        history: &history,
+    };
+    keeping::run(&server, disk, &strays, |failure| failure.end(), || serve_clients(&server, &listener))
 }
 
 fn note_all(history: &History, opened: &Opened) -> io::Result<()> {
     history.note(0, opened.text()?, |_, _| Ok(()))
 }
 
-/// Starts the threads, and waits until the server is to end. If the file can't be written, or a call of the library fails that
-/// can't fail, the process ends at once: all that was acknowledged is on the disk.
-fn run_threads(
-    server: &Server<'_>,
-    file: JournalFile,
-    listener: &TcpListener,
-    strays: &[Port<messages::Said>],
-) -> Result<(), Failure> {
-    let (publisher, kept) = channel();
+/// Serves clients until the server is to end.
+fn serve_clients(server: &Server<'_>, listener: &TcpListener) -> Result<(), Failure> {
+    let address = listener.local_addr().map_err(Failure::Listen)?;
+    let rooms = server.directory.rooms();
     thread::scope(|scope| {
-        let keeping = scope.spawn(move || keep(server, file, &publisher));
-        mend(server, strays).unwrap_or_else(|failure| failure.end());
-        let publishing = scope.spawn(move || publish(server, &kept));
         scope.spawn(|| thread::scope(|clients| server.accept(listener, clients)));
-        let address = listener.local_addr().map_err(Failure::Listen)?;
-        let rooms = server.directory.rooms();
         print(&format!("listening on {address} after {} entries with {rooms} rooms\n", server.board.entries()));
         wait_for_shutdown();
         server.is_ending.store(true, Ordering::Release);
@@ -134,31 +132,8 @@ fn run_threads(
         while server.connections.are_open() {
             thread::sleep(Duration::from_millis(10));
         }
-        server.keeper.end();
-        let _ = (keeping.join(), publishing.join());
         Ok(())
     })
-}
-
-fn keep(server: &Server<'_>, file: JournalFile, publisher: &Sender<Messages>) {
-    server.keeper.run(file, server.history, publisher).unwrap_or_else(|failure| failure.end());
-}
-
-fn publish(server: &Server<'_>, kept: &Receiver<Messages>) {
-    publisher::run(server, kept).unwrap_or_else(|error| Failure::Library(error).end());
-}
-
-fn mend(server: &Server<'_>, strays: &[Port<messages::Said>]) -> Result<(), Failure> {
-    let mending = Mending {
-        board: server.board,
-        keeper: server.keeper,
-        directory: server.directory,
-        history: server.history,
-    };
-    let mut seat = server.board.seat()?;
-    mending.run(&mut seat, strays)?;
-    server.keeper.keep_all();
-    Ok(())
 }
 
 /// Waits for the line `/shutdown` on standard input. Behind the end of standard input none comes, and the server runs on.

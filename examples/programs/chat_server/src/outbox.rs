@@ -1,11 +1,11 @@
 //! What is due to one client: lines that other threads push, and then the messages of its room.
 
 use crate::messages::Said;
+use seryugo::explore::{Condition, Guard, Lock};
 use seryugo::Port;
 use std::fmt::Display;
 use std::io::Write;
 use std::sync::atomic::{AtomicBool, Ordering};
-use std::sync::{Condvar, Mutex, MutexGuard, PoisonError};
 use std::thread::Thread;
 use std::time::{Duration, Instant};
 
@@ -54,11 +54,13 @@ struct State {
 
 #[derive(Default)]
 pub struct Outbox {
-    state: Mutex<State>,
+    state: Lock<State>,
     /// There is more room, more was returned, or the connection has ended.
-    progress: Condvar,
+    progress: Condition,
     /// Whether the writer has to look here before it takes another message.
     is_changed: AtomicBool,
+    /// It has.
+    changes: Condition,
 }
 
 impl Outbox {
@@ -70,6 +72,11 @@ impl Outbox {
     /// Whether there was a change since the last [`take`](Outbox::take).
     pub fn is_changed(&self) -> bool {
         self.is_changed.load(Ordering::Acquire)
+    }
+
+    /// Blocks until there is a change.
+    pub fn await_change(&self) {
+        drop(self.changes.wait_while(self.lock(), |_| !self.is_changed()));
     }
 
     /// Takes what is due.
@@ -150,9 +157,8 @@ impl Outbox {
     }
 
     /// Waits while this holds and the connection goes on.
-    fn wait_while(&self, holds: impl Fn(&State) -> bool) -> Result<MutexGuard<'_, State>, Ended> {
-        let waited = self.progress.wait_while(self.lock(), |state| state.ended.is_none() && holds(state));
-        let state = waited.unwrap_or_else(PoisonError::into_inner);
+    fn wait_while(&self, holds: impl Fn(&State) -> bool) -> Result<Guard<'_, State>, Ended> {
+        let state = self.progress.wait_while(self.lock(), |state| state.ended.is_none() && holds(state));
         match state.ended {
             None => Ok(state),
             Some(_) => Err(Ended),
@@ -161,13 +167,14 @@ impl Outbox {
 
     fn change(&self, state: &mut State) {
         self.is_changed.store(true, Ordering::Release);
+        self.changes.notify_one();
         if let Some(writer) = &state.writer {
             writer.unpark();
         }
     }
 
-    fn lock(&self) -> MutexGuard<'_, State> {
-        self.state.lock().unwrap_or_else(PoisonError::into_inner)
+    fn lock(&self) -> Guard<'_, State> {
+        self.state.lock()
     }
 }
 

@@ -1,26 +1,29 @@
 //! Publishes what is kept: multicasts it on the channels of the rooms. Makes a short journal between two messages.
 
 use crate::directory::Room;
-use crate::keeper::Messages;
 use crate::messages::Said;
+use crate::queue::Queue;
 use crate::server::Server;
+use crate::store::Messages;
 use seryugo::{Error, Seat};
 use std::collections::hash_map::Entry;
 use std::collections::HashMap;
 use std::sync::atomic::Ordering;
-use std::sync::mpsc::Receiver;
 
 /// After this many messages, as a part of the limit, the members of a room are counted that are too far behind.
 const PART: u64 = 10;
 
 /// Publishes, until the keeper has ended.
-pub fn run(server: &Server<'_>, kept: &Receiver<Messages>) -> Result<(), Error> {
+pub fn run(server: &Server<'_>, kept: &Queue) -> Result<(), Error> {
     let mut publisher = Publisher {
         server,
         seat: server.board.seat()?,
         tallies: HashMap::new(),
     };
-    kept.iter().try_for_each(|messages| publisher.publish_all(&messages))
+    while let Some(messages) = kept.next() {
+        publisher.publish_all(&messages)?;
+    }
+    Ok(())
 }
 
 struct Publisher<'s, 'a> {

@@ -63,13 +63,7 @@ impl From<NoPlace> for Trouble {
 
 /// Reads what a client says, until the connection ends.
 pub fn run<'s, 'a>(server: &'s Server<'a>, connection: &'s Arc<Connection>, seat: Lent<'s, 'a>) {
-    let mut session = Session {
-        server,
-        connection,
-        seat,
-        name: None,
-        place: None,
-    };
+    let mut session = Session::new(server, connection, seat);
     let mut lines = Lines::new(&connection.socket);
     while !connection.outbox.has_ended() {
         match lines.next() {
@@ -82,7 +76,8 @@ pub fn run<'s, 'a>(server: &'s Server<'a>, connection: &'s Arc<Connection>, seat
     }
 }
 
-struct Session<'s, 'a> {
+/// What one client has said.
+pub struct Session<'s, 'a> {
     server: &'s Server<'a>,
     connection: &'s Arc<Connection>,
     seat: Lent<'s, 'a>,
@@ -90,8 +85,19 @@ struct Session<'s, 'a> {
     place: Option<Place>,
 }
 
-impl Session<'_, '_> {
-    fn answer(&mut self, request: Result<Request<'_>, Refusal>) {
+impl<'s, 'a> Session<'s, 'a> {
+    pub fn new(server: &'s Server<'a>, connection: &'s Arc<Connection>, seat: Lent<'s, 'a>) -> Session<'s, 'a> {
+        Session {
+            server,
+            connection,
+            seat,
+            name: None,
+            place: None,
+        }
+    }
+
+    /// Does what a line asks for.
+    pub fn answer(&mut self, request: Result<Request<'_>, Refusal>) {
         let outbox = &self.connection.outbox;
         let answered = request.map_err(Trouble::Refused).and_then(|request| self.perform(request));
         match answered {

@@ -8,7 +8,7 @@ use crate::server::Server;
 use crate::wait::Waiter;
 use seryugo::{Error, Seat};
 use std::io::{self, ErrorKind, Write};
-use std::net::{Shutdown, TcpStream};
+use std::net::Shutdown;
 use std::thread;
 
 /// Why the writer ends before its last line.
@@ -26,10 +26,17 @@ impl From<Error> for Trouble {
 
 /// Writes until the connection ends, and then ends the sending side of the socket.
 pub fn run(server: &Server<'_>, connection: &Connection, seat: &mut Seat<'_>) {
+    write_to(&connection.socket, server, connection, seat);
+    let _ = connection.socket.shutdown(Shutdown::Write);
+}
+
+/// Writes to this until the connection ends.
+pub fn write_to(output: impl Write, server: &Server<'_>, connection: &Connection, seat: &mut Seat<'_>) {
     connection.outbox.set_writer(thread::current());
     let mut writer = Writer {
         server,
         connection,
+        output,
         waiter: Waiter::new(),
         line: Vec::new(),
     };
@@ -39,17 +46,17 @@ pub fn run(server: &Server<'_>, connection: &Connection, seat: &mut Seat<'_>) {
         let _ = writer.write(&connection.outbox.take().text);
     }
     connection.outbox.cut();
-    let _ = connection.socket.shutdown(Shutdown::Write);
 }
 
-struct Writer<'s, 'a> {
+struct Writer<'s, 'a, W> {
     server: &'s Server<'a>,
     connection: &'s Connection,
+    output: W,
     waiter: Waiter,
     line: Vec<u8>,
 }
 
-impl Writer<'_, '_> {
+impl<W: Write> Writer<'_, '_, W> {
     fn run(&mut self, seat: &mut Seat<'_>) -> Result<(), Trouble> {
         loop {
             let due = self.connection.outbox.take();
@@ -59,15 +66,8 @@ impl Writer<'_, '_> {
             }
             match due.stream {
                 Some(stream) => self.follow(seat, stream)?,
-                None => self.rest(),
+                None => self.connection.outbox.await_change(),
             }
-        }
-    }
-
-    /// Waits for a change of the outbox.
-    fn rest(&self) {
-        while !self.connection.outbox.is_changed() {
-            thread::park();
         }
     }
 
@@ -79,7 +79,7 @@ impl Writer<'_, '_> {
                 Some(Some(said)) => self.hand_over(&said, stream, own.as_ref())?,
                 // The port is closed, and what comes next is in the outbox.
                 Some(None) => {
-                    self.rest();
+                    self.connection.outbox.await_change();
                     return Ok(());
                 }
                 None => return Ok(()),
@@ -120,11 +120,10 @@ impl Writer<'_, '_> {
         Ok(())
     }
 
-    /// Writes all of a text. The socket has a time limit, after which the writer looks whether the connection has ended.
-    fn write(&self, mut text: &[u8]) -> Result<(), Trouble> {
-        let mut socket: &TcpStream = &self.connection.socket;
+    /// Writes all of a text. A socket has a time limit, after which the writer looks whether the connection has ended.
+    fn write(&mut self, mut text: &[u8]) -> Result<(), Trouble> {
         while !text.is_empty() {
-            match socket.write(text) {
+            match self.output.write(text) {
                 Ok(0) => return Err(Trouble::Write),
                 Ok(count) => text = &text[count..],
                 Err(error) if error.kind() == ErrorKind::Interrupted => {}
