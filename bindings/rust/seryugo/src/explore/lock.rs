@@ -169,7 +169,7 @@ impl Condition {
     }
 
     /// As [`wait_while`](Condition::wait_while), but no longer than this. Also returns whether the
-    /// time has passed and it still holds.
+    /// time has passed and it still holds. That of [`Duration::MAX`] never passes.
     pub fn wait_timeout_while<'l, T>(
         &self,
         guard: Guard<'l, T>,
@@ -186,7 +186,7 @@ impl Condition {
             let is_late = holds(&mut guard);
             return (guard, is_late);
         }
-        self.wait_explored(guard, true, holds)
+        self.wait_explored(guard, longest < Duration::MAX, holds)
     }
 
     /// The same in an exploration.
