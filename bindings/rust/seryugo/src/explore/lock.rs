@@ -101,9 +101,7 @@ impl Made {
     #[inline]
     fn pass(self, kind: Kind, is_timed: bool) -> Option<(Arc<Play>, Pass)> {
         play::own().map(|(play, _)| {
-            if kind.locks() {
-                play.lock().locks.note(self.number, self.at);
-            }
+            play.lock().locks.note(self.number, self.at);
             let pass = play.pass_beside(kind.on(self.number), is_timed);
             (play, pass)
         })

@@ -38,13 +38,12 @@ fn two_locks_in_both_orders_are_named() {
         panic!("{found}")
     };
     let at: Vec<&str> = waits.iter().filter_map(|waits| waits.call.as_deref()).collect();
-    let made = line!() - 25;
     let [first, second] = at[..] else {
         panic!("{at:?}")
     };
     for (at, lock, holder) in [(first, 2, 2), (second, 1, 1)] {
-        let place = format!("{}:{made}", file!());
-        assert_eq!(at, format!("lock {lock} of {place}, which thread {holder} has"));
+        assert!(at.starts_with(&format!("lock {lock} of {}:", file!())), "{at}");
+        assert!(at.ends_with(&format!(", which thread {holder} has")), "{at}");
     }
     assert!(!is_told, "{found}");
     assert_eq!(bad.schedule(), "112");
@@ -138,7 +137,7 @@ fn meets(is_careless: bool) {
 #[test]
 fn a_notification_comes_before_the_wait() {
     let found = found(|_| meets(true));
-    assert!(found.to_string().contains("a condition, to have again lock 1 of"), "{found}");
+    assert!(found.to_string().contains("thread 1 at condition 2 of"), "{found}");
 }
 
 #[test]

@@ -26,7 +26,7 @@ impl State {
                 call: None,
             });
             let at = move |call: &Call| Waits {
-                call: Some(self.locks.told(call.step)),
+                call: Some(self.locks.told(number, call.step)),
                 ..waits(number, call.seat, call.step)
             };
             task.calls().map(at).chain(joins)

@@ -14,20 +14,19 @@ pub(crate) struct Locks {
     waiting: Vec<(u64, usize)>,
     /// Each wakes one of its threads.
     notified: Vec<Vec<usize>>,
-    /// Where each lock was made.
+    /// Where each lock and condition was made.
     places: HashMap<u64, &'static Location<'static>>,
 }
 
 impl Locks {
-    /// Notes where a lock was made.
-    pub fn note(&mut self, lock: u64, place: &'static Location<'static>) {
-        self.places.insert(lock, place);
+    /// Notes where a lock or a condition was made.
+    pub fn note(&mut self, number: u64, place: &'static Location<'static>) {
+        self.places.insert(number, place);
     }
 
     /// What such a step of a thread finds.
     pub fn look(&self, task: usize, step: Step) -> Look {
-        let is_notified = || self.notified.iter().any(|woken| woken.contains(&task));
-        let is_woken = step.kind != Kind::Relock || is_notified();
+        let is_woken = step.kind != Kind::Relock || self.is_notified(task);
         Look {
             is_answered: self.is_free(step) && is_woken,
             is_full: false,
@@ -89,15 +88,29 @@ impl Locks {
         had
     }
 
-    /// A step, with where its lock was made and who has it.
-    pub fn told(&self, step: Step) -> String {
-        let mut text = step.to_string();
-        if step.kind.locks() {
-            let place = self.places.get(&step.object);
-            text.extend(place.map(|place| format!(" of {}:{}", place.file(), place.line())));
-            let holder = self.holders.get(&step.object);
-            text.extend(holder.map(|holder| format!(", which thread {holder} has")));
+    /// What a thread waits at: a lock with who has it, or a condition, with where it was made.
+    pub fn told(&self, task: usize, step: Step) -> String {
+        if !step.kind.locks() {
+            return step.to_string();
         }
-        text
+        let awaited = self.awaited_by(task);
+        let has_condition = step.kind == Kind::Lock || self.is_notified(task);
+        let (on, holder) = match has_condition {
+            true => (Kind::Lock.on(step.object), self.holders.get(&step.object)),
+            false => (Kind::Await.on(awaited), None),
+        };
+        let place = self.places.get(&on.object);
+        let place = place.map(|place| format!(" of {}:{}", place.file(), place.line()));
+        let holder = holder.map(|holder| format!(", which thread {holder} has"));
+        [
+            on.to_string(),
+            place.unwrap_or_default(),
+            holder.unwrap_or_default(),
+        ]
+        .concat()
+    }
+
+    fn is_notified(&self, task: usize) -> bool {
+        self.notified.iter().any(|woken| woken.contains(&task))
     }
 }
