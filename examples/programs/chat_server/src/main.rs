@@ -1,8 +1,8 @@
 //! A chat server that keeps its journal: kill it whenever you like, and the next one goes on.
 //!
 //! `docs/CHAT_SERVER.md` says how to use it. A line takes this way: `session` sends it to its room's queue, a mailbox. `keeper`
-//! takes the journal and writes it to the file. Once the disk has it, `publisher` moves the line to the room's channel. Each
-//! member has a port of the channel, from which `writer` receives the line and writes it to the client.
+//! takes the journal, and `store` writes it to the file. Once the disk has it, `publisher` moves the line to the room's channel.
+//! Each member has a port of the channel, from which `writer` receives the line and writes it to the client.
 
 mod arguments;
 mod connection;
