@@ -51,7 +51,8 @@ pub struct Waits {
     pub thread: usize,
     /// The seat from which it calls.
     pub seat: Option<u64>,
-    /// The call with its object, in the journal's words, or with its lane or feed. `None`: it joins
+    /// The call with its object, in the journal's words, or with its lane or feed. For a
+    /// [`Lock`](super::Lock) also where it was made, and which thread has it. `None`: it joins
     /// threads.
     pub call: Option<String>,
 }

@@ -253,8 +253,8 @@ impl Play {
         let _ = writeln!(
             io::stderr(),
             "explore: for {:?} there was no call after that of {}. It computes, or waits for what \
-             the exploration doesn't know: a lock that another thread has over a call, another \
-             channel, a thread that it joins.",
+             the exploration doesn't know: a lock of std that another thread has over a call, \
+             another channel, a thread that it joins.",
             self.patience,
             state.running()
         );

@@ -324,7 +324,7 @@ impl State {
         let is_on_one = !kind.opens_or_ends() && as_if.kind != Kind::LookAtAll;
         self.changed = is_on_one.then_some(as_if);
         self.take_turn(chosen);
-        self.locks.made(chosen.task, chosen.step);
+        self.locks.made(chosen.task, chosen.step, chosen.by == By::TimeOut);
         let task = &mut self.tasks[chosen.task];
         self.last.push_back((chosen.task, task.call.seat, task.call.step));
         task.entries = entries.0;

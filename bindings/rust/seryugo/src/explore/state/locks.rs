@@ -44,13 +44,13 @@ impl Locks {
         self.waiting.iter().find(|(_, waits)| *waits == task).map_or(NONE, |waits| waits.0)
     }
 
-    /// A thread makes such a step.
-    pub fn made(&mut self, task: usize, step: Step) {
+    /// A thread makes such a step, or its time has passed.
+    pub fn made(&mut self, task: usize, step: Step, is_late: bool) {
         match step.kind {
             Kind::Lock => drop(self.holders.insert(step.object, task)),
             Kind::Relock => {
                 self.holders.insert(step.object, task);
-                self.wake(task);
+                self.wake(task, is_late);
             }
             Kind::Await => self.waiting.push((step.object, task)),
             Kind::NotifyOne => self.notified.push(self.of_condition(step.object).collect()),
@@ -67,9 +67,11 @@ impl Locks {
         waits.map(|waits| waits.1)
     }
 
-    /// The thread waits no more. It uses up one notification, and no other one wakes it.
-    fn wake(&mut self, task: usize) {
-        if let Some(used) = self.notified.iter().position(|woken| woken.contains(&task)) {
+    /// The thread waits no more. It uses up one notification, unless it is late, and no other one
+    /// wakes it.
+    fn wake(&mut self, task: usize, is_late: bool) {
+        let mut notified = self.notified.iter();
+        if let Some(used) = notified.position(|woken| !is_late && woken.contains(&task)) {
             self.notified.remove(used);
         }
         self.waiting.retain(|(_, waits)| *waits != task);
