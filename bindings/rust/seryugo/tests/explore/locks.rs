@@ -7,6 +7,8 @@ use seryugo::explore::{explore, scope, Condition, End, Lock, Way};
 use std::thread;
 use std::time::Duration;
 
+const LONG: Duration = Duration::from_secs(3_600);
+
 /// Each thread makes a call while it has the one lock, and then takes the other one.
 fn two_locks(board: &Board, is_ordered: bool) {
     let (left, right) = (Lock::new(0), Lock::new(0));
@@ -185,10 +187,8 @@ fn a_wait_ends_by_its_time() {
     let program = |is_notified: bool| {
         let (has_come, comes) = (Lock::new(false), Condition::new());
         scope(|threads| {
-            let waits = threads.spawn(|| {
-                let long = Duration::from_secs(3_600);
-                comes.wait_timeout_while(has_come.lock(), long, |has_come| !*has_come).1
-            });
+            let waits = threads
+                .spawn(|| comes.wait_timeout_while(has_come.lock(), LONG, |has_come| !*has_come).1);
             if is_notified {
                 *has_come.lock() = true;
                 comes.notify_one();
@@ -202,6 +202,24 @@ fn a_wait_ends_by_its_time() {
     }
     let found = explore(Way::every().time_outs(1), 1_000, |_: &Board| program(true));
     assert!(found.to_string().contains("it is late"), "{found}");
+}
+
+/// The time of a wait has passed, and another thread has the lock for ever.
+#[test]
+fn a_wait_that_is_late_has_its_lock_again() {
+    let found = found(|board| {
+        let (lock, never) = (Lock::new(()), Condition::new());
+        let letters = seat(board).mailbox().unwrap();
+        scope(|threads| {
+            threads.spawn(|| drop(never.wait_timeout_while(lock.lock(), LONG, |()| true)));
+            let (mut seat, lock) = (seat(board), &lock);
+            threads.spawn(move || {
+                let _guard = lock.lock();
+                seat.recv(letters).unwrap();
+            });
+        });
+    });
+    assert!(found.to_string().contains("thread 2 (seat 1) at recv 0"), "{found}");
 }
 
 /// A lock that a test has outside of the runs.
@@ -235,8 +253,7 @@ fn threads_of_the_system_wait_for_each_other() {
                 }
             });
         }
-        let long = Duration::from_secs(60);
-        turns.wait_timeout_while(turn.lock(), long, |turn| *turn < 300).1
+        turns.wait_timeout_while(turn.lock(), LONG, |turn| *turn < 300).1
     });
     assert!(!is_late);
     let (_, is_late) = turns.wait_timeout_while(turn.lock(), Duration::ZERO, |_| true);
