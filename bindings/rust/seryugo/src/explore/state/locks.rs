@@ -53,18 +53,17 @@ impl Locks {
                 self.wake(task, is_late);
             }
             Kind::Await => self.waiting.push((step.object, task)),
-            Kind::NotifyOne => self.notified.push(self.of_condition(step.object).collect()),
-            Kind::NotifyAll => {
-                let each: Vec<usize> = self.of_condition(step.object).collect();
-                self.notified.extend(each.into_iter().map(|task| vec![task]));
+            Kind::NotifyOne | Kind::NotifyAll => {
+                let of_condition = self.waiting.iter().filter(|waits| waits.0 == step.object);
+                let woken: Vec<usize> = of_condition.map(|waits| waits.1).collect();
+                match step.kind {
+                    Kind::NotifyOne => self.notified.push(woken),
+                    _ => self.notified.extend(woken.iter().map(|task| vec![*task])),
+                }
+                self.notified.retain(|woken| !woken.is_empty());
             }
             _ => (),
         }
-    }
-
-    fn of_condition(&self, condition: u64) -> impl Iterator<Item = usize> + '_ {
-        let waits = self.waiting.iter().filter(move |waits| waits.0 == condition);
-        waits.map(|waits| waits.1)
     }
 
     /// The thread waits no more. It uses up one notification, unless it is late, and no other one
@@ -96,8 +95,8 @@ impl Locks {
             return step.to_string();
         }
         let awaited = self.awaited_by(task);
-        let has_condition = step.kind == Kind::Lock || self.is_notified(task);
-        let (on, holder) = match has_condition {
+        let is_at_lock = step.kind == Kind::Lock || self.is_notified(task);
+        let (on, holder) = match is_at_lock {
             true => (Kind::Lock.on(step.object), self.holders.get(&step.object)),
             false => (Kind::Await.on(awaited), None),
         };
