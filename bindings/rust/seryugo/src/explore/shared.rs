@@ -37,6 +37,9 @@ pub struct Shared<T> {
 /// Numbers from here on are those of values that a run of an exploration has made.
 const MADE_IN_A_RUN: u64 = 3 << 62;
 
+/// Each thread of a run has so many numbers, so that the order of the threads doesn't matter.
+const OF_A_THREAD: u64 = 1 << 32;
+
 /// Numbers from here on are those of other values. Lesser ones are the program's own.
 const MADE_OUTSIDE: u64 = 1 << 63;
 
@@ -46,17 +49,22 @@ static OTHERS: AtomicU64 = AtomicU64::new(0);
 /// The number of the next value, lock or condition.
 pub(super) fn next_number() -> u64 {
     match play::own() {
-        Some((play, _)) => MADE_IN_A_RUN + play.lock().next_shared(),
+        Some((play, task)) => {
+            MADE_IN_A_RUN + task as u64 * OF_A_THREAD + play.lock().next_shared(task)
+        }
         None => MADE_OUTSIDE + OTHERS.fetch_add(1, Ordering::Relaxed),
     }
 }
 
-/// A number as a reader sees it.
-pub(super) fn shown(number: u64) -> u64 {
-    [MADE_IN_A_RUN, MADE_OUTSIDE]
-        .iter()
-        .find_map(|from| number.checked_sub(*from))
-        .unwrap_or(number)
+/// A number as a reader sees it: with its thread before it, if that isn't the first one.
+pub(super) fn shown(number: u64) -> String {
+    let Some(made) = number.checked_sub(MADE_IN_A_RUN) else {
+        return number.checked_sub(MADE_OUTSIDE).unwrap_or(number).to_string();
+    };
+    match (made / OF_A_THREAD, made % OF_A_THREAD) {
+        (0, own) => own.to_string(),
+        (task, own) => format!("{task}.{own}"),
+    }
 }
 
 impl<T> Shared<T> {

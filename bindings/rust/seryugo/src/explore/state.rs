@@ -58,6 +58,8 @@ pub(crate) struct Task {
     done: Done,
     /// Whether it has made a step since it was started.
     has_stepped: bool,
+    /// How many shared values, locks and conditions it has made.
+    shared: u64,
     /// How many entries the journal had had before that step.
     entries: u64,
 }
@@ -86,8 +88,6 @@ pub(crate) struct State {
     most_entries: u64,
     /// How many calls have ended by their time though something else could happen.
     time_outs: u32,
-    /// How many shared values the run has made.
-    shared: u64,
     pub locks: Locks,
     /// The choices of the run that had more than one way.
     pub choices: Vec<Choice>,
@@ -143,7 +143,6 @@ impl State {
             steps: 0,
             most_entries: 0,
             time_outs: 0,
-            shared: 0,
             locks: Locks::default(),
             choices: Vec::new(),
             changed: None,
@@ -174,7 +173,7 @@ impl State {
         self.choices.clear();
         self.last.clear();
         (self.current, self.steps, self.scopes, self.most_entries) = (0, 0, 0, 0);
-        (self.time_outs, self.shared, self.locks) = (0, 0, Locks::default());
+        (self.time_outs, self.locks) = (0, Locks::default());
         (self.end, self.text, self.changed) = (None, String::new(), None);
         self.add(Arc::clone(main), 0);
         self.tasks[0].at = At::Running;
@@ -199,6 +198,7 @@ impl State {
             pass: Pass::Go,
             done: History::child(parent, number),
             has_stepped: false,
+            shared: 0,
             entries: 0,
         });
         if let Some(tree) = self.chooser.tree_mut() {
@@ -215,10 +215,10 @@ impl State {
         }
     }
 
-    /// The number of a shared value that the run makes.
-    pub fn next_shared(&mut self) -> u64 {
-        self.shared += 1;
-        self.shared
+    /// How many values, locks and conditions this thread has made, with one more.
+    pub fn next_shared(&mut self, task: usize) -> u64 {
+        self.tasks[task].shared += 1;
+        self.tasks[task].shared
     }
 
     /// A thread makes a step that only itself sees. `Err`: there were too many steps.

@@ -3,7 +3,7 @@
 use crate::bugs::{found, panics};
 use crate::clean::clean;
 use crate::programs::{seat, Board};
-use seryugo::explore::{explore, scope, Condition, End, Lock, Way};
+use seryugo::explore::{explore, scope, Condition, End, Lock, Shared, Way};
 use std::thread;
 use std::time::Duration;
 
@@ -220,6 +220,26 @@ fn a_wait_that_is_late_has_its_lock_again() {
         });
     });
     assert!(found.to_string().contains("thread 2 (seat 1) at recv 0"), "{found}");
+}
+
+/// Each thread makes a lock of its own, and a value.
+#[test]
+fn threads_make_locks_in_any_order() {
+    let program = |board: &Board| {
+        let letters = seat(board).mailbox().unwrap();
+        scope(|threads| {
+            for _ in 0..2 {
+                let mut seat = seat(board);
+                threads.spawn(move || {
+                    seat.send(letters, 1).unwrap();
+                    let (lock, value) = (Lock::new(()), Shared::new(()));
+                    let _guard = lock.lock();
+                    value.with(|()| ());
+                });
+            }
+        });
+    };
+    clean(program, 7, 5, 20);
 }
 
 /// A lock that a test has outside of the runs.
