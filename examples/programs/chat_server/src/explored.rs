@@ -219,7 +219,7 @@ fn run_clients(server: &Server<'_>, script: &Script, socket: &TcpStream, log: &L
 
 #[test]
 fn each_order_up_to_a_bound_hands_on_all() {
-    let found = explored(Way::every().preemptions(1), 150, TOGETHER);
+    let found = explored(Way::every().preemptions(1), 80, TOGETHER);
     assert!(found.is_clean(), "{found}");
 }
 
@@ -229,7 +229,7 @@ fn random_orders_hand_on_all(script: &Script) {
     let until = Instant::now() + Duration::from_secs(seconds);
     let mut runs = 0;
     for seed in 0.. {
-        let found = explored(Way::random(seed), 60, script);
+        let found = explored(Way::random(seed), 30, script);
         assert!(found.is_clean(), "seed {seed}: {found}");
         runs += found.runs();
         if Instant::now() >= until {
