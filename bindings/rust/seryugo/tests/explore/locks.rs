@@ -89,6 +89,26 @@ fn what_is_read_and_written_under_one_lock_is_kept() {
     clean(|board| bank(board, true), 7, 5, 2);
 }
 
+/// Two send while they have a lock, and the third one elsewhere.
+#[test]
+fn what_is_done_under_a_lock_races_with_nobody_who_waits_for_it() {
+    let program = |board: &Board| {
+        let lock = Lock::new(());
+        let mut main = seat(board);
+        let letters: [_; 2] = [(); 2].map(|()| main.mailbox().unwrap());
+        scope(|threads| {
+            for to in [0, 0, 1] {
+                let (mut seat, lock) = (seat(board), &lock);
+                threads.spawn(move || {
+                    let _guard = (to == 0).then(|| lock.lock());
+                    (0..2).for_each(|letter| seat.send(letters[to], letter).unwrap());
+                });
+            }
+        });
+    };
+    clean(program, 7, 5, 56);
+}
+
 /// The same with a value beside the board.
 #[test]
 fn a_value_that_is_read_and_written_with_a_lock_between_is_lost() {
