@@ -44,7 +44,7 @@ def sealed(*pieces):
 
 
 def puts(number):
-    """What this client puts: numbered words of its own, into three queues in turn.
+    """Return what this client puts: its numbered words, into three queues in turn.
 
     Each line is made when the client takes it. If a loop made the generator in its body, the loop's
     variable could be the next client's number by then.

@@ -100,7 +100,7 @@ class Follow(Service):
         self.stop(1)
 
     def test_own_words(self):
-        """Each client puts words of its own, also if it takes them once all have started."""
+        """No client puts the words of another, also if it takes them once all have started."""
         for number, requests in list(clients_requests()):
             if number in PLACES:
                 words = [next(requests).split()[2] for _ in range(3)]
@@ -224,7 +224,7 @@ class Follow(Service):
         return client
 
     def test_who_put(self):
-        """In the journal each word is followed by the request of its own client that put it."""
+        """In the journal each word is followed by a request of the client that put it."""
         journal = self.dump().decode()
         put = r"^seat \d+ send \d+ =(\d+\.\d+): done\n"
         request = r"seat \d+ (?:mvar|swap \d+) =client%20(\d+)%20(\d+)%20done: "

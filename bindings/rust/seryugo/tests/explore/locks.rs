@@ -242,7 +242,7 @@ fn a_wait_that_is_late_has_its_lock_again() {
     assert!(found.to_string().contains("thread 2 (seat 1) at recv 0"), "{found}");
 }
 
-/// Each thread makes a lock of its own, and a value.
+/// Each thread makes a lock and a value that it alone uses.
 #[test]
 fn threads_make_locks_in_any_order() {
     let program = |board: &Board| {

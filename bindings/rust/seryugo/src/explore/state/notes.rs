@@ -101,7 +101,7 @@ impl State {
     }
 }
 
-/// By which what lies beside the board is told from an object.
+/// Marks the number of what lies beside the board, which may also be that of an object.
 fn thing(step: Step) -> u64 {
     mix(step.object, u64::from(step.kind.is_beside()))
 }
