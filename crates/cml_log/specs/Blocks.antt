@@ -1,5 +1,5 @@
 -- The blocks of a log: each under its number, with where it lies and its content, or nothing where it was taken.
-use Rattle.std.specs.Prelude.{◌≡◌, ℕ, ◌^◌, List, [], ◌∷◌, Option, Some, None, slice_index_or, ⊤}
+use Rattle.std.specs.Prelude.{◌≡◌, ℕ, ◌^◌, ◌==◌, cond, List, [], ◌∷◌, Option, Some, None, slice_index_or, ⊤}
 use base.Fml.{Lft, Fml, ftrue, flt, fsep}
 use prog.Memory.{size}
 use denote.RattleType.{RattleType}
@@ -10,7 +10,12 @@ use denote.Struct.Lending.{lent_at}
 use Rattle.std_alloc.specs.Box.Ownership.{box_owns}
 use mir.Syntax.{Ty}
 use Rattle.std.specs.declared.alloc.Global.{Global}
+use Rattle.cml_log.specs.declared.chunk.raw.Address.{Address}
 use Rattle.std.specs.contracts.impls.GlobalAllocator.TheImpl.{ghosts}
+
+-- where a link leads that stores this address: nowhere if that is of the first block
+abbrev pub link_to : Address → Option Address
+link_to next = cond (next.number == 0) None (Some next)
 
 module _ {C : Type 0} where
   -- the block of this number, if it is kept

@@ -14,7 +14,7 @@ pub use Log.{IsOpen, Opens, chunk_count, chunk_start, cursor_count, empty_log, l
 pub use Log.{with_item, with_place}
 pub use Holds.{IsTidy}
 pub use PlainLog.{IsSound, chunk_of}
-pub use Blocks.{IsBare, IsKept, block_at, block_lent, block_owns, blocks_lent, blocks_own, fits, heap, right_owns, token}
+pub use Blocks.{IsBare, IsKept, block_at, block_lent, block_owns, blocks_lent, blocks_own, fits, heap, link_to, right_owns, token}
 pub use Lends.{with_content}
 pub use Row.{IsBlank, IsFilled, IsRow, Written, past, reach, unwritten, written}
 pub use Contents.{KeepsCounts, Rewrites, cell_of, items_of, link_at, link_of, row_at, row_of, taken_at, taken_of}

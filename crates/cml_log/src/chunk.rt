@@ -126,7 +126,8 @@ impl<T: Drop, const N: usize> KeptChunks<T, N> {
 
     /// Links a chunk to the one after it.
     pub(crate) fn set_link(&mut self, at: Address, next: Address)
-        requires { IsKept self.old.blocks.kept at.number at.at }
+        requires later { 0 < next.number }
+        requires kept { IsKept self.old.blocks.kept at.number at.at }
         ensures rewrites { Rewrites self.old.blocks.kept self.new.blocks.kept at.number at.at (with_link (Some next)) }
         ensures counts { KeepsCounts self.old self.new }
     {

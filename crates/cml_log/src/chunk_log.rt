@@ -111,6 +111,9 @@ impl<T: Drop, const N: usize> MessageLog<T> for ChunkLog<T, N> {
         ensures ok { IfOk result (λ key. Opens self.old.log self.new.log key (next_of self.old.log)) }
         ensures err { OnErr result (self.new.log ≡ self.old.log) }
 
+        // The only cursor needs no memory.
+        ensures refused { OnErr result (0 < cursor_count self.old.log) }
+
         // No chunk is made or freed, and no link followed.
         ensures counts { KeepsCounted self.old self.new }
     {

@@ -1,5 +1,5 @@
 //! Where cursors are, each under its key.
-ghost use Rattle.std.specs.Prelude.{◌≡◌, ◌≢◌, ℕ, ◌+◌, ◌↔◌, [], Some, None, count_by, is_some, slice_set, IsSome, IsTrue, IfOk, OnOk};
+ghost use Rattle.std.specs.Prelude.{◌≡◌, ◌≢◌, ℕ, ◌+◌, ◌<◌, ◌↔◌, [], Some, None, count_by, is_some, slice_set, IsSome, IsTrue, IfOk, OnOk};
 ghost use Rattle.std.specs.Prelude.{OnErr};
 ghost use Rattle.slab.specs.Slab.{HasRoomFor};
 ghost use Rattle.cml_log.specs.{cursor_at};
@@ -55,6 +55,7 @@ impl Cursors {
     pub(crate) fn new(alloc: Global) -> Cursors
         ensures { result ≡ [] }
     {
+        // A slab takes no memory before its first entry.
         Cursors {
             alloc,
             kept: Kept::Many(Slab::new(alloc)),
@@ -68,6 +69,9 @@ impl Cursors {
         ensures others { IfOk result (λ key. (other : ℕ) → other ≢ key → cursor_at self.new other ≡ cursor_at self.old other) }
         ensures counted { OnOk result (count_by is_some self.new ≡ count_by is_some self.old + 1) }
         ensures err { OnErr result (self.new ≡ self.old) }
+
+        // The first cursor needs no memory.
+        ensures refused { OnErr result (0 < count_by is_some self.old) }
     {
         let mut slab = match &mut self.kept {
             Kept::One(Some(first)) => spread(self.alloc, *first)?,

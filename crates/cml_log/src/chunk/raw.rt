@@ -1,16 +1,17 @@
 //! The memory of a log's chunks. This file has every pointer of the crate.
 //!
 //! A block is allocated and freed by its right. While it lies among the blocks its right lies there too.
-ghost use Rattle.std.specs.Prelude.{◌≡◌, ℕ, ◌+◌, List, Option, [], ◌∷◌, ◌++◌, true, Some, None, length, slice_set, IfOk, OnErr};
+ghost use Rattle.std.specs.Prelude.{◌≡◌, ℕ, ◌+◌, ◌<◌, List, Option, [], ◌∷◌, ◌++◌, true, Some, None, length, slice_set, IfOk, OnErr};
 ghost use base.Fml.{ftrue};
 ghost use denote.RawPtr.{Ptr};
 ghost use Rattle.std.specs.Mem.{FitsInMemory};
-ghost use Rattle.cml_log.specs.Blocks.{block_at, IsKept, IsBare, blocks_own, blocks_lent, right_owns};
+ghost use Rattle.cml_log.specs.Blocks.{block_at, IsKept, IsBare, blocks_own, blocks_lent, right_owns, link_to};
 ghost use Rattle.cml_log.specs.declared.chunk.raw.Address.{Address};
 
 use std::alloc::{AllocError, Global};
 use std::marker::{Model, PhantomData, Send, Sync};
 use std::mem::size_of;
+use std::ptr;
 
 /// How often something was done, for contracts alone: it has no bytes, and so no last value.
 pub(crate) struct Counter {
@@ -56,28 +57,44 @@ unsafe impl Send for Address {}
 unsafe impl Sync for Address {}
 
 /// Where a block's content leads. Anyone may make one, but only `Blocks::follow` reads it, which counts that.
+/// No link leads to the first block. So its number, 0, says that a link leads nowhere, and a link has no tag.
 #[derive(Drop)]
 pub(crate) struct Link {
-    next: Option<Address>,
+    next: Address,
 }
 
 impl Model for Link {
     ghost Value = { Option Address };
 
-    ghost view = { λ link. link.next };
+    ghost view = { λ link. link_to link.next };
 }
 
 impl Link {
     pub(crate) fn nowhere() -> Link
         ensures { result ≡ None }
     {
-        Link { next: None }
+        Link {
+            next: Address {
+                at: ptr::null(),
+                number: 0,
+            },
+        }
     }
 
     pub(crate) fn to(next: Address) -> Link
+        requires { 0 < next.number }
         ensures { result ≡ Some next }
     {
-        Link { next: Some(next) }
+        Link { next }
+    }
+
+    fn next(&self) -> Option<Address>
+        ensures { result ≡ self.now }
+    {
+        if self.next.number == 0 {
+            return None;
+        }
+        Some(self.next)
     }
 }
 
@@ -240,6 +257,6 @@ impl<C: Linked> Blocks<C> {
     {
         self.fit();
         followed.add();
-        self.get(address).link().next
+        self.get(address).link().next()
     }
 }

@@ -65,9 +65,12 @@ pub set_link-requires : goal.set_link-requires
 set_link-requires g c =
     let made = c.in-Ok.ensures in (
       omega arith,
-      tail_written c.self.inside.chunks.blocks.kept c.self.inside.head c.self.inside.tail c.self.inside.next c.self.inside.chunks.made.count
-          c.self.inside.chunks.given.count c.self.invariant c.make.new.self.blocks.kept c.write-2.new.self.blocks.kept [] c.in-Ok.next _
-          c.args.item made.kept c.write-2.ensures.rewrites,
+      (
+        omega (arith, made.number),
+        tail_written c.self.inside.chunks.blocks.kept c.self.inside.head c.self.inside.tail c.self.inside.next
+            c.self.inside.chunks.made.count c.self.inside.chunks.given.count c.self.invariant c.make.new.self.blocks.kept
+            c.write-2.new.self.blocks.kept [] c.in-Ok.next _ c.args.item made.kept c.write-2.ensures.rewrites,
+      ),
     )
 
 pub invariant_of-self-2 : goal.invariant_of-self-2
