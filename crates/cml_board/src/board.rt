@@ -1,5 +1,5 @@
 ghost use Rattle.std.specs.Prelude.{◌≡◌, List, ◌^◌, ◌<◌, ◌≤◌, ◌↔◌, ◌&&◌, false, [], ◌++◌, length, reverse, Some, None, option_map};
-ghost use Rattle.std.specs.Prelude.{option_copied, IfOk, OnOk, OnErr, IsTrue, MatchOption, MatchBool};
+ghost use Rattle.std.specs.Prelude.{option_copied, IfOk, OnOk, OnErr, IsOk, IsTrue, MatchOption, MatchBool};
 ghost use Rattle.cml_board.specs.{Entry, no_entries, entries_in, Lawful, made, origin_of, kind_of, is_open, is_a, sent_count, got_count};
 ghost use Rattle.cml_board.specs.{owed_count, owed_to, channel_of, start_of, first_of, kept_count, port_is_open, held_by, map_log};
 ghost use Rattle.cml_board.specs.{log_at, HasLog, ReadsAt, Stands, IsNoted, IsAsBefore, ShowsTheSame, HasRoom, Cuts, IsSound, base_of};
@@ -56,7 +56,7 @@ impl<M, L: MessageLog<M>> Model for Board<M, L> {
 }
 
 impl<M: Message, L: MessageLog<M>> Board<M, L> {
-    /// Makes a board with no objects. Its journal takes `limit` entries, and as many again after each cut.
+    /// Makes a board with no objects. Its journal takes `limit` entries, and as many again after each cut. Never fails.
     pub fn new(alloc: Global, limit: u64) -> Result<Board<M, L>, AllocError>
         requires least { 1 ≤ limit }
         requires most { limit ≤ 2 ^ 32 }
@@ -64,8 +64,32 @@ impl<M: Message, L: MessageLog<M>> Board<M, L> {
         ensures past { IfOk result (λ board. board.past ≡ no_entries) }
         ensures limit { IfOk result (λ board. board.limit ≡ limit) }
         ensures objects { IfOk result (λ board. board.objects ≡ []) }
+        ensures succeeds { IsOk result }
     {
         Ok(Board::fresh(alloc, limit))
+    }
+
+    /// Makes a board with no objects, and reserves memory for this many entries and objects. What a mailbox or a channel
+    /// allocates for its messages is not reserved.
+    pub fn with_capacity(
+        alloc: Global,
+        limit: u64,
+        entries: usize,
+        objects: usize,
+    ) -> Result<Board<M, L>, AllocError>
+        requires least { 1 ≤ limit }
+        requires most { limit ≤ 2 ^ 32 }
+        ensures history { IfOk result (λ board. board.history ≡ no_entries) }
+        ensures past { IfOk result (λ board. board.past ≡ no_entries) }
+        ensures limit { IfOk result (λ board. board.limit ≡ limit) }
+        ensures objects { IfOk result (λ board. board.objects ≡ []) }
+        ensures reserved { IfOk result (λ board. board.reserved ≡ entries) }
+        ensures succeeds { (entries ≡ 0) × (objects ≡ 0) → IsOk result }
+    {
+        let mut board = Board::fresh(alloc, limit);
+        board.journal = Vec::with_capacity(alloc, entries)?;
+        board.objects = Vec::with_capacity(alloc, objects)?;
+        Ok(board)
     }
 
     /// Makes a board with no objects, which takes no memory yet.

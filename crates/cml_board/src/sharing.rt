@@ -38,6 +38,7 @@ fn share_owed<M: Message, L: MessageLog<M>>(
     ensures ok { IfOk result (λ messages. messages.items ≡ owed_items (L.log log.old) key) }
     ensures same { IsSameLog (L.log log.old) (L.log log.new) }
 {
+    // The contract of `first` says where the log begins.
     let _first = log.first();
     let copy = log.copy_cursor(key)?;
     let shared = share_along(log, alloc, key, copy);
@@ -56,6 +57,7 @@ fn share_along<M: Message, L: MessageLog<M>>(
     ensures ok { IfOk result (λ messages. messages.items ≡ owed_items (L.log log.old) copy) }
     ensures moves { (at : ℕ) × MovesTo (L.log log.old) (L.log log.new) copy at }
 {
+    // As above.
     let _first = log.first();
     let mut messages = Vec::new(alloc);
     for _at in 0..log.owed(copy) {

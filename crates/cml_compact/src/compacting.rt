@@ -1,5 +1,5 @@
 ghost use Rattle.std.specs.Prelude.{◌≡◌, ◌≤◌, ◌^◌, IfOk, IfErr};
-ghost use Rattle.cml_board.specs.{ShowsTheSame, entries_in, no_entries};
+ghost use Rattle.cml_board.specs.{ShowsTheSame, entries_in};
 ghost use Rattle.cml_compact.specs.{AllBy, Compacts, Stops, compact_size};
 
 use crate::making::make_all;
@@ -8,10 +8,10 @@ use crate::settling::settle_all;
 use crate::slowest::slowest;
 use cml_board::{Board, Message, Refusal, Who};
 use cml_log::MessageLog;
-use std::alloc::{AllocError, Global};
+use std::alloc::Global;
 
-/// Makes a board that leaves to later calls what this one leaves. It makes each object, sends again what is owed, has faster
-/// ports pass over what they had received of it, and closes ports and fills variables: `compact_length` calls, all by `who`.
+/// Makes a board that leaves to later calls what this one leaves. It makes each object and sends again what is owed. Faster
+/// ports receive what they are ahead. Then it closes ports and fills variables. These are `compact_length` calls, all by `who`.
 /// The new journal has no entry before them. What was counted since this board was made begins at 0: positions of entries, and
 /// how many messages an object sent and received. Its time grows with the number of those calls.
 ///
@@ -35,7 +35,10 @@ pub fn compact<M: Message, L: MessageLog<M>>(
     let Ok(slowest) = slowest(alloc, board) else {
         return Err(Refusal::NoMemory);
     };
-    let Ok(mut new) = empty(alloc, board.object_count(), limit) else {
+    // It has room for what is sure to come, and so moves nothing again and again while it grows.
+    let objects = board.object_count();
+    let entries = objects.min(limit);
+    let Ok(mut new) = Board::with_capacity(alloc, limit, entries as usize, objects as usize) else {
         return Err(Refusal::NoMemory);
     };
     make_all(board, &mut new, who)?;
@@ -44,22 +47,4 @@ pub fn compact<M: Message, L: MessageLog<M>>(
     // The contract of `journal` says that a journal has no more entries than its limit.
     let _journal = new.journal();
     Ok(new)
-}
-
-/// An empty board, with memory for as many entries as there will be objects. So its journal is not moved again and again while it
-/// grows.
-fn empty<M: Message, L: MessageLog<M>>(
-    alloc: Global,
-    objects: u64,
-    limit: u64,
-) -> Result<Board<M, L>, AllocError>
-    requires least { 1 ≤ limit }
-    requires most { limit ≤ 2 ^ 32 }
-    ensures history { IfOk result (λ board. board.history ≡ no_entries) }
-    ensures past { IfOk result (λ board. board.past ≡ no_entries) }
-    ensures limit { IfOk result (λ board. board.limit ≡ limit) }
-{
-    let mut board = Board::new(alloc, limit)?;
-    board.reserve(objects.min(limit) as usize)?;
-    Ok(board)
 }

@@ -19,6 +19,7 @@ pub fn tell<M: Message, L: MessageLog<M>>(
     ensures whose { AllBy who new.old.history → AllBy who new.new.history }
     ensures err { IfErr result (Stops new.old.limit (entries_in new.old.history + 1)) }
 {
+    // The contract of `limit` says that it is bounded.
     let _limit = new.limit();
     match new.call(who, call) {
         Response::Reply(_) => {

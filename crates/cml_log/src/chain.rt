@@ -41,7 +41,7 @@ impl<T: Drop, const N: usize> Model for Chain<T, N> {
 impl<T: Drop, const N: usize> Chain<T, N> {
     ghost use Rattle.cml_log.specs.Chain.{cell_at, count_at, LiesAt, end_of, is_idle, passed, with_count, Pushed, Passed, Begins};
 
-    /// A chain of one empty chunk. There is none of chunks without a place, with more than 1,024, or too large for memory.
+    /// A chain of one empty chunk. Fails if `N` is 0 or above 1,024, if a chunk is too large, or without memory.
     pub(crate) fn new(alloc: Global) -> Result<Chain<T, N>, AllocError>
         ensures { IfOk result (λ made. Begins made) }
     {
@@ -174,7 +174,7 @@ impl<T: Drop, const N: usize> Chain<T, N> {
         self.head.number < self.tail.number && self.chunks.cursors(self.head) == 0
     }
 
-    /// Gives the head back, after which the next chunk lies there.
+    /// Frees the head. `next` is where the chunk after it lies.
     pub(crate) fn pass_head_to(&mut self, next: Address)
         requires before { self.old.given < end_of N self.old / N }
         requires number { next.number ≡ self.old.given + 1 }
@@ -193,7 +193,7 @@ impl<T: Drop, const N: usize> Chain<T, N> {
         self.pass_head_to(next);
     }
 
-    /// Gives back the chunks from the head on that no cursor is in, up to the tail.
+    /// Frees the chunks from the head on that no cursor is in, up to the tail.
     pub(crate) fn pass_idle(&mut self)
         ensures idle { is_idle N self.new ≡ false }
         ensures passed { Passed N self.old self.new }
@@ -229,10 +229,11 @@ impl<T: Drop, const N: usize> Chain<T, N> {
         ensures counts { self.now.made ≡ self.now.given + (end_of N self.now / N - self.now.given + 1) }
         ensures sized { (0 < N) × (N ≤ 1024) × (end_of N self.now ≤ 18446744073709551614) }
     {
+        // That reads the chain, and so shows what always holds of it.
         let _ = &self.head;
     }
 
-    // Gives back the last chunk.
+    // Frees the last chunk.
     fn close(self)
         requires { ltb self.given (end_of N self / N) ≡ false }
     {

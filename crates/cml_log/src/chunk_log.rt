@@ -136,6 +136,7 @@ impl<T: Drop, const N: usize> MessageLog<T> for ChunkLog<T, N> {
     {
         let original = self.cursors.get(k.0);
         let key = self.cursors.add(original)?;
+        // So that one cursor more in its chunk can be counted.
         let _ = self.cursors.len();
         self.chain.enter(original.at);
         Ok(Key(key))

@@ -27,6 +27,7 @@ pub(crate) struct Cursors {
 enum Kept {
     /// The cursor under key 0, or none once it was closed. No other key was opened.
     One(Option<Cursor>),
+    /// Any number of cursors, and none before the first was opened.
     Many(Slab<Cursor>),
 }
 
@@ -55,7 +56,7 @@ impl Cursors {
     pub(crate) fn new(alloc: Global) -> Cursors
         ensures { result ≡ [] }
     {
-        // A slab takes no memory before its first entry.
+        // Not `One(None)`, which has a key 0. A slab takes no memory before its first entry.
         Cursors {
             alloc,
             kept: Kept::Many(Slab::new(alloc)),

@@ -23,7 +23,7 @@ pub fn next_due_returns_anew<M>()
 {}
 
 /// Shows that `next_due`, called again and again, ends: it returns no more seats than there are, and then none.
-pub fn next_due_comes_to_an_end<M>()
+pub fn next_due_ends<M>()
     ensures { (givens : List ℕ) (first last : RoomShown M) → GivesInTurn givens first last → length givens ≤ length first.seats }
 {}
 

@@ -15,7 +15,7 @@ mod waiting;
 mod waking;
 
 pub use laws::{
-    asked_is_not_due, next_due_comes_to_an_end, next_due_returns_anew, nobody_is_left_asleep,
+    asked_is_not_due, next_due_ends, next_due_returns_anew, nobody_is_left_asleep,
     one_next_due_is_enough, woken_is_returned,
 };
 pub use notice::Notice;

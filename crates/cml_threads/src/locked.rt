@@ -91,7 +91,7 @@ impl<M: Message, L: MessageLog<M>, Led: Ledger> Locked<M, L, Led> {
         ensures { UnparksNext turn.entry result }
     {
         let due = unlock(turn)?;
-        // No seat's call unparks it, so its parker notes no seat that it may answer: no seat unparks itself.
+        // `by` is the seat itself, so its parker never takes this wake for an answer.
         Some(self.parkers.unpark(due, due))
     }
 

@@ -84,7 +84,7 @@ impl<M: Message, L: MessageLog<M>, Led: Ledger> Switchboard<M, L, Led> {
     /// Measures how long a yield takes now, with nothing else to do. If it is short, and there is more than one processor, threads
     /// yield a few times from now on before they sleep. With more threads than processors that halves the time of a request. If it
     /// is long, since other programs compute beside this one, threads sleep sooner, as they do before the first call. It takes some
-    /// microseconds, or eight time slices. Call it before the threads start, and again if the other programs come or go.
+    /// microseconds, or as long as one long yield. Call it before the threads start, and again if the other programs come or go.
     pub fn tune<R: Clock + Threads>(&self, rt: &R) {
         self.locked.measure_yields(rt);
     }

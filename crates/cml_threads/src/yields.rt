@@ -9,7 +9,7 @@ use std::time::Instant;
 /// A yield that takes more microseconds has let another program compute for a whole time slice. Among threads that only call and
 /// wait a yield takes less, even if many take their turns.
 const LONG: u128 = 1_000;
-/// How many yields are measured.
+/// How many yields are measured at most.
 const TRIALS: u32 = 8;
 
 /// Whether yields are short on this machine. They are not known to be until they are measured.

@@ -1,4 +1,5 @@
-//! The calls on feeds. None of them changes a seat's state, and none brings anything to the seats that wait.
+//! The calls on feeds. None of them changes a seat's state, and none brings news. If one fills the journal, or leaves all seats
+//! stalled, all that wait are due.
 ghost use Rattle.std.specs.Prelude.{ℕ, ◌≡◌, ◌≤◌, ◌<◌, length, count_by, is_some};
 ghost use Rattle.cml_lanes.specs.{KeepsRings, SameFeedRing, OpensAFeed, Pumps};
 ghost use Rattle.cml_lanes.specs.Feeds.{Ends};

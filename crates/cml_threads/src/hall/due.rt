@@ -19,7 +19,7 @@ impl<M: Message, L: MessageLog<M>, Led: Ledger> Hall<M, L, Led> {
     }
 
     /// Says whether the seat is due: it waits, and has a notice or all that wait are due. A seat that waits and is not due sleeps
-    /// rightly. So wake each seat that `next_due` returns.
+    /// rightly. Wake only the seats that `next_due` returns.
     pub fn is_due(&self, seat: u64) -> bool
         ensures due { result ≡ is_due (room_of self.now) seat }
         ensures asleep { result ≡ false → (on : Want) → state_of (room_of self.now) seat ≡ Some (State.Parked on)

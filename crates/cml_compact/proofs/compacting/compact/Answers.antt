@@ -13,15 +13,15 @@ pub returns-in_err-make_all-clause-err : goal.returns-in_err-make_all-clause-err
 returns-in_err-make_all-clause-err g c =
     let h = c.args.board.now.history in
     let p = err_from_is_err_and c.from_residual.result c.from_residual.ensures.1 in
-    rw (p.1, p.2) (stops_more c.in-Ok-empty.new.limit c.args.limit (weights (begun_anew h) (length (made h))) _ c.in_err-make_all.field-0.0
-    c.in-Ok-empty.ensures.limit (begun_less h) c.in_err-make_all.ensures.err)
+    rw (p.1, p.2) (stops_more c.in-Ok-with_capacity.new.limit c.args.limit (weights (begun_anew h) (length (made h))) _ c.in_err-make_all.field-0.0
+    c.in-Ok-with_capacity.ensures.limit (begun_less h) c.in_err-make_all.ensures.err)
 
 pub returns-in_err-send_all-clause-err : goal.returns-in_err-send_all-clause-err
 returns-in_err-send_all-clause-err g c =
     let h = c.args.board.now.history in
     let p = err_from_is_err_and c.from_residual-in_err-send_all.result c.from_residual-in_err-send_all.ensures.1 in
     rw (p.1, p.2) (stops_more c.make_all.new.new.limit c.args.limit (weights (stocked h) (length (made h))) _ c.in_err-send_all.field-0.0
-    (c.in_ok-make_all.ensures.ok.limit ∙ c.in-Ok-empty.ensures.limit) (stocked_less h) c.in_err-send_all.ensures.err)
+    (c.in_ok-make_all.ensures.ok.limit ∙ c.in-Ok-with_capacity.ensures.limit) (stocked_less h) c.in_err-send_all.ensures.err)
 
 pub returns-clause-ok : goal.returns-clause-ok
 returns-clause-ok g c =
@@ -32,4 +32,4 @@ returns-clause-ok g c =
 pub returns-clause-whose : goal.returns-clause-whose
 returns-clause-whose g c =
     c.settle_all.ensures.whose
-    (c.send_all.ensures.whose (c.make_all.ensures.whose (all_by_none c.args.who c.in-Ok-empty.new.history c.in-Ok-empty.ensures.history)))
+    (c.send_all.ensures.whose (c.make_all.ensures.whose (all_by_none c.args.who c.in-Ok-with_capacity.new.history c.in-Ok-with_capacity.ensures.history)))
