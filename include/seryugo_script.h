@@ -39,7 +39,7 @@ struct seryugo_end {
 
 /*
  * Replays `script_length` bytes at `script`, with a journal that takes `limit` entries, and writes the report to the front of
- * `room` bytes at `report`. What lies behind the report is as it was.
+ * `room` bytes at `report`. What lies after the report is as it was.
  *
  * `report` may be null where `room` is 0, which asks for the length alone; `script` where `script_length` is 0, which is a
  * script with a fault. Neither overlaps the other, or `end`.

@@ -44,7 +44,7 @@ refuse() {
 judge_table() {
     awk -v kind="$kind" -v how="$how" -v room="$room" '
         FNR == NR { want[++lines] = $0; next }
-        # Behind a note that begins with "spared" no call of the case may meet a refusal.
+        # After a note that begins with "spared" no call of the case may meet a refusal.
         function tells(line, wanted) {
             if (wanted ~ /^# spared/) spared = 1
             if (wanted ~ /^==/) spared = 0

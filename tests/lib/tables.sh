@@ -8,7 +8,7 @@
 #
 #     no such step | cml 1 / thread A / A jump | line 3: unknown step
 #
-# Behind a line like `before: cml 1 / thread A` the script of a case is these lines and then the case's own. A name may be
+# After a line like `before: cml 1 / thread A` the script of a case is these lines and then the case's own. A name may be
 # left out: then the case's lines are the name too. Empty lines, and those that begin with `#`, say nothing.
 #
 #     A jump | line 3: unknown step

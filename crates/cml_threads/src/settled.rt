@@ -59,6 +59,7 @@ impl<M: Message, L: MessageLog<M>> Settled<M, L> {
         &self.board
     }
 
+    /// Returns how many entries the seats and the rings made.
     pub fn count(&self) -> Count
         ensures seats { result.seats ≡ self.now.seats }
         ensures rings { result.rings ≡ rings_in self.now.board.history }

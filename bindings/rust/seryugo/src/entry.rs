@@ -156,6 +156,7 @@ impl<M> Call<M> {
         }
     }
 
+    /// The call of a number of `SERYUGO_CALL_` in `seryugo.h`.
     pub(crate) fn of(
         kind: u32,
         object: u64,

@@ -101,16 +101,16 @@ impl Error {
     #[cold]
     pub(crate) fn of_code(code: u32) -> Error {
         match code {
-            5 => Error::Gone,
-            6 => Error::Busy,
+            code::GONE => Error::Gone,
+            code::BUSY => Error::Busy,
             code::JOURNAL_FULL => Error::JournalFull,
-            10 => Error::Stalled,
-            11 => Error::NoMemory,
-            12 => Error::Unseen,
-            13 => Error::Full,
-            16 => Error::OutOfBounds,
+            code::STALLED => Error::Stalled,
+            code::NO_MEMORY => Error::NoMemory,
+            code::UNSEEN => Error::Unseen,
+            code::FULL => Error::Full,
+            code::OUT_OF_BOUNDS => Error::OutOfBounds,
+            code::TOO_LONG => Error::TooLong,
             code::NOT_KEPT => Error::NotKept,
-            20 => Error::TooLong,
             other => Error::Unknown(other),
         }
     }
@@ -142,10 +142,11 @@ impl Error {
         }
     }
 
-    /// Whether the same call may succeed later, once something else has changed: the journal was
-    /// cut (`JournalFull`), its entries were taken (`NotKept`), the lanes and feeds were closed
-    /// (`Busy`), the lane was drained (`Full`), memory was freed (`NoMemory`), or more time has
-    /// passed (`TimedOut`, `Unseen`).
+    /// Whether the same call may succeed later, once something else has changed:
+    ///
+    /// - `JournalFull`: the journal was cut. `NotKept`: its entries were taken.
+    /// - `Busy`: the lanes and feeds were closed. `Full`: the lane was drained.
+    /// - `NoMemory`: memory was freed. `TimedOut`, `Unseen`: more time has passed.
     ///
     /// ```
     /// use seryugo::Error;
@@ -169,7 +170,7 @@ impl Error {
 impl fmt::Display for Error {
     fn fmt(&self, f: &mut fmt::Formatter<'_>) -> fmt::Result {
         f.write_str(match self {
-            Error::Gone => "the seat can't make this call: it waits, or has left",
+            Error::Gone => "the seat waits or has left, or the lane was closed",
             Error::Busy => "the journal can't be cut while a lane or a feed is open",
             Error::NoSuch(missing) => return missing.fmt(f),
             Error::WrongKind(misfit) => return misfit.fmt(f),

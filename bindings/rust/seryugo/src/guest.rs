@@ -63,7 +63,7 @@ impl<R: Room, H: Holds<R>> fmt::Debug for Guest<'_, R, H> {
 
 /// # Who will come
 ///
-/// A call that waits fails with [`Error::Stalled`] if nobody is left who could answer it. These say
+/// A call that waits fails with [`Error::Stalled`] if nothing could answer it any more. These say
 /// that somebody will come.
 impl<R: Room> Switchboard<R> {
     /// Returns a [`Guest`]. While one is there, no call fails with [`Error::Stalled`], and each

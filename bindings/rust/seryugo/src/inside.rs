@@ -366,7 +366,7 @@ impl<R: Room> Inside<R> {
         self.keeper.is_some() && self.spare_now() == 0
     }
 
-    /// The same, until none is left.
+    /// Drains a lane until nothing more moves.
     pub fn drain_all(&mut self, lane: u64) -> Result<(), Error> {
         while self.drain(lane)? != 0 {}
         Ok(())

@@ -135,9 +135,10 @@ impl<R: Room> Journal<R> {
     ///
     /// # Errors
     ///
-    /// `InvalidData`, with [`Error::TooLong`] inside, if a message is so long that no reader would
-    /// take its line, and then nothing is written; `OutOfMemory` if there is no memory for the
-    /// text, or it would have 2^32 bytes or more; and what `to` fails with.
+    /// - `InvalidData`, with [`Error::TooLong`] inside, if a message is so long that no reader would
+    ///   take its line. Then nothing is written.
+    /// - `OutOfMemory` if there is no memory for the text, or if it would have 2^32 bytes or more.
+    /// - What `to` fails with.
     pub fn write_to(&self, to: &mut impl Write) -> io::Result<()> {
         self.write_at(self.first, to)
     }

@@ -22,7 +22,7 @@
 //!
 //! # When a receive ends
 //!
-//! A call that waits ends as it is answered. If nobody is left who could answer it, it fails with
+//! A call that waits ends as it is answered. If nothing could answer it any more, it fails with
 //! [`Error::Stalled`]: all other seats wait too or have left, and no lane is open. So when the last
 //! sender drops its seat, those that receive get what was sent, and then `Stalled`.
 //!

@@ -86,9 +86,9 @@ impl<R: Room> Switchboard<R> {
         }
     }
 
-    /// Wakes a seat that is due, for a call of that seat or of none. A thread that is woken makes a
-    /// call, which wakes the seat after. A task may be polled late. So after a task this wakes the
-    /// next seat too, up to the first thread.
+    /// Wakes a seat that is due. `by` is the parker of the calling seat, if a seat calls. A thread
+    /// that is woken makes a call, which wakes the seat after. A task may be polled late. So after a
+    /// task this wakes the next seat too, up to the first thread.
     fn wake(&self, due: &Parker, by: Option<&Parker>) {
         let mut next = Some(due);
         while let Some(due) = next {

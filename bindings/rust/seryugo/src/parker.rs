@@ -171,8 +171,8 @@ impl Parker {
         let _ = self.state.compare_exchange(AWAKE, ASLEEP, Ordering::AcqRel, Ordering::Acquire);
     }
 
-    /// Wakes the thread or the future, or has its next wait end at once, for a call of that seat or
-    /// of none.
+    /// Wakes the thread or the future, or has its next wait end at once. `by` is the parker of the
+    /// calling seat, if a seat calls.
     pub fn unpark(&self, by: Option<&Parker>) -> Woken {
         self.woken_by.store(by.map_or(NOBODY, |by| by.number), Ordering::Relaxed);
         match self.state.swap(WOKEN, Ordering::AcqRel) {

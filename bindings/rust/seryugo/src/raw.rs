@@ -16,13 +16,19 @@ pub mod code {
     pub const PUT: u32 = 2;
     pub const CLOSED: u32 = 3;
     pub const PARKED: u32 = 4;
+    pub const GONE: u32 = 5;
+    pub const BUSY: u32 = 6;
     pub const NO_SUCH: u32 = 7;
     pub const WRONG_KIND: u32 = 8;
     pub const JOURNAL_FULL: u32 = 9;
     pub const STALLED: u32 = 10;
     pub const NO_MEMORY: u32 = 11;
+    pub const UNSEEN: u32 = 12;
+    pub const FULL: u32 = 13;
+    pub const OUT_OF_BOUNDS: u32 = 16;
     pub const UNLAWFUL: u32 = 17;
     pub const FAULT: u32 = 18;
+    pub const TOO_LONG: u32 = 20;
     /// The library never returns it: a call that this crate didn't make, since nobody took the
     /// entries of a full journal.
     pub const NOT_KEPT: u32 = u32::MAX - 1;

@@ -21,8 +21,8 @@ use std::marker::PhantomData;
 ///
 /// A call that would wait blocks. If all other seats wait, and no lane is open, it fails with
 /// [`Error::Stalled`]: nothing could answer it. While a [`Guest`](crate::Guest) is there, it blocks
-/// on. Drop the seat as soon as its thread has no more to
-/// do: while the seat is free, no call fails with `Stalled`.
+/// on. Drop the seat as soon as its thread has no more to do: while the seat is free, no call fails
+/// with `Stalled`.
 ///
 /// ```
 /// use seryugo::{Error, Switchboard};
@@ -72,8 +72,8 @@ pub struct Seat<'a, R: Room = Bytes, H: Holds<R> = &'a Switchboard<R>> {
     pub(crate) board: H,
     number: u64,
     pub(crate) parker: ParkerAt,
-    /// Whether a future waits by it, or was forgotten while it waited. Or a call that waited is
-    /// made again, or a sink panicked in it.
+    /// Whether the library may have the seat as parked, so that the next call withdraws it first: a
+    /// future waits by it or was forgotten, a call that waited is made again, or a sink panicked.
     pub(crate) is_parked: bool,
     /// Where its questions are answered, once it has asked one.
     pub(crate) answers: Option<Answers>,

@@ -118,7 +118,7 @@ impl<'a, R: Room, H: Holds<R>> Seat<'a, R, H> {
         }
     }
 
-    /// The same, until then at the latest. Behind the deadline it makes the call once more. If that
+    /// The same, until then at the latest. After the deadline it makes the call once more. If that
     /// is parked, it withdraws it before others have the lock.
     pub(crate) fn wait_until(&mut self, want: Want<'_, R>, deadline: Instant) -> Answer<R> {
         let seat = self.ready();

@@ -44,7 +44,8 @@ impl<M: Message, L: MessageLog<M>, Led: Ledger> Switchboard<M, L, Led> {
     }
 
     /// Ends an open feed for good: nothing more is put into its ring. The subscriber still receives what is left there. The
-    /// port stays, and is from now on a port like any other. Fails with `NoSuch` if no open feed has the number.
+    /// port stays, and is from now on a port like any other. Returns the end for `Feed::rest`, or `None` if the subscriber dropped
+    /// the feed before. Fails with `NoSuch` if no open feed has the number.
     pub fn end_feed<R: Wait>(&self, rt: &R, feed: u64) -> Result<Option<FeedEnd<M>>, Refusal>
         ensures end { IfOk result (λ end. IfSome end (λ whole. whole.number ≡ feed)) }
         ensures refused { IfErr result (λ refusal. refusal ≡ NoSuch) }

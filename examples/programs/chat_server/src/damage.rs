@@ -17,7 +17,7 @@ const END: &[u8] = b"end ";
 enum Place {
     /// Where a piece begins, or the journal.
     Piece,
-    /// Behind a piece's first line.
+    /// After a piece's first line.
     Headed,
     /// Before an entry of a piece, or its end.
     Inside,

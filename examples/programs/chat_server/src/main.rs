@@ -136,7 +136,7 @@ fn serve_clients(server: &Server<'_>, listener: &TcpListener) -> Result<(), Fail
     })
 }
 
-/// Waits for the line `/shutdown` on standard input. Behind the end of standard input none comes, and the server runs on.
+/// Waits for the line `/shutdown` on standard input. After the end of standard input none comes, and the server runs on.
 fn wait_for_shutdown() {
     let is_there = |line: &io::Result<String>| match line {
         Ok(_) => true,

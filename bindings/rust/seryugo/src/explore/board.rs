@@ -141,7 +141,7 @@ impl<R: Room> Board for Switchboard<R> {
 
     fn stall(&self, waits: &[(u64, Step)]) -> (bool, Vec<u64>) {
         let mut inside = self.lock();
-        let mut is_told = false;
+        let mut fails_as_stalled = false;
         for &(seat, step) in waits {
             let read = match step.kind {
                 Kind::Recv => Read::Recv,
@@ -152,7 +152,7 @@ impl<R: Room> Board for Switchboard<R> {
             let mut found = R::nothing();
             let code =
                 inside.ask(false, |room| R::ask(read, room, seat, step.object, false, &mut found));
-            is_told = code == code::STALLED;
+            fails_as_stalled = code == code::STALLED;
         }
         let seats = inside.next_place();
         let is_free = |seat: &u64| is_free::<R>(&mut inside.handle, *seat);
@@ -160,7 +160,7 @@ impl<R: Room> Board for Switchboard<R> {
         for &(seat, _) in waits {
             inside.withdraw(seat);
         }
-        (is_told, free)
+        (fails_as_stalled, free)
     }
 }
 
@@ -212,9 +212,3 @@ pub(crate) fn sum_of(value: &impl Hash) -> u64 {
     hasher.finish()
 }
 
-impl Move {
-    /// Whether it is on an object that has a channel beside it.
-    pub(crate) fn is_on_port(step: Step) -> bool {
-        matches!(step.kind, Kind::Recv | Kind::Poll | Kind::Close | Kind::Copy | Kind::Look)
-    }
-}

@@ -14,7 +14,7 @@ pub enum End {
         waits: Vec<Waits>,
         /// Whether one of these calls would fail with [`Stalled`](crate::Error::Stalled) outside an
         /// exploration. If not, all of them block for ever.
-        is_told: bool,
+        fails_as_stalled: bool,
         /// The seats that are free, such as one of a thread that joins others. While there is one,
         /// no call fails with `Stalled`.
         free: Vec<u64>,
@@ -91,17 +91,17 @@ impl fmt::Display for End {
             End::Done => f.write_str("done"),
             End::Stalled {
                 waits,
-                is_told,
+                fails_as_stalled,
                 free,
             } => {
                 f.write_str("stalled: no thread can go on\n")?;
                 waits.iter().try_for_each(|waits| writeln!(f, "  {waits}"))?;
                 f.write_str("outside an exploration ")?;
-                f.write_str(match is_told {
+                f.write_str(match fails_as_stalled {
                     true => "one of these calls fails with `Stalled`",
                     false => "these calls block for ever, without `Stalled`: ",
                 })?;
-                match (is_told, &free[..]) {
+                match (fails_as_stalled, &free[..]) {
                     (true, _) => Ok(()),
                     (false, []) => f.write_str("a lane is open, or somebody is awaited"),
                     (false, [seat]) => write!(f, "seat {seat} is free"),

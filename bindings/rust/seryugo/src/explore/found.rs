@@ -50,7 +50,7 @@ impl Found {
         self.runs
     }
 
-    /// How many of them left the same as a run before. They were run to see that they do.
+    /// How many runs left the same as an earlier one.
     #[must_use]
     pub fn repeats(&self) -> u64 {
         self.repeats

@@ -9,7 +9,7 @@ pub(crate) enum By {
     Step,
     /// Its call's time has passed.
     TimeOut,
-    /// Its call fails, since nobody is left who could answer it.
+    /// Its call fails, since nothing could answer it any more.
     Stall,
 }
 

@@ -84,6 +84,11 @@ impl Kind {
         matches!(self, Kind::Recv | Kind::Get | Kind::Take | Kind::Swap)
     }
 
+    /// Whether it may be on a port, which has a channel beside it.
+    pub fn may_be_on_port(self) -> bool {
+        matches!(self, Kind::Recv | Kind::Poll | Kind::Close | Kind::Copy | Kind::Look)
+    }
+
     /// Whether an accepted call of this kind has one entry in the journal.
     pub fn has_entry(self) -> bool {
         use Kind::{FeedRecv, LaneSend, Look, LookAtAll, OpenLane};

@@ -86,10 +86,10 @@ fn a_message_to_a_port_that_is_closed() {
 #[test]
 fn a_receiver_that_nobody_tells_of_the_end() {
     let found = found(no_end);
-    let End::Stalled { is_told, .. } = found.bad().unwrap().end() else {
+    let End::Stalled { fails_as_stalled, .. } = found.bad().unwrap().end() else {
         panic!("{found}")
     };
-    assert!(is_told, "{found}");
+    assert!(fails_as_stalled, "{found}");
 }
 
 #[test]
@@ -103,10 +103,10 @@ fn a_seat_that_stays_free() {
         });
     };
     let found = found(program);
-    let End::Stalled { is_told, free, .. } = found.bad().unwrap().end() else {
+    let End::Stalled { fails_as_stalled, free, .. } = found.bad().unwrap().end() else {
         panic!("{found}")
     };
-    assert_eq!((*is_told, &free[..]), (false, &[0][..]), "{found}");
+    assert_eq!((*fails_as_stalled, &free[..]), (false, &[0][..]), "{found}");
     assert!(found.to_string().contains("block for ever, without `Stalled`: seat 0 is free"));
 }
 

@@ -243,12 +243,12 @@ fn two_tasks_that_wait_for_ever() {
         }));
     };
     let found = explore(Way::every(), 10, program);
-    let End::Stalled { waits, is_told, .. } = found.bad().unwrap().end() else {
+    let End::Stalled { waits, fails_as_stalled, .. } = found.bad().unwrap().end() else {
         panic!("{found}")
     };
     let at: Vec<String> = waits.iter().map(ToString::to_string).collect();
     assert_eq!(at, ["thread 0 (seat 1) at recv 0", "thread 0 (seat 2) at recv 1"]);
-    assert!(is_told, "{found}");
+    assert!(fails_as_stalled, "{found}");
     // If calls are told, each of them fails in turn.
     let found = explore(Way::every().stalls_are_told(), 10, program);
     let bad = found.bad().unwrap();

@@ -185,10 +185,10 @@ fn an_open_lane_that_hides_a_stall() {
         seat(board).recv(letters).unwrap();
     };
     let found = found(program);
-    let End::Stalled { is_told, waits, .. } = found.bad().unwrap().end() else {
+    let End::Stalled { fails_as_stalled, waits, .. } = found.bad().unwrap().end() else {
         panic!("{found}")
     };
-    assert_eq!((*is_told, waits.len()), (false, 1), "{found}");
+    assert_eq!((*fails_as_stalled, waits.len()), (false, 1), "{found}");
     assert!(found.to_string().contains("a lane is open"), "{found}");
 }
 

@@ -36,7 +36,7 @@ fn two_locks(board: &Board, is_ordered: bool) {
 fn two_locks_in_both_orders_are_named() {
     let found = found(|board| two_locks(board, false));
     let bad = found.bad().unwrap();
-    let End::Stalled { waits, is_told, .. } = bad.end() else {
+    let End::Stalled { waits, fails_as_stalled, .. } = bad.end() else {
         panic!("{found}")
     };
     let at: Vec<&str> = waits.iter().filter_map(|waits| waits.call.as_deref()).collect();
@@ -47,7 +47,7 @@ fn two_locks_in_both_orders_are_named() {
         assert!(at.starts_with(&format!("lock {lock} of {}:", file!())), "{at}");
         assert!(at.ends_with(&format!(", which thread {holder} has")), "{at}");
     }
-    assert!(!is_told, "{found}");
+    assert!(!fails_as_stalled, "{found}");
     assert_eq!(bad.schedule(), "112");
 }
 

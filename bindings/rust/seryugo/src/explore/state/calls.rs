@@ -137,7 +137,7 @@ impl State {
     fn call(&self, seat: u64, step: Step) -> Call {
         let board = self.board.as_ref();
         let as_if = board.map_or(step, |board| board.as_if(step));
-        let port = board.filter(|_| Move::is_on_port(as_if));
+        let port = board.filter(|_| as_if.kind.may_be_on_port());
         Call {
             seat,
             step,

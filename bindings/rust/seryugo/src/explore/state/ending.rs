@@ -31,10 +31,10 @@ impl State {
             };
             task.calls().map(at).chain(joins)
         });
-        let (is_told, free) = self.stall();
+        let (fails_as_stalled, free) = self.stall();
         End::Stalled {
             waits: waits.collect(),
-            is_told,
+            fails_as_stalled,
             free,
         }
     }
