@@ -1,6 +1,5 @@
 //! What an exploration asks and makes of a switchboard.
 
-use super::moves::Move;
 use super::step::{Kind, Step, NONE};
 use crate::calls::Read;
 use crate::entry::Entry;
@@ -29,9 +28,9 @@ pub(crate) enum Pass {
 pub(crate) struct Look {
     /// Whether the call would be answered now.
     pub is_answered: bool,
-    /// As [`Move::is_full`].
+    /// As [`Move::is_full`](super::moves::Move::is_full).
     pub is_full: bool,
-    /// As [`Move::place`].
+    /// As [`Move::place`](super::moves::Move::place).
     pub place: u64,
 }
 
