@@ -210,4 +210,3 @@ pub(crate) fn sum_of(value: &impl Hash) -> u64 {
     value.hash(&mut hasher);
     hasher.finish()
 }
-

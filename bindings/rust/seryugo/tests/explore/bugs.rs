@@ -86,7 +86,10 @@ fn a_message_to_a_port_that_is_closed() {
 #[test]
 fn a_receiver_that_nobody_tells_of_the_end() {
     let found = found(no_end);
-    let End::Stalled { fails_as_stalled, .. } = found.bad().unwrap().end() else {
+    let End::Stalled {
+        fails_as_stalled, ..
+    } = found.bad().unwrap().end()
+    else {
         panic!("{found}")
     };
     assert!(fails_as_stalled, "{found}");
@@ -103,7 +106,12 @@ fn a_seat_that_stays_free() {
         });
     };
     let found = found(program);
-    let End::Stalled { fails_as_stalled, free, .. } = found.bad().unwrap().end() else {
+    let End::Stalled {
+        fails_as_stalled,
+        free,
+        ..
+    } = found.bad().unwrap().end()
+    else {
         panic!("{found}")
     };
     assert_eq!((*fails_as_stalled, &free[..]), (false, &[0][..]), "{found}");

@@ -243,7 +243,12 @@ fn two_tasks_that_wait_for_ever() {
         }));
     };
     let found = explore(Way::every(), 10, program);
-    let End::Stalled { waits, fails_as_stalled, .. } = found.bad().unwrap().end() else {
+    let End::Stalled {
+        waits,
+        fails_as_stalled,
+        ..
+    } = found.bad().unwrap().end()
+    else {
         panic!("{found}")
     };
     let at: Vec<String> = waits.iter().map(ToString::to_string).collect();

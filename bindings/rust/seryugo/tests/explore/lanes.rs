@@ -185,7 +185,12 @@ fn an_open_lane_that_hides_a_stall() {
         seat(board).recv(letters).unwrap();
     };
     let found = found(program);
-    let End::Stalled { fails_as_stalled, waits, .. } = found.bad().unwrap().end() else {
+    let End::Stalled {
+        fails_as_stalled,
+        waits,
+        ..
+    } = found.bad().unwrap().end()
+    else {
         panic!("{found}")
     };
     assert_eq!((*fails_as_stalled, waits.len()), (false, 1), "{found}");

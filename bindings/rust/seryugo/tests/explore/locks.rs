@@ -36,7 +36,12 @@ fn two_locks(board: &Board, is_ordered: bool) {
 fn two_locks_in_both_orders_are_named() {
     let found = found(|board| two_locks(board, false));
     let bad = found.bad().unwrap();
-    let End::Stalled { waits, fails_as_stalled, .. } = bad.end() else {
+    let End::Stalled {
+        waits,
+        fails_as_stalled,
+        ..
+    } = bad.end()
+    else {
         panic!("{found}")
     };
     let at: Vec<&str> = waits.iter().filter_map(|waits| waits.call.as_deref()).collect();
