@@ -74,7 +74,14 @@ PyObject *decoded(const struct place *object, const struct message *message)
     const char *at = message->length > IN_PLACE ? message->block : message->in_place;
 
     if (object->kind == OF_STR) {
-        return PyUnicode_DecodeUTF8(at, (Py_ssize_t)message->length, NULL);
+        PyObject *text = PyUnicode_DecodeUTF8(at, (Py_ssize_t)message->length, NULL);
+
+        if (text || !PyErr_ExceptionMatches(PyExc_UnicodeDecodeError)) {
+            return text;
+        }
+        /* The object's own function raises the error of this package. */
+        PyErr_Clear();
+        return PyObject_CallFunction(object->decode, "y#", at, (Py_ssize_t)message->length);
     }
     if (object->kind == OF_BYTES) {
         return PyBytes_FromStringAndSize(at, (Py_ssize_t)message->length);

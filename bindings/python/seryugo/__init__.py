@@ -35,6 +35,7 @@ from .errors import (
     TooLong,
     Torn,
     Unlawful,
+    Unreadable,
     WrongKind,
 )
 from .journal import (
@@ -87,6 +88,7 @@ __all__ = [
     "TooLong",
     "Torn",
     "Unlawful",
+    "Unreadable",
     "Variable",
     "WrongKind",
     "__version__",

@@ -41,7 +41,9 @@ def append_to(file: BinaryIO) -> Sink:
     which has the last sum, is read before a piece is written. If that isn't the end of a piece,
     the call fails with a `ValueError`: cut off first what is torn (`Switchboard.restored_from`).
     It fails so too if the file has an entry where the piece begins, as if a new switchboard gets
-    the file of another one.
+    the file of another one. And it fails so if the file lacks entries before the piece, as if you
+    took them by `take_journal`: append them first, by a call of this sink. If they are lost, as
+    after a `cut`, begin a text anew by `Switchboard.compact_with`.
 
     It goes on with this file, also if another one gets its name. So `Switchboard.compact_with`
     may write a short journal in place of the file's text, but a crash meanwhile loses the text.
@@ -78,8 +80,8 @@ class _Appending:
     def _before(self, number: int, end: int, start: int) -> _Before:
         """Return what follows where the file ends.
 
-        This looks each time, since a short journal may be in place of the text. If the file has
-        an entry at this start of the next piece, the text is another one.
+        This looks each time, since a short journal may be in place of the text. The next piece
+        begins at this start. If the file's entries end elsewhere, no reader would take the piece.
         """
         try:
             entries, before = _found(number, end)
@@ -90,6 +92,8 @@ class _Appending:
             raise
         if entries > start:
             raise ValueError("the file has other entries where the next piece begins")
+        if entries < start:
+            raise ValueError("the file lacks entries before those of the next piece")
         return before
 
 

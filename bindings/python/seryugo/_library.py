@@ -8,6 +8,7 @@ import subprocess
 from ctypes import (
     POINTER,
     Structure,
+    byref,
     c_bool,
     c_char,
     c_char_p,
@@ -241,6 +242,24 @@ def taken_over(message: Bytes) -> bytes:
         return cast(bytes, message.block[:length])
     finally:
         bytes_release(message.owner)
+
+
+# An open handle. No call of a room, a journal or a checker takes it.
+_taken_by_none = Handle()
+if reading_open(byref(_taken_by_none)) != DONE:
+    raise MemoryError("there is no memory for the library")
+
+
+def close_for_good(handle: Handle) -> None:
+    """Close a handle, if it was opened, so that the library refuses each later call on it.
+
+    If Python collects a cycle of objects, it closes their handles before it calls the `__del__` of
+    any, and those may still call the library.
+    """
+    if handle.at:
+        opened = Handle(handle.at)
+        handle.at = _taken_by_none.at
+        close(opened)
 
 
 def entry_free(entry: Entry) -> None:

@@ -4,6 +4,8 @@ from __future__ import annotations
 
 from typing import Any, Callable, Dict, Generic, Type, TypeVar, Union
 
+from . import errors
+
 T = TypeVar("T", bytes, str, int)
 
 Message = Union[bytes, str, int]
@@ -47,6 +49,13 @@ def _of_str(message: str) -> bytes:
     return message.encode()
 
 
+def _to_str(data: bytes) -> str:
+    try:
+        return data.decode()
+    except UnicodeDecodeError as error:
+        raise errors.Unreadable(*error.args) from None
+
+
 def _of_int(message: int) -> bytes:
     """Two's complement in as few bytes as hold the number and its sign, the lowest first."""
     if not isinstance(message, int):
@@ -62,9 +71,18 @@ BYTES = Codec(bytes, _of_bytes, _to_bytes)
 
 _CODECS: Dict[type, Codec[Any]] = {
     bytes: BYTES,
-    str: Codec(str, _of_str, bytes.decode),
+    str: Codec(str, _of_str, _to_str),
     int: Codec(int, _of_int, _to_int),
 }
+
+
+def read_by(codec: Codec[Any], data: bytes) -> Message:
+    """Return the message of these bytes, or the bytes if they aren't one of this type."""
+    try:
+        message: Message = codec.decode(data)
+    except errors.Unreadable:
+        return data
+    return message
 
 
 def codec_of(of: Type[T]) -> Codec[T]:

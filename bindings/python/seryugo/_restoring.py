@@ -2,6 +2,7 @@
 
 from __future__ import annotations
 
+import re
 from contextlib import contextmanager
 from ctypes import byref, c_uint64
 from typing import Iterable, Iterator, Optional, Tuple
@@ -11,6 +12,10 @@ from . import errors
 from ._kept import Kept, Lines
 from ._library import DONE, NOTHING
 from .journal import Journal
+
+
+# How much of a text is looked at to say what is wrong with its first line.
+_HEAD = 32
 
 
 def restored(
@@ -62,13 +67,25 @@ def _read_from(
 
 
 def _read(reading: library.Handle, parts: Iterable[bytes], lines: Lines) -> None:
+    head = b""
     for part in parts:
         if not isinstance(part, bytes):
             raise TypeError(f"a part of a text is bytes, and not {type(part).__name__}")
+        head = (head + part[:_HEAD])[:_HEAD]
         code = library.reading_take(byref(reading), part, len(part))
         if code != DONE:
-            raise _stopped(reading, code)
+            raise _stopped(reading, code, head)
         lines.note(part)
+
+
+def _flaw_of(head: bytes) -> Optional[str]:
+    """Return what is wrong with a text's first line, if that is known."""
+    words = re.match(rb"journal ([0-9]+)[ \n]", head)
+    if not words:
+        return "this is no journal"
+    if words[1] in (b"1", b"3"):
+        return "it has numbers, and this package reads messages of bytes"
+    return None if words[1] in (b"2", b"4") else "it is of another version"
 
 
 def _entries(reading: library.Handle) -> int:
@@ -86,12 +103,12 @@ def _sum(reading: library.Handle) -> Optional[bytes]:
     return bytes(last.bytes) if last.is_there else None
 
 
-def _stopped(reading: library.Handle, code: int) -> errors.SeryugoError:
-    """Return why a reading has stopped."""
+def _stopped(reading: library.Handle, code: int, head: bytes) -> errors.SeryugoError:
+    """Return why the reading of a text with this head has stopped."""
     if code == errors.Fault.code:
         count = c_uint64()
         library.reading_lines(byref(reading), byref(count))
-        return errors.Fault(count.value + 1)
+        return errors.Fault(count.value + 1, None if count.value else _flaw_of(head))
     if code == errors.Unlawful.code:
         return errors.Unlawful(_entries(reading))
     return errors.of_code(code)

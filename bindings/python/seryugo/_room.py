@@ -42,7 +42,7 @@ class Room:
 
     def __init__(self, room: library.Handle) -> None:
         # At its end the process frees all memory, and threads may be in a call then.
-        weakref.finalize(self, library.close, room).atexit = False
+        weakref.finalize(self, library.close_for_good, room).atexit = False
         self.handle = byref(room)
         self.lock = new_lock()
         # What cuts a full journal, if that isn't left to the switchboard's owner.

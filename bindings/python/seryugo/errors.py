@@ -2,7 +2,7 @@
 
 from __future__ import annotations
 
-from typing import Dict, Optional, Type
+from typing import Any, Dict, Optional, Tuple, Type
 
 
 class SeryugoError(Exception):
@@ -85,6 +85,16 @@ class OutOfBounds(SeryugoError, ValueError):
     words = "a limit isn't from 1 to 2^32, or a message has more than 2^32 - 1 bytes"
 
 
+class Unreadable(SeryugoError, UnicodeDecodeError):
+    """A message isn't UTF-8, though its object was named as one of `str`.
+
+    The call was made: if it receives, it has received the message. `object` has its bytes.
+    """
+
+    def __init__(self, encoding: str, message: bytes, start: int, end: int, reason: str) -> None:
+        UnicodeDecodeError.__init__(self, encoding, message, start, end, reason)
+
+
 class Unlawful(SeryugoError):
     """A checked journal is no lawful history of one thread.
 
@@ -97,15 +107,23 @@ class Unlawful(SeryugoError):
         super().__init__(f"the entry at position {position} isn't lawful")
         self.position = position
 
+    def __reduce__(self) -> Tuple[Any, ...]:
+        return type(self), (self.position,)
+
 
 class Fault(SeryugoError):
     """The text of a journal has a fault. `line` has its line, counted from 1."""
 
     code = 18
 
-    def __init__(self, line: int) -> None:
-        super().__init__(f"the journal's text has a fault on line {line}")
+    def __init__(self, line: int, why: Optional[str] = None) -> None:
+        words = f"the journal's text has a fault on line {line}"
+        super().__init__(f"{words}: {why}" if why else words)
         self.line = line
+        self._why = why
+
+    def __reduce__(self) -> Tuple[Any, ...]:
+        return type(self), (self.line, self._why)
 
 
 class Torn(SeryugoError):
@@ -135,6 +153,9 @@ _KINDS = (
     TooLong,
 )
 
+# What the library returns for an object that Python has collected, in a cycle with its user.
+COLLECTED = 15
+
 _BY_CODE: Dict[int, Type[SeryugoError]] = {kind.code: kind for kind in _KINDS}
 
 
@@ -143,6 +164,8 @@ def of_code(code: int, named: object = None) -> SeryugoError:
 
     If the call was on an object, `NoSuch` and `WrongKind` name it.
     """
+    if code == COLLECTED:
+        return SeryugoError("Python has collected the switchboard or the journal")
     kind = _BY_CODE.get(code)
     if kind is None:
         return SeryugoError(f"the library returned {code}")

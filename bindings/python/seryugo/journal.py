@@ -14,7 +14,7 @@ from . import errors
 from ._calls import ON_NO_OBJECT, WITH_MESSAGE
 from ._calls import CallKind as CallKind
 from ._library import DONE
-from ._messages import BYTES, Codec, Message
+from ._messages import BYTES, Codec, Message, read_by
 from ._start import UNWRITTEN, Start, at_nothing
 from ._unpicklable import Unpicklable
 
@@ -66,7 +66,10 @@ class Reply:
 
 @dataclass(frozen=True)
 class Entry:
-    """One accepted call."""
+    """One accepted call.
+
+    A message has its object's type. If an object of `str` has one that isn't UTF-8, it is `bytes`.
+    """
 
     maker: Maker
     call: Call
@@ -86,8 +89,8 @@ def entry_of(found: library.Entry, codecs: Dict[int, Codec[Any]]) -> Entry:
         on = None if call in ON_NO_OBJECT else found.call.object
         named = made if call is CallKind.MVAR_INIT else on
         codec = BYTES if named is None else codecs.get(named, BYTES)
-        sent = codec.decode(_bytes_at(found.call.message)) if call in WITH_MESSAGE else None
-        got = codec.decode(_bytes_at(found.reply.message)) if reply is ReplyKind.GOT else None
+        sent = read_by(codec, _bytes_at(found.call.message)) if call in WITH_MESSAGE else None
+        got = read_by(codec, _bytes_at(found.reply.message)) if reply is ReplyKind.GOT else None
         maker = Maker(MakerKind(found.maker.kind), found.maker.number)
         return Entry(maker, Call(call, on, sent), Reply(reply, made, got))
     finally:
@@ -106,7 +109,7 @@ class Journal(Unpicklable):
     def __init__(self, codecs: Dict[int, Codec[Any]], text: Optional[Start] = None) -> None:
         """Make one without entries, which is to be added to this text. `_take` gives it some."""
         handle = library.Handle()
-        weakref.finalize(self, _close, handle).atexit = False
+        weakref.finalize(self, library.close_for_good, handle).atexit = False
         self._handle = byref(handle)
         self._text = text or at_nothing()
         self._start = c_uint64()
@@ -212,12 +215,6 @@ class Journal(Unpicklable):
         return entry_of(found, self._codecs)
 
 
-def _close(handle: library.Handle) -> None:
-    """Close a handle, if it was opened."""
-    if handle.at:
-        library.close(handle)
-
-
 class Checker(Unpicklable):
     """Says how far the journals of one switchboard are a lawful history of one thread.
 
@@ -231,7 +228,7 @@ class Checker(Unpicklable):
         code = library.checker_open(byref(handle))
         if code != DONE:
             raise errors.of_code(code)
-        weakref.finalize(self, library.close, handle).atexit = False
+        weakref.finalize(self, library.close_for_good, handle).atexit = False
         self._handle = byref(handle)
         self._lock = threading.Lock()
         # How many entries the journals had that were fed whole.

@@ -51,8 +51,11 @@ class Source(Object[T]):
     __slots__ = ()
 
     def __len__(self) -> int:
-        """Count the messages that wait in a mailbox, or are owed to an open port."""
-        return self._room.count(library.owed, self._name)
+        """Count the messages that wait in a mailbox, or are owed to an open port.
+
+        Fails with `NoSuch` if the port is closed.
+        """
+        return owed_to(self._room, self)
 
     def __bool__(self) -> bool:
         """Return true, also while no message waits."""
@@ -93,6 +96,15 @@ class MVar(Variable[T]):
     """A variable that is filled and emptied again."""
 
     __slots__ = ()
+
+
+def owed_to(room: Room, source: Object[Any]) -> int:
+    """Count what waits in a mailbox of this room, or is owed to an open port of it."""
+    name = name_in(room, source)
+    try:
+        return room.count(library.owed, name)
+    except errors.NoSuch:
+        raise errors.NoSuch(f"nothing is owed to a closed port: {source!r}") from None
 
 
 def name_in(room: Room, named: Object[Any]) -> c_uint64:

@@ -75,7 +75,7 @@ class Seat(Unpicklable):
             self._has_left = True
             self._room.drop(self.number)
             raise
-        if code != DONE:
+        if code not in (DONE, errors.COLLECTED):
             raise errors.of_code(code)
         self._has_left = True
 

@@ -17,7 +17,18 @@ from ._restoring import restored
 from ._room import Room
 from ._unpicklable import Unpicklable
 from .journal import Entry, Journal, entry_of
-from .objects import Channel, IVar, Mailbox, MVar, Object, Port, Source, Variable, name_in
+from .objects import (
+    Channel,
+    IVar,
+    Mailbox,
+    MVar,
+    Object,
+    Port,
+    Source,
+    Variable,
+    name_in,
+    owed_to,
+)
 from .seat import Seat
 
 R = TypeVar("R")
@@ -283,7 +294,7 @@ class Switchboard(Unpicklable):
 
     def owed(self, source: Source[T]) -> int:
         """Count the messages that wait in a mailbox, or are owed to an open port."""
-        return self._room.count(library.owed, self._name(source))
+        return owed_to(self._room, source)
 
     def kept(self, target: Union[Mailbox[T], Channel[T]]) -> int:
         """Count the messages of a mailbox or a channel that are kept."""

@@ -313,7 +313,7 @@ class TheSame(unittest.TestCase):
                 seat.send(seat.mailbox(bytes), b"\xff")
             again = Switchboard.restore([board.take_journal().text()])
             seat = kind(again._room, *again._room.seat())
-            with seat, self.assertRaisesRegex(UnicodeDecodeError, "can't decode byte 0xff"):
+            with seat, self.assertRaisesRegex(seryugo.Unreadable, "can't decode byte 0xff"):
                 seat.recv(again.mailbox(0, str))
 
 

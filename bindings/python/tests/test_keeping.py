@@ -177,6 +177,39 @@ class Keeping(unittest.TestCase):
             file.seek(0)
             self.assertEqual(Switchboard.restore(file).entries, 21)
 
+    def test_no_piece_is_written_after_a_gap(self):
+        with tempfile.TemporaryFile() as file:
+            sink = append_to(file)
+            board = Switchboard(3, when_full=sink)
+            with board.seat() as seat:
+                mailbox = seat.mailbox(int)
+                for number in range(4):
+                    seat.send(mailbox, number)
+                taken = board.take_journal()
+                seat.send(mailbox, 4)
+                for _ in range(2):
+                    with self.assertRaisesRegex(ValueError, "lacks entries before"):
+                        board.keep()
+                sink(taken)
+                seat.send(mailbox, 5)
+            board.keep()
+            file.seek(0)
+            self.assertEqual(Switchboard.restore(file).entries, 7)
+
+    def test_no_file_begins_with_a_gap(self):
+        with tempfile.TemporaryFile() as file:
+            board = Switchboard(10, when_full=append_to(file))
+            with board.seat() as seat:
+                mailbox = seat.mailbox(int)
+                board.cut()
+                seat.send(mailbox, 1)
+            with self.assertRaisesRegex(ValueError, "lacks entries before"):
+                board.keep()
+            board.compact_with(append_to(file))
+            file.seek(0)
+            restored = Switchboard.restore(file)
+        self.assertEqual(len(restored.mailbox(0, int)), 1)
+
     def test_a_cut_drops_entries_that_no_sink_can_take(self):
         board = Switchboard(2, when_full=self.sink)
         with board.seat() as seat:

@@ -75,6 +75,31 @@ class Messages(unittest.TestCase):
             self.seat.send(mailbox, "\ud800")
         self.assertEqual(self.board.sent(mailbox), 0)
 
+    def test_bytes_that_are_no_str(self):
+        board = Switchboard.restore(
+            [
+                b"journal 2\n",
+                b"seat 0 mailbox: made 0\n",
+                b"seat 0 send 0 =%FF: done\n",
+                b"seat 0 mvar =%FE: made 1\n",
+                b"end 3\n",
+            ]
+        )
+        mailbox, variable = board.mailbox(0, str), board.mvar(1, str)
+        with board.seat() as seat:
+            for read, message in (
+                (lambda: board.held(variable), b"\xfe"),
+                (lambda: seat.get_poll(variable), b"\xfe"),
+                (lambda: seat.recv(mailbox), b"\xff"),
+            ):
+                with self.assertRaisesRegex(seryugo.Unreadable, "can't decode byte") as refused:
+                    read()
+                self.assertEqual(refused.exception.object, message)
+            self.assertEqual(len(mailbox), 0)
+            seat.send(mailbox, "hello")
+        messages = [entry.reply.message for entry in board.take_journal()]
+        self.assertEqual(messages, [b"\xfe", b"\xff", None])
+
     def test_the_type_goes_on(self):
         channel = self.seat.channel(int)
         port = self.seat.port(channel)

@@ -5,7 +5,7 @@ import pickle
 import threading
 import unittest
 
-from seryugo import Checker, Closed, Switchboard
+from seryugo import Checker, Closed, Fault, NoSuch, Switchboard, Unlawful, Unreadable
 
 
 class Ways(unittest.TestCase):
@@ -79,5 +79,16 @@ class Ways(unittest.TestCase):
                     way(one)
 
     def test_errors_are_pickled(self):
-        error = pickle.loads(pickle.dumps(Closed()))
-        self.assertEqual((type(error), str(error)), (Closed, "the port is closed"))
+        unreadable = Unreadable("utf-8", b"\xff", 0, 1, "invalid start byte")
+        for error in Closed(), Unlawful(3), Fault(7), Fault(1, "why"), unreadable:
+            for again in pickle.loads(pickle.dumps(error)), copy.copy(error):
+                self.assertEqual(
+                    (type(again), str(again), vars(again)), (type(error), str(error), vars(error))
+                )
+
+    def test_a_closed_port_has_no_length(self):
+        port = self.ben.port(self.ben.channel(str))
+        self.ben.close_port(port)
+        for count in len, self.board.owed:
+            with self.assertRaisesRegex(NoSuch, "nothing is owed to a closed port: <Port 1 of"):
+                count(port)

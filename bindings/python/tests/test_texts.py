@@ -122,6 +122,23 @@ class Texts(unittest.TestCase):
             Switchboard.restore([first, b"journal 2\nwhat\n"])
         self.assertEqual(told.exception.line, 7)
 
+    def test_a_fault_on_the_first_line_says_why(self):
+        reasons = (
+            (b"journal 1\nend 0\n", "numbers"),
+            (b"journal 3\nend 0 x\n", "numbers"),
+            (b"journal 5\n", "another version"),
+            (b"hello\n", "no journal"),
+            (b"journal 2 x\n", None),
+        )
+        for text, reason in reasons:
+            for parts in [text], [bytes([byte]) for byte in text]:
+                with self.subTest(text), self.assertRaises(seryugo.Fault) as refused:
+                    Switchboard.restore(parts)
+                words, _, why = str(refused.exception).partition(": ")
+                self.assertEqual(words, "the journal's text has a fault on line 1")
+                self.assertEqual(bool(why), reason is not None)
+                self.assertIn(reason or "", why)
+
     def test_unlawful(self):
         first, second = self.history()
         with self.assertRaises(seryugo.Unlawful) as told:
