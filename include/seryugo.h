@@ -627,7 +627,9 @@ uint32_t seryugo_checker_verdict(const struct seryugo *checker, uint64_t *count)
  * seryugo_reading_take and seryugo_reading_end return the code by which it stopped, and nothing more is read.
  */
 
-/* Opens a reading of a journal of numbers, or of bytes. SERYUGO_NO_MEMORY: *reading is as it was. */
+/* Opens a reading of a journal of numbers, whose first line is `journal 1` or begins with `journal 3`, or of one of bytes, which has
+ * 2 or 4 there. A journal of the other kind, or of a version to come, has a fault on its first line. SERYUGO_NO_MEMORY: *reading is as
+ * it was. */
 uint32_t seryugo_reading_open(struct seryugo *reading);
 uint32_t seryugo_bytes_reading_open(struct seryugo *reading);
 
