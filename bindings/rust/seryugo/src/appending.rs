@@ -3,6 +3,7 @@
 use crate::journal::Journal;
 use crate::room::Room;
 use crate::sum::Sum;
+use std::cmp::Ordering;
 use std::fs::File;
 use std::io::{self, ErrorKind, Read, Seek, SeekFrom};
 
@@ -11,8 +12,16 @@ const LAST_LINE: u64 = 96;
 
 pub(crate) struct Appending {
     file: File,
-    /// Where the file ended after the last piece, and what follows it.
-    left: Option<(u64, Form)>,
+    /// Where the file ended after the last piece, and how.
+    left: Option<(u64, Ending)>,
+}
+
+/// How a file ends.
+#[derive(Clone, Copy)]
+struct Ending {
+    /// The position after the last entry.
+    entries: u64,
+    form: Form,
 }
 
 /// What the next piece follows.
@@ -37,7 +46,9 @@ impl Appending {
         self.file.seek(SeekFrom::Start(end))?;
         match self.write(form, journal) {
             Ok(form) => {
-                self.left = self.file.stream_position().ok().map(|end| (end, form));
+                let entries = journal.first() + journal.len() as u64;
+                let ending = Ending { entries, form };
+                self.left = self.file.stream_position().ok().map(|end| (end, ending));
                 Ok(())
             }
             Err(error) => {
@@ -48,22 +59,36 @@ impl Appending {
         }
     }
 
-    /// What follows where the file ends. It looks each time, since the file's owner may have put a
-    /// short journal in place of the text. The next piece begins at this position: if the file has
-    /// an entry there, the text is another one.
+    /// What a piece follows whose first entry has this position. An empty file takes any piece: it
+    /// may be the next one of a switchboard that begins a new file now and then.
     fn form_at(&mut self, end: u64, first: u64) -> io::Result<Form> {
-        match (form_of(&mut self.file, end), self.left) {
-            (Ok((entries, _)), _) if entries > first => {
+        if end == 0 {
+            return Ok(Form::Sealed(None));
+        }
+        let Ending { entries, form } = self.ending(end)?;
+        match entries.cmp(&first) {
+            Ordering::Equal => Ok(form),
+            Ordering::Greater => {
                 Err(unfit("the file has other entries where the next piece begins"))
             }
-            (Ok((_, form)), _) => Ok(form),
+            Ordering::Less => Err(unfit(
+                "the file lacks the entries before the next piece: append those that were taken by \
+                 hand, or go on with an empty file",
+            )),
+        }
+    }
+
+    /// How the file ends, which isn't empty. It looks each time, since the file's owner may have
+    /// put a short journal in place of the text.
+    fn ending(&mut self, end: u64) -> io::Result<Ending> {
+        match (ending_of(&mut self.file, end), self.left) {
             // The file is open for writing alone, and ends with what this wrote.
-            (Err(error), Some((left, form)))
+            (Err(error), Some((left, ending)))
                 if error.kind() != ErrorKind::InvalidData && left == end =>
             {
-                Ok(form)
+                Ok(ending)
             }
-            (Err(error), _) => Err(error),
+            (ending, _) => ending,
         }
     }
 
@@ -84,19 +109,16 @@ fn unfit(why: &str) -> io::Error {
     io::Error::new(ErrorKind::InvalidData, why)
 }
 
-/// How many entries a file of this length has, and what follows, by its last line.
-fn form_of(file: &mut File, length: u64) -> io::Result<(u64, Form)> {
-    if length == 0 {
-        return Ok((0, Form::Sealed(None)));
-    }
+/// How a file of this length ends, by its last line.
+fn ending_of(file: &mut File, length: u64) -> io::Result<Ending> {
     file.seek(SeekFrom::Start(length.saturating_sub(LAST_LINE)))?;
     let mut tail = Vec::new();
     file.take(LAST_LINE).read_to_end(&mut tail)?;
     ended(&tail).ok_or_else(|| unfit("the file doesn't end with a piece of a journal"))
 }
 
-/// How many entries a text has that ends so, and what follows.
-fn ended(tail: &[u8]) -> Option<(u64, Form)> {
+/// How a text ends whose last bytes are these.
+fn ended(tail: &[u8]) -> Option<Ending> {
     let (_, line) = std::str::from_utf8(tail).ok()?.strip_suffix('\n')?.rsplit_once('\n')?;
     let mut words = line.strip_prefix("end ")?.split(' ');
     let entries = words.next()?.parse().ok()?;
@@ -104,5 +126,5 @@ fn ended(tail: &[u8]) -> Option<(u64, Form)> {
         Some(sum) => Form::Sealed(Some(sum.parse().ok()?)),
         None => Form::Plain,
     };
-    words.next().is_none().then_some((entries, form))
+    words.next().is_none().then_some(Ending { entries, form })
 }

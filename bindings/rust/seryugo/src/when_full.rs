@@ -96,8 +96,15 @@ impl<R: Room> WhenFull<R> {
     /// that has such pieces, or pieces without sums, gets more of them. Open it for reading too:
     /// the last line, which has the last sum, is read before a piece is written. If that isn't the
     /// end of a piece, nothing is written: cut off first what is torn
-    /// ([`restore_torn`](crate::Switchboard::restore_torn)). Nor is anything written if the file
-    /// has an entry where the piece begins, as if a new switchboard gets the file of another one.
+    /// ([`restore_torn`](crate::Switchboard::restore_torn)).
+    ///
+    /// A file that isn't empty must end where the piece begins. Nothing is written if it has an
+    /// entry there, as that of another switchboard. Nor is anything if it lacks entries before, as
+    /// after [`take_journal`](crate::Switchboard::take_journal) or
+    /// [`cut`](crate::Switchboard::cut). The call fails with [`NotKept`](Error::NotKept), and the
+    /// switchboard keeps the entries: append first what you took, or make the file empty. An empty
+    /// file takes any piece. If that doesn't begin at position 0, the text goes on from another
+    /// file, and can't be restored alone.
     ///
     /// It goes on with this file, also if another one gets its name. So
     /// [`compact_with`](crate::Switchboard::compact_with) may write a short journal in place of the

@@ -317,6 +317,86 @@ fn the_file_of_another_switchboard_gets_no_piece() {
     assert_eq!(scratch.text(), before);
 }
 
+/// A switchboard whose file has its first entry.
+fn begun(file: File) -> Board {
+    let board = Switchboard::of_numbers(LIMIT).unwrap().when_full(WhenFull::file(file));
+    board.seat().unwrap().mailbox().unwrap();
+    board.keep().unwrap();
+    board.seat().unwrap().mailbox().unwrap();
+    board
+}
+
+/// The file gets nothing, as it lacks entries before.
+fn assert_gap(board: &Board, scratch: &Scratch) {
+    let before = scratch.text();
+    assert_eq!(board.keep(), Err(Error::NotKept));
+    let why = board.keeping_error().unwrap();
+    assert_eq!(why.kind(), ErrorKind::InvalidData);
+    assert!(why.to_string().starts_with("the file lacks the entries before"), "{why}");
+    assert_eq!(scratch.text(), before);
+}
+
+/// What was refused is kept, and is appended once the file has what was taken by hand.
+#[test]
+fn a_file_gets_no_piece_before_what_was_taken_by_hand() {
+    let scratch = Scratch::new("taken");
+    for can_be_read in [true, false] {
+        fs::write(&scratch.0, "").unwrap();
+        let file = File::options().read(can_be_read).append(true).open(&scratch.0).unwrap();
+        let board = begun(file);
+        let taken = board.take_journal().unwrap();
+        board.seat().unwrap().mailbox().unwrap();
+        assert_gap(&board, &scratch);
+        let sum = checked(Checker::of_numbers().unwrap(), &scratch.text()).unwrap().sum();
+        taken.write_sealed_to(sum, &mut scratch.open()).unwrap();
+        let board = board.when_full(WhenFull::file(scratch.open()));
+        board.seat().unwrap().mailbox().unwrap();
+        board.keep().unwrap();
+        let restored = Board::restore(&scratch.text()[..], LIMIT).unwrap();
+        assert_eq!((restored.entries(), board.entries()), (4, 4));
+    }
+}
+
+#[test]
+fn a_file_that_lacks_dropped_entries_gets_no_piece_until_it_is_empty() {
+    let scratch = Scratch::new("cut");
+    let board = begun(scratch.open());
+    let whole = scratch.text();
+    fs::write(&scratch.0, "torn").unwrap();
+    assert_eq!(board.keep(), Err(Error::NotKept));
+    fs::write(&scratch.0, whole).unwrap();
+    // The entries that the sink didn't take are dropped.
+    board.cut().unwrap();
+    board.seat().unwrap().mailbox().unwrap();
+    assert_gap(&board, &scratch);
+    fs::write(&scratch.0, "").unwrap();
+    board.keep().unwrap();
+    assert!(scratch.text().starts_with(b"journal 3\nfrom 2\n"));
+    board.seat().unwrap().mailbox().unwrap();
+    board.keep().unwrap();
+    assert!(String::from_utf8(scratch.text()).unwrap().contains("\nend 4 "));
+}
+
+#[test]
+fn a_short_journal_that_is_not_written_leaves_the_file_as_it_is() {
+    let scratch = Scratch::new("unwritten");
+    let board = begun(scratch.open());
+    let mut seat = board.seat().unwrap();
+    let mailbox = board.mailbox(0).unwrap();
+    for number in 0..10 {
+        seat.send(mailbox, number).unwrap();
+        seat.recv(mailbox).unwrap();
+    }
+    let short = board.compact_and_cut().unwrap();
+    seat.send(mailbox, 7).unwrap();
+    assert_gap(&board, &scratch);
+    fs::write(&scratch.0, "").unwrap();
+    short.write_sealed_to(None, &mut scratch.open()).unwrap();
+    board.keep().unwrap();
+    let restored = Board::restore(&scratch.text()[..], LIMIT).unwrap();
+    assert_eq!((restored.entries(), restored.owed(restored.mailbox(0).unwrap())), (3, Ok(1)));
+}
+
 #[test]
 fn a_torn_file_gets_no_piece() {
     let scratch = Scratch::new("torn");
