@@ -159,6 +159,7 @@ clean_in_rust() {
 from_rust() {
     cp -r bindings "$work/bindings"
     ln -s "$PWD/examples" "$work/examples"
+    ln -s "$PWD/docs" "$work/docs"
     check 'the crate in Rust' cargo_does test --all-features
     if has valgrind 'the crate in Rust without a fault of memory'; then
         for tests in codes keeping typed odd_messages owned explore; do
