@@ -2,7 +2,8 @@
 # A process that keeps its journal, killed ten times: `sh tests/keep_journal.sh ROOMS CHECK WORD..`, with the archive of cml_c, and
 # the command that checks a journal. The program is examples/programs/keep_journal, in Rust. Each run goes on from the file that the runs
 # before left, and is killed at a random time. In the end the journal is lawful, and has each message that was sent and received
-# once, in order; and what was acknowledged is there, byte for byte, from each run on. Then a journal is rerun, also in a debugger.
+# once, in order; and what was acknowledged is there, byte for byte, from each run on. A second process beside one that runs is
+# refused. Then a journal is rerun, also in a debugger.
 # The last line is `N passed, M failed`.
 LC_ALL=C
 export LC_ALL
@@ -78,6 +79,20 @@ killed() {
     fi
 }
 
+# refuses_a_second: while a process has the journal, another one changes nothing, and says so.
+refuses_a_second() {
+    : > "$work/said"
+    "$program" "$folder" "$most" > "$work/said" 2> "$work/errors" &
+    started=$!
+    await goes_on
+    run "$folder" 0
+    kill -9 "$started"
+    wait "$started" 2> /dev/null
+    started=
+    front >> "$work/fronts"
+    [ "$status" -eq 1 ] && [ ! -s "$work/out" ] && [ "$(cat "$work/err")" = "keep_journal: $journal: another process has the file" ]
+}
+
 # A piece is begun, of which the disk has only some bytes.
 tear() {
     end=$(sed -n '$s/^end \([0-9]*\) .*/\1/p' "$journal")
@@ -144,6 +159,7 @@ for _ in 1 2 3 4 5; do
     killed has_more
 done
 echo "killed 10 times, $torn times with a part that was not acknowledged; $(acknowledged entries) entries were"
+check 'a second process is refused' refuses_a_second
 ends 0
 tear
 ends 100

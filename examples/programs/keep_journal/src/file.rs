@@ -2,7 +2,7 @@
 
 use seryugo::{Journal, Numbers, Sum, Switchboard};
 use std::error::Error;
-use std::fs::{self, OpenOptions};
+use std::fs::{self, OpenOptions, TryLockError};
 use std::io::{self, BufReader, Seek, SeekFrom, Write};
 use std::path::Path;
 
@@ -17,10 +17,14 @@ pub struct File {
 impl File {
     /// Opens the files in a folder, and goes on from what they have. What a killed process left of a piece is kept up to its last
     /// whole line, and the piece gets its end.
+    ///
+    /// Errors: another process has the journal. Then nothing is changed.
     pub fn open(folder: &Path, limit: u64) -> Result<(File, Switchboard<Numbers>), Box<dyn Error>> {
         let mut options = OpenOptions::new();
         options.read(true).append(true).create(true);
-        let mut journal = options.open(folder.join("journal"))?;
+        let path = folder.join("journal");
+        let mut journal = options.open(&path)?;
+        lock(&journal, &path)?;
         let kept = options.open(folder.join("kept"))?;
         let (board, whole) = Switchboard::restore_torn(BufReader::with_capacity(1 << 16, &journal), limit)?;
         if whole.bytes > 0 && whole.sum.is_none() {
@@ -43,5 +47,14 @@ impl File {
         let bytes = self.journal.seek(SeekFrom::End(0))?;
         // One write, so that a process that is killed leaves the whole line or none.
         self.kept.write_all(format!("kept {entries} entries {bytes} bytes\n").as_bytes())
+    }
+}
+
+/// Locks the journal against other processes until it is closed, also by a kill.
+fn lock(journal: &fs::File, path: &Path) -> Result<(), Box<dyn Error>> {
+    match journal.try_lock() {
+        Ok(()) => Ok(()),
+        Err(TryLockError::WouldBlock) => Err(format!("{}: another process has the file", path.display()).into()),
+        Err(TryLockError::Error(error)) => Err(error.into()),
     }
 }

@@ -8,6 +8,8 @@
 //! 10,000 entries, each with a sum. Once a piece is on the disk, a line of FOLDER/kept says so: `kept 20000 entries 538897 bytes`. With MESSAGES
 //! each thread ends after this many messages. With --rerun the threads go in the order of the journal in FOLDER, which one process
 //! has written that ended by itself: run that under a debugger. `tests/keep_journal.sh` kills the program ten times.
+//!
+//! While a process has the journal, another one changes nothing in FOLDER. It says so, and ends with status 1, as each that fails.
 
 mod file;
 
@@ -18,6 +20,7 @@ use std::error::Error as AnyError;
 use std::fs;
 use std::io::BufReader;
 use std::path::{Path, PathBuf};
+use std::process::ExitCode;
 use std::sync::mpsc::sync_channel;
 use std::{env, thread};
 
@@ -34,7 +37,17 @@ const WAITING: usize = 4;
 
 const USAGE: &str = "usage: keep_journal FOLDER [MESSAGES], or keep_journal --rerun FOLDER MESSAGES";
 
-fn main() -> Result<(), Box<dyn AnyError>> {
+fn main() -> ExitCode {
+    match run() {
+        Ok(()) => ExitCode::SUCCESS,
+        Err(error) => {
+            eprintln!("keep_journal: {error}");
+            ExitCode::FAILURE
+        }
+    }
+}
+
+fn run() -> Result<(), Box<dyn AnyError>> {
     let mut words = env::args().skip(1).peekable();
     let is_rerun = words.next_if(|word| word == "--rerun").is_some();
     let folder = PathBuf::from(words.next().ok_or(USAGE)?);
