@@ -1,6 +1,7 @@
 //! A journal's text, checked as it is read.
 
 use crate::error::Error;
+use crate::header;
 use crate::journal::Journal;
 use crate::kept::{Kept, Lines};
 use crate::raw::{self, code, written, Handle};
@@ -47,11 +48,17 @@ pub struct Checker<R: Room = Bytes> {
 /// # Ok::<(), CheckError>(())
 /// ```
 #[derive(Debug)]
+#[non_exhaustive]
 pub enum CheckError {
     /// The entry at this position, counted from 0, is the first that isn't lawful.
     Unlawful(u64),
     /// This line, counted from 1, has a fault; or it says that the journal begins after a cut.
     Fault(u64),
+    /// The messages are numbers by the text's first line, and the checker or the switchboard is one
+    /// of bytes; or the other way round.
+    OtherMessages,
+    /// By its first line the text has this version, which the linked library doesn't read.
+    OtherVersion(u64),
     /// The reader failed. What it gave before is read: read the rest by another reader.
     Io(io::Error),
     /// There is no memory. Read the journal again by another checker.
@@ -65,6 +72,12 @@ impl fmt::Display for CheckError {
         match self {
             CheckError::Unlawful(at) => write!(f, "the entry at position {at} isn't lawful"),
             CheckError::Fault(line) => write!(f, "line {line} of the journal has a fault"),
+            CheckError::OtherMessages => {
+                f.write_str("the journal's messages are those of the other kind of switchboard")
+            }
+            CheckError::OtherVersion(version) => {
+                write!(f, "the journal's text has version {version}, and not 1 to 4")
+            }
             CheckError::Io(error) => error.fmt(f),
             CheckError::NoMemory => f.write_str("there is no memory to read the journal"),
             CheckError::Library(error) => error.fmt(f),
@@ -181,7 +194,10 @@ impl<R: Room> Checker<R> {
                 self.lines.note(part);
                 Ok(())
             }
-            code => Err(self.stopped(code)),
+            code => {
+                self.lines.stop(part);
+                Err(self.stopped(code))
+            }
         }
     }
 
@@ -189,9 +205,18 @@ impl<R: Room> Checker<R> {
     fn stopped(&self, code: u32) -> CheckError {
         match code {
             code::UNLAWFUL => CheckError::Unlawful(self.entries()),
-            code::FAULT => CheckError::Fault(self.whole_lines().saturating_add(1)),
+            code::FAULT => self.fault(),
             code => Error::of_code(code).into(),
         }
+    }
+
+    /// The fault in the line after the whole ones.
+    fn fault(&self) -> CheckError {
+        let refused = match self.whole_lines() {
+            0 => self.lines.first().and_then(header::refused::<R>),
+            _ => None,
+        };
+        refused.unwrap_or(CheckError::Fault(self.whole_lines().saturating_add(1)))
     }
 
     /// How many entries were read, each of which is lawful.

@@ -71,6 +71,17 @@ impl Lines {
         self.begin(&part[end + 1..]);
     }
 
+    /// Takes the part in which the reading stopped.
+    pub fn stop(&mut self, part: &[u8]) {
+        self.begin(part);
+    }
+
+    /// The text's first line, if no line was whole before the reading stopped. `None` if it is
+    /// longer than a piece's first line.
+    pub fn first(&self) -> Option<&[u8]> {
+        self.open.split_inclusive(|byte| *byte == b'\n').next()?.strip_suffix(b"\n")
+    }
+
     /// Bytes of a line that doesn't end among them.
     fn begin(&mut self, part: &[u8]) {
         let looked_at = part.len().min(LOOKED_AT - self.open.len());

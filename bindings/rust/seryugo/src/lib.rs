@@ -180,6 +180,7 @@ pub mod explore;
 mod feed;
 mod guest;
 mod halves;
+mod header;
 mod inside;
 mod iter;
 mod journal;

@@ -90,7 +90,7 @@ impl<R: Room> Switchboard<R> {
     ///
     /// # Errors
     ///
-    /// The journal isn't lawful, or has a fault, or ends in the middle.
+    /// The journal isn't lawful, has a fault, is of another type or version, or ends in the middle.
     pub fn restore(journal: impl BufRead, limit: u64) -> Result<Switchboard<R>, RestoreError> {
         let checker = checked(journal)?;
         if !checker.is_whole() {
@@ -126,7 +126,7 @@ impl<R: Room> Switchboard<R> {
     ///
     /// # Errors
     ///
-    /// The journal isn't lawful, or has a fault.
+    /// The journal isn't lawful, has a fault, or is of another type or version.
     pub fn restore_torn(
         journal: impl BufRead,
         limit: u64,

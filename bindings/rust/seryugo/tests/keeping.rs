@@ -4,7 +4,8 @@ mod common;
 
 use common::Board;
 use seryugo::{
-    Call, CheckError, Checker, Error, Kind, Missing, Numbers, Reply, RestoreError, Switchboard, Who,
+    Call, CheckError, Checker, Error, Kind, Missing, Numbers, Reply, RestoreError, Room,
+    Switchboard, Who,
 };
 use std::io::{self, BufReader, Read};
 use std::thread;
@@ -219,8 +220,7 @@ fn what_is_wrong_is_told() {
         Err(error) => panic!("{error}"),
         Ok(_) => 0,
     };
-    assert_eq!(fault("journal 5\n"), 1);
-    assert_eq!(fault("journal 2\n"), 1);
+    assert_eq!(fault("what\n"), 1);
     assert_eq!(fault("journal 1\nfrom 5\n"), 2);
     assert_eq!(fault("journal 1\nseat 0 mailbox: made 0\nwhat\n"), 3);
     assert_eq!(fault("journal 1\nend 0\njournal 1\nfrom 1\n"), 4);
@@ -245,6 +245,66 @@ fn what_is_wrong_is_told() {
         assert!(matches!(restored, Err(RestoreError::OutOfBounds)));
     }
     assert!(Board::restore(&b"journal 1\nend 0\n"[..], 1 << 32).is_ok());
+}
+
+/// First lines of texts, and how a checker of numbers and one of bytes refuse them.
+const OTHERS: [(&str, &str, &str); 14] = [
+    ("journal 1", "none", "OtherMessages"),
+    ("journal 2", "OtherMessages", "none"),
+    ("journal 3", "none", "OtherMessages"),
+    ("journal 4", "OtherMessages", "none"),
+    ("journal 2 x", "OtherMessages", "Fault(1)"),
+    ("journal 3 x", "Fault(1)", "OtherMessages"),
+    ("journal 0", "OtherVersion(0)", "OtherVersion(0)"),
+    ("journal 5 x", "OtherVersion(5)", "OtherVersion(5)"),
+    ("journal 18446744073709551616", "Fault(1)", "Fault(1)"),
+    ("journal 02", "Fault(1)", "Fault(1)"),
+    ("journal +2", "Fault(1)", "Fault(1)"),
+    ("journal 2\r", "Fault(1)", "Fault(1)"),
+    ("journal", "Fault(1)", "Fault(1)"),
+    ("what\njournal 2", "Fault(1)", "Fault(1)"),
+];
+
+/// How a text is refused: by a checker, also if it goes on or makes a short journal, and by a
+/// switchboard.
+fn refused<R: Room>(mut checker: Checker<R>, text: &str, at_once: usize) -> Vec<String> {
+    let reader = || BufReader::with_capacity(at_once, text.as_bytes());
+    let told =
+        |error: Option<CheckError>| error.map_or("none".into(), |error| format!("{error:?}"));
+    let mut refused = vec![told(checker.read(reader()).err())];
+    let restored = Switchboard::<R>::restore_torn(reader(), LIMIT);
+    refused.push(told(restored.err().map(|error| match error {
+        RestoreError::Check(error) => error,
+        error => panic!("{error}"),
+    })));
+    if refused[0] != "none" {
+        refused.push(told(checker.read(&b"journal 2\njournal 1\n"[..]).err()));
+        refused.push(told(checker.compact().err()));
+    }
+    refused
+}
+
+#[test]
+fn a_journal_of_another_type_or_version_is_told_as_such() {
+    for (line, of_numbers, of_bytes) in OTHERS {
+        let text = format!("{line}\nseat 0 mailbox: made 0\n");
+        for at_once in 1..=text.len() {
+            let numbers = refused(Checker::of_numbers().unwrap(), &text, at_once);
+            assert!(numbers.iter().all(|error| error == of_numbers), "{text}{numbers:?}");
+            let bytes = refused(Checker::new().unwrap(), &text, at_once);
+            assert!(bytes.iter().all(|error| error == of_bytes), "{text}{bytes:?}");
+        }
+    }
+    // No header is so long, and no later line is one of another text.
+    let long = format!("journal 2 {}\n", "x".repeat(100));
+    assert!(matches!(checked(long.as_bytes()), Err(CheckError::Fault(1))));
+    let later = checked(b"journal 1\nend 0\njournal 2\n");
+    assert!(matches!(later, Err(CheckError::Fault(3))));
+    let restored = Board::restore(&b"journal 4\n"[..], LIMIT).err().unwrap();
+    let other = "the journal's messages are those of the other kind of switchboard";
+    assert_eq!(restored.to_string(), other);
+    let later = checked(b"journal 9\n").err().unwrap();
+    assert_eq!(later.to_string(), "the journal's text has version 9, and not 1 to 4");
 }
 
 /// Fails at every other read, and gives little at each.

@@ -42,6 +42,7 @@ pub fn told(text: impl Read, error: &CheckError) -> io::Result<String> {
     let mut text = BufReader::with_capacity(1 << 16, text);
     match *error {
         CheckError::Fault(wrong) => fault(&mut text, wrong),
+        CheckError::OtherMessages | CheckError::OtherVersion(_) => fault(&mut text, 1),
         CheckError::Unlawful(position) => unlawful(&mut text, position),
         ref other => Ok(other.to_string()),
     }

@@ -103,9 +103,7 @@ impl fmt::Display for RerunError {
             RerunError::AfterCut(position) => {
                 write!(f, "the journal begins at position {position}, and not at 0")
             }
-            RerunError::OtherMessages => {
-                f.write_str("the journal's messages are those of the other kind of switchboard")
-            }
+            RerunError::OtherMessages => CheckError::OtherMessages.fmt(f),
             RerunError::Unknown(line) => write!(f, "the line `{line}` is of an unknown kind"),
         }
     }

@@ -6,6 +6,7 @@ use crate::checker::{CheckError, Checker};
 use crate::entry::{Entry, Who};
 use crate::explore::history::Sum;
 use crate::explore::step::Step;
+use crate::header;
 use crate::room::Room;
 use std::collections::HashMap;
 use std::hash::BuildHasherDefault;
@@ -115,13 +116,12 @@ fn is_entry(line: &str) -> bool {
 
 /// Refuses a text of another type of messages, and one that begins after a cut.
 fn refuse_others<R: Room>(text: &[u8]) -> Result<(), RerunError> {
-    let mut lines = text.split(|byte| *byte == b'\n').map(String::from_utf8_lossy);
-    let header = lines.next().unwrap_or_default();
-    let version = header.strip_prefix("journal ").and_then(|rest| rest.split(' ').next());
-    if version.is_some_and(|version| R::OTHER_VERSIONS.contains(&version)) {
+    let mut lines = text.split(|byte| *byte == b'\n');
+    let refused = header::refused::<R>(lines.next().unwrap_or_default());
+    if let Some(CheckError::OtherMessages) = refused {
         return Err(RerunError::OtherMessages);
     }
-    let from = lines.next().unwrap_or_default();
+    let from = String::from_utf8_lossy(lines.next().unwrap_or_default());
     match from.strip_prefix("from ").and_then(|position| position.parse().ok()) {
         Some(position) => Err(RerunError::AfterCut(position)),
         None => Ok(()),
