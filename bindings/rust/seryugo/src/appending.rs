@@ -59,27 +59,21 @@ impl Appending {
         }
     }
 
-    /// What a piece follows whose first entry has this position. An empty file takes any piece: it
-    /// may be the next one of a switchboard that begins a new file now and then.
+    /// What a piece follows whose first entry has this position. If the file's entries end
+    /// elsewhere, no reader would take the piece.
     fn form_at(&mut self, end: u64, first: u64) -> io::Result<Form> {
-        if end == 0 {
-            return Ok(Form::Sealed(None));
-        }
         let Ending { entries, form } = self.ending(end)?;
         match entries.cmp(&first) {
             Ordering::Equal => Ok(form),
             Ordering::Greater => {
                 Err(unfit("the file has other entries where the next piece begins"))
             }
-            Ordering::Less => Err(unfit(
-                "the file lacks the entries before the next piece: append those that were taken by \
-                 hand, or go on with an empty file",
-            )),
+            Ordering::Less => Err(unfit("the file lacks entries before those of the next piece")),
         }
     }
 
-    /// How the file ends, which isn't empty. It looks each time, since the file's owner may have
-    /// put a short journal in place of the text.
+    /// How the file ends. It looks each time, since the file's owner may have put a short journal in
+    /// place of the text.
     fn ending(&mut self, end: u64) -> io::Result<Ending> {
         match (ending_of(&mut self.file, end), self.left) {
             // The file is open for writing alone, and ends with what this wrote.
@@ -111,6 +105,10 @@ fn unfit(why: &str) -> io::Error {
 
 /// How a file of this length ends, by its last line.
 fn ending_of(file: &mut File, length: u64) -> io::Result<Ending> {
+    if length == 0 {
+        let form = Form::Sealed(None);
+        return Ok(Ending { entries: 0, form });
+    }
     file.seek(SeekFrom::Start(length.saturating_sub(LAST_LINE)))?;
     let mut tail = Vec::new();
     file.take(LAST_LINE).read_to_end(&mut tail)?;

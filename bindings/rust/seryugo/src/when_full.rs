@@ -98,13 +98,12 @@ impl<R: Room> WhenFull<R> {
     /// end of a piece, nothing is written: cut off first what is torn
     /// ([`restore_torn`](crate::Switchboard::restore_torn)).
     ///
-    /// A file that isn't empty must end where the piece begins. Nothing is written if it has an
-    /// entry there, as that of another switchboard. Nor is anything if it lacks entries before, as
-    /// after [`take_journal`](crate::Switchboard::take_journal) or
-    /// [`cut`](crate::Switchboard::cut). The call fails with [`NotKept`](Error::NotKept), and the
-    /// switchboard keeps the entries: append first what you took, or make the file empty. An empty
-    /// file takes any piece. If that doesn't begin at position 0, the text goes on from another
-    /// file, and can't be restored alone.
+    /// The file's entries must end where the piece begins. Nothing is written if it has an entry
+    /// there, as that of another switchboard. Nor is anything if it lacks entries before, as after
+    /// [`take_journal`](crate::Switchboard::take_journal) or [`cut`](crate::Switchboard::cut). The
+    /// call fails with [`NotKept`](Error::NotKept), and the switchboard keeps the entries. Append
+    /// first what you took. If that is lost, begin a text anew by
+    /// [`compact_with`](crate::Switchboard::compact_with).
     ///
     /// It goes on with this file, also if another one gets its name. So
     /// [`compact_with`](crate::Switchboard::compact_with) may write a short journal in place of the
