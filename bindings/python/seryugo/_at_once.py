@@ -59,7 +59,7 @@ def room_of(
     handle: library.Handle,
     lock: Any,
     parked: Set[int],
-    dropped: Deque[int],
+    dropped: Deque[Any],
     unwritten: List[Any],
 ) -> Optional[FastRoom]:
     """Return what the extension has of a room, which has to live as long as its places are used.

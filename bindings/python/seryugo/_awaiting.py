@@ -49,12 +49,13 @@ async def _woken(
     return woken.done()
 
 
-def _wake(loop: asyncio.AbstractEventLoop, woken: asyncio.Future[None]) -> None:
-    """Wake a task, from any thread. If its loop was closed, nobody awaits it any more."""
+def _wake(loop: asyncio.AbstractEventLoop, woken: asyncio.Future[None]) -> bool:
+    """Wake a task, from any thread. If its loop was closed, nobody awaits it: return false."""
     try:
         loop.call_soon_threadsafe(_set, woken)
     except RuntimeError:
-        pass
+        return False
+    return True
 
 
 def _set(woken: asyncio.Future[None]) -> None:

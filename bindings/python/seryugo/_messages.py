@@ -32,10 +32,18 @@ def _wrong(wanted: str, message: object) -> TypeError:
     return TypeError(f"a message of this object is {wanted}, and not {type(message).__name__}")
 
 
+# A subclass may tell another length than its bytes have, so none of its methods is called.
+
+
+def plain(message: bytes) -> bytes:
+    """Return the bytes themselves, or those of an instance of a subclass."""
+    return bytes.__getitem__(message, slice(None))
+
+
 def _of_bytes(message: bytes) -> bytes:
     if not isinstance(message, bytes):
         raise _wrong("bytes", message)
-    return message
+    return plain(message)
 
 
 def _to_bytes(data: bytes) -> bytes:
@@ -46,7 +54,7 @@ def _of_str(message: str) -> bytes:
     """UTF-8."""
     if not isinstance(message, str):
         raise _wrong("str", message)
-    return message.encode()
+    return str.encode(message)
 
 
 def _to_str(data: bytes) -> str:
@@ -60,7 +68,7 @@ def _of_int(message: int) -> bytes:
     """Two's complement in as few bytes as hold the number and its sign, the lowest first."""
     if not isinstance(message, int):
         raise _wrong("int", message)
-    return message.to_bytes(message.bit_length() // 8 + 1, "little", signed=True)
+    return int.to_bytes(message, int.bit_length(message) // 8 + 1, "little", signed=True)
 
 
 def _to_int(data: bytes) -> int:

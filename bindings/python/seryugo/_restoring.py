@@ -11,6 +11,7 @@ from . import _library as library
 from . import errors
 from ._kept import Kept, Lines
 from ._library import DONE, NOTHING
+from ._messages import plain
 from .journal import Journal
 
 
@@ -71,6 +72,7 @@ def _read(reading: library.Handle, parts: Iterable[bytes], lines: Lines) -> None
     for part in parts:
         if not isinstance(part, bytes):
             raise TypeError(f"a part of a text is bytes, and not {type(part).__name__}")
+        part = plain(part)
         head = (head + part[:_HEAD])[:_HEAD]
         code = library.reading_take(byref(reading), part, len(part))
         if code != DONE:

@@ -10,6 +10,7 @@ from typing import TYPE_CHECKING, Any, Callable, Deque, Dict, List, Optional, Se
 
 from . import _at_once as at_once
 from . import _calls as calls
+from . import _collecting as collecting
 from . import _library as library
 from . import errors
 from ._library import DONE, PARKED
@@ -55,12 +56,14 @@ class Room:
         self.codecs: Dict[int, Codec[Any]] = {}
         # What the thread of each seat waits by: a lock that is free if the thread was woken.
         self._bells: Dict[int, threading.Lock] = {}
-        # What wakes a task that awaits a seat's call, in place of the bell.
-        self._listeners: Dict[int, Callable[[], None]] = {}
+        # What wakes a task that awaits a seat's call, in place of the bell. It returns whether the
+        # task may still be there.
+        self._listeners: Dict[int, Callable[[], bool]] = {}
         # The seats that the library has parked. While there is none, no seat is due.
         self._parked: Set[int] = set()
-        # Seats that were dropped and haven't left yet.
-        self._dropped: Deque[int] = deque()
+        # Seats whose calls are still to be withdrawn, and whether they were dropped: then they
+        # are still to leave.
+        self._dropped: Deque[Tuple[int, bool]] = deque()
         # What the extension has of this room.
         self.fast = at_once.room_of(
             room, self.lock, self._parked, self._dropped, self.unwritten
@@ -89,6 +92,8 @@ class Room:
 
     def do(self, call: Callable[..., int], *arguments: Any) -> int:
         """Make a call that makes no seat due."""
+        if collecting.thread is not None:
+            self._refuse_in_a_call()
         try:
             with self.lock:
                 code = call(self.handle, *arguments)
@@ -101,12 +106,17 @@ class Room:
 
     def within(self, action: Callable[[], T]) -> T:
         """Run this with the lock."""
+        if collecting.thread is not None:
+            self._refuse_in_a_call()
         try:
             with self.lock:
-                return action()
+                done = action()
         except BaseException:
             self.recover()
             raise
+        if self._dropped:
+            self._let_dropped_leave()
+        return done
 
     def count(self, call: Callable[..., int], *arguments: Any) -> int:
         """Make a call that makes no seat due, and return the number that it writes."""
@@ -118,6 +128,8 @@ class Room:
 
     def call(self, call: Callable[..., int], *arguments: Any) -> int:
         """Make a seat's call that never blocks and hands no message over."""
+        if collecting.thread is not None:
+            self._refuse_in_a_call()
         try:
             with self.lock:
                 if self.keeper:
@@ -140,6 +152,8 @@ class Room:
     ) -> int:
         """Make an object by a seat's call, maybe one on another object. Return its number."""
         name = c_uint64()
+        if collecting.thread is not None:
+            self._refuse_in_a_call()
         try:
             with self.lock:
                 if self.keeper:
@@ -163,6 +177,8 @@ class Room:
 
     def poll(self, call: Callable[..., int], *arguments: Any) -> Tuple[int, bytes]:
         """Make a call that never blocks, and if it is done hands a message over."""
+        if collecting.thread is not None:
+            self._refuse_in_a_call()
         try:
             with self.lock:
                 if self.keeper:
@@ -197,6 +213,8 @@ class Room:
 
         After an exception its caller calls `recover`.
         """
+        if collecting.thread is not None:
+            self._refuse_in_a_call()
         with self.lock:
             if self.keeper and is_again is FIRST:
                 self.keeper.hand_over()
@@ -218,6 +236,9 @@ class Room:
 
     def leave(self, seat: c_uint64) -> int:
         """Let a seat leave. This has no entry in the journal, so that it hands none over."""
+        if collecting.is_here():
+            self.drop(seat.value)
+            return DONE
 
         def left() -> int:
             code = calls.leave(self.handle, seat)
@@ -225,19 +246,19 @@ class Room:
                 self._wake_next()
             return code
 
-        code = self.within(left)
-        if self._dropped:
-            self._let_dropped_leave()
-        return code
+        return self.within(left)
 
     def give_up(self, seat: int) -> None:
         """Withdraw a seat's call, and hand on what the seat was woken for."""
+        if collecting.is_here():
+            self._settle_later(seat, False)
+            return
         with self.lock:
             self._withdraw(seat)
         if self._dropped:
             self._let_dropped_leave()
 
-    def listen(self, seat: int, wake: Callable[[], None]) -> None:
+    def listen(self, seat: int, wake: Callable[[], bool]) -> None:
         """Have this called once, in place of the seat's bell: at once if that was rung."""
 
         def listened() -> None:
@@ -249,16 +270,22 @@ class Room:
         self.within(listened)
 
     def listen_no_more(self, seat: int) -> None:
-        """Have a seat's bell rung again."""
-        self.within(lambda: self._listeners.pop(seat, None))
+        """Have a seat's bell rung again. Within a collection, `give_up` does that later."""
+        if not collecting.is_here():
+            self.within(lambda: self._listeners.pop(seat, None))
 
     def ring(self, seat: int) -> None:
         """Wake the thread of a seat that is due. After an exception its caller calls `recover`."""
         with self.lock:
             self._ring(seat)
+        if self._dropped:
+            self._let_dropped_leave()
 
     def recover(self, *seats: int) -> None:
         """After an exception in a call, withdraw the call of this seat, and wake all that wait."""
+        if self._is_in_a_call():
+            # It was refused, and has done nothing.
+            return
         while True:
             try:
                 free(self.lock)
@@ -276,9 +303,21 @@ class Room:
 
         The collector runs in the midst of any method, so this very thread may have the lock.
         """
-        self._dropped.append(seat)
+        self._settle_later(seat, True)
+
+    def _settle_later(self, seat: int, leaves: bool) -> None:
+        """Withdraw a seat's call, and let it leave, now or as soon as the lock is free."""
+        self._dropped.append((seat, leaves))
         if not is_held(self.lock):
             self._let_dropped_leave()
+
+    def _is_in_a_call(self) -> bool:
+        """Return whether Python collects here, and this thread may have the lock."""
+        return collecting.is_here() and is_held(self.lock)
+
+    def _refuse_in_a_call(self) -> None:
+        if self._is_in_a_call():
+            raise errors.SeryugoError("Python collects a cycle in the midst of another call")
 
     def _let_dropped_leave(self) -> None:
         try:
@@ -293,15 +332,19 @@ class Room:
 
     def _leave_all(self) -> None:
         while self._dropped:
-            # To leave twice changes nothing.
-            calls.leave(self.handle, c_uint64(self._dropped[0]))
+            # To do this twice changes nothing.
+            seat, leaves = self._dropped[0]
+            if seat in self._parked:
+                self._withdraw(seat)
+            if leaves:
+                calls.leave(self.handle, c_uint64(seat))
             self._wake_next()
             self._dropped.popleft()
 
     def _wake_all(self, withdrawn: Tuple[int, ...]) -> None:
         for seat in withdrawn:
             self._withdraw(seat)
-        for seat in self._parked:
+        for seat in tuple(self._parked):
             self._ring(seat)
 
     def _end_wait(self, seat: int, code: int) -> None:
@@ -312,6 +355,7 @@ class Room:
 
     def _withdraw(self, seat: int) -> None:
         library.withdraw(self.handle, seat)
+        self._listeners.pop(seat, None)
         self._parked.discard(seat)
         self._bells[seat].acquire(blocking=False)
         self._wake_next()
@@ -323,7 +367,8 @@ class Room:
     def _ring(self, seat: int) -> None:
         wake = self._listeners.pop(seat, None)
         if wake is not None:
-            wake()
+            if not wake():
+                self._withdraw(seat)
             return
         bell = self._bells[seat]
         if bell.locked():

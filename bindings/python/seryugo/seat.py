@@ -58,8 +58,10 @@ class Seat(Unpicklable):
 
     def __del__(self) -> None:
         if not getattr(self, "_has_left", True):
-            warnings.warn(f"{self!r} was dropped and had not left", ResourceWarning, source=self)
+            self._has_left = True
             self._room.drop(self.number)
+            # Last, since a filter may make an exception of it.
+            warnings.warn(f"{self!r} was dropped and had not left", ResourceWarning, source=self)
 
     def __repr__(self) -> str:
         return f"<Seat {self.number}>"

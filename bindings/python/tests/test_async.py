@@ -3,6 +3,7 @@
 import asyncio
 import threading
 import unittest
+from unittest import mock
 
 from seryugo import Closed, Gone, Stalled, Switchboard, check
 
@@ -185,6 +186,47 @@ class Awaiting(unittest.TestCase):
         main.send(mailbox, 5)
         self.assertEqual(main.recv(mailbox), 5)
         call.close()
+
+    def test_a_loop_that_was_closed_hands_its_wake_on(self):
+        main, other, last = self.seats(3)
+        mailbox = main.mailbox(int)
+        received = []
+        loop = asyncio.new_event_loop()
+        task = loop.create_task(other.recv_async(mailbox))
+        loop.run_until_complete(self.parked(1))
+        loop.close()
+        thread = threading.Thread(target=lambda: received.append(last.recv(mailbox)), daemon=True)
+        thread.start()
+        asyncio.run(self.parked(2))
+        main.send(mailbox, 5)
+        thread.join(LIMIT)
+        self.assertEqual(received, [5])
+        # The task is never done: nobody runs its loop.
+        task._log_destroy_pending = False
+
+    def test_a_listener_of_a_call_that_ended_is_forgotten(self):
+        main, other = self.seats(2)
+        mailbox = main.mailbox(int)
+        room = self.board._room
+        listen = room.listen
+
+        def interrupted(*arguments):
+            listen(*arguments)
+            raise KeyboardInterrupt
+
+        async def begun():
+            with self.assertRaises(KeyboardInterrupt):
+                other.recv_async(mailbox).send(None)
+
+        with mock.patch.object(room, "listen", interrupted):
+            run(begun())
+        received = []
+        thread = threading.Thread(target=lambda: received.append(other.recv(mailbox)), daemon=True)
+        thread.start()
+        asyncio.run(self.parked(1))
+        main.send(mailbox, 5)
+        thread.join(LIMIT)
+        self.assertEqual(received, [5])
 
     def test_all_that_wait_are_stalled(self):
         one, two = self.seats(2)

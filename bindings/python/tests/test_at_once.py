@@ -195,7 +195,7 @@ class ByWhich(unittest.TestCase):
         self.seat.send(mailbox, 1)
         dropped._has_left = True
         # As after a Ctrl-C while it left.
-        self.board._room._dropped.append(dropped.number)
+        self.board._room._dropped.append((dropped.number, True))
         self.goes_by_method("recv", lambda: self.seat.recv(mailbox))
         with self.assertRaises(seryugo.Gone):
             dropped.send(mailbox, 1)

@@ -1,8 +1,11 @@
 """Each call on one thread: what it returns, and why it fails."""
 
 import gc
+import threading
+import time
 import unittest
 import warnings
+from unittest import mock
 
 import seryugo
 from seryugo import Channel, IVar, Mailbox, MVar, Port, Switchboard, errors
@@ -155,6 +158,39 @@ class Calls(unittest.TestCase):
         self.assertEqual([each.category for each in told], [ResourceWarning])
         with self.assertRaises(seryugo.Stalled):
             self.seat.recv(mailbox)
+
+    def test_dropped_where_a_warning_is_an_error(self):
+        mailbox = self.seat.mailbox(int)
+        dropped = self.board.seat()
+        unraised = []
+        with warnings.catch_warnings(), mock.patch("sys.unraisablehook", unraised.append):
+            warnings.simplefilter("error", ResourceWarning)
+            del dropped
+            gc.collect()
+        self.assertEqual([each.exc_type for each in unraised], [ResourceWarning])
+        with self.assertRaises(seryugo.Stalled):
+            self.seat.recv(mailbox)
+
+    def test_dropped_while_a_short_journal_is_kept(self):
+        mailbox = self.seat.mailbox(int)
+        held = [self.board.seat()]
+        ended = []
+
+        def receive():
+            try:
+                self.seat.recv(mailbox)
+            except seryugo.Stalled:
+                ended.append(True)
+
+        thread = threading.Thread(target=receive, daemon=True)
+        thread.start()
+        while not self.board._room._parked:
+            time.sleep(0.001)
+        with warnings.catch_warnings():
+            warnings.simplefilter("ignore")
+            self.board.compact_with(lambda journal: held.clear())
+        thread.join(30)
+        self.assertEqual(ended, [True])
 
     def test_dropped_while_the_lock_is_held(self):
         mailbox = self.seat.mailbox(int)

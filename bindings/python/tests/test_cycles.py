@@ -5,7 +5,7 @@ import gc
 import unittest
 import warnings
 
-from seryugo import Checker, SeryugoError, Switchboard
+from seryugo import Checker, SeryugoError, Stalled, Switchboard
 
 
 class Client:
@@ -49,14 +49,17 @@ LAST_CALLS = (
 )
 
 
-class Cycles(unittest.TestCase):
+class Collecting(unittest.TestCase):
     def setUp(self):
         gc.collect()
         caught = warnings.catch_warnings()
         caught.__enter__()
         self.addCleanup(caught.__exit__, None, None, None)
+        # A dropped seat warns, which is tested elsewhere.
         warnings.simplefilter("ignore", ResourceWarning)
 
+
+class Cycles(Collecting):
     def test_a_last_call_fails(self):
         for number, (call, expected) in enumerate(LAST_CALLS):
             with self.subTest(number):
@@ -121,6 +124,95 @@ class Cycles(unittest.TestCase):
         asyncio.run(main())
         gc.collect()
         self.assertEqual(withdrawn, [1])
+
+
+class InTheMidstOfACall(Collecting):
+    """Python may collect while this very thread has the switchboard's lock."""
+
+    def setUp(self):
+        super().setUp()
+        self.board = Switchboard(100)
+        self.seat = self.board.seat()
+        self.addCleanup(self.seat.leave)
+        self.mailbox = self.seat.mailbox(str)
+
+    def collect(self):
+        """Collect as in the midst of a call."""
+        with self.board._room.lock:
+            gc.collect()
+
+    def test_a_seat_leaves_after_the_call(self):
+        def letters(seat):
+            with seat:
+                while True:
+                    yield seat.recv_poll(self.mailbox)
+
+        def begin():
+            holder = {}
+            holder["letters"] = letters(self.board.seat())
+            holder["me"] = holder
+            next(holder["letters"])
+
+        begin()
+        self.collect()
+        self.seat.send(self.mailbox, "hello")
+        self.assertEqual(self.seat.recv(self.mailbox), "hello")
+        with self.assertRaises(Stalled):
+            self.seat.recv(self.mailbox)
+
+    def test_another_call_is_refused(self):
+        noted = []
+
+        class Caller:
+            def __init__(self, call):
+                self.me = self
+                self.call = call
+
+            def __del__(self):
+                try:
+                    noted.append(self.call())
+                except SeryugoError as error:
+                    noted.append("in the midst" in str(error))
+
+        seat, mailbox = self.seat, self.mailbox
+        last_calls = (
+            lambda: seat.recv_poll(mailbox),
+            lambda: seat.recv(mailbox, timeout=1),
+            lambda: seat.send(mailbox, "hello"),
+            lambda: seat.mailbox(int),
+            lambda: self.board.seat(),
+            lambda: len(mailbox),
+            lambda: self.board.take_journal(),
+        )
+        for call in last_calls:
+            Caller(call)
+            self.collect()
+        self.assertEqual(noted, [True] * len(last_calls))
+        # Out of a call it is made.
+        Caller(lambda: seat.send(mailbox, "bye"))
+        gc.collect()
+        self.assertEqual((seat.recv(mailbox), len(mailbox)), ("bye", 0))
+
+    def test_an_awaited_call_is_withdrawn_after_the_call(self):
+        other = self.board.seat()
+        self.addCleanup(other.leave)
+
+        async def main():
+            holder = {}
+
+            async def client():
+                await holder["seat"].recv_async(self.mailbox)
+
+            holder["seat"] = other
+            holder["client"] = client()
+            holder["client"].send(None)
+
+        asyncio.run(main())
+        self.collect()
+        self.seat.send(self.mailbox, "hello")
+        self.assertEqual(self.seat.recv(self.mailbox, timeout=1), "hello")
+        other.send(self.mailbox, "again")
+        self.assertEqual(other.recv(self.mailbox, timeout=1), "again")
 
 
 if __name__ == "__main__":

@@ -69,6 +69,31 @@ class Messages(unittest.TestCase):
                 self.seat.mailbox(of)
         self.assertEqual(self.board.entries, 0)
 
+    def test_a_subclass_that_tells_another_length(self):
+        class Bytes(bytes):
+            def __len__(self):
+                return 400
+
+        class Str(str):
+            def encode(self, *arguments):
+                return Bytes(b"other")
+
+        class Int(int):
+            def bit_length(self):
+                return 4_000
+
+            def to_bytes(self, *arguments, **names):
+                return Bytes(b"other")
+
+        for of, message in (bytes, Bytes(b"abc")), (str, Str("abc")), (int, Int(5)):
+            mailbox = self.seat.mailbox(of)
+            variable = self.seat.mvar(of, message)
+            self.seat.send(mailbox, message)
+            for received in self.seat.recv(mailbox), self.seat.swap(variable, message):
+                self.assertEqual((type(received), received == message), (of, True))
+        text = Bytes(b"journal 2\nseat 0 mailbox: made 0\nend 1\n")
+        self.assertEqual(Switchboard.restore([text]).entries, 1)
+
     def test_a_lone_surrogate(self):
         mailbox = self.seat.mailbox(str)
         with self.assertRaises(UnicodeEncodeError):
