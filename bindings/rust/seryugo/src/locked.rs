@@ -7,7 +7,10 @@ use crate::raw::{code, Handle};
 use crate::room::Room;
 use crate::switchboard::Switchboard;
 use crate::yields::pass_by_yielding;
+use std::mem;
+use std::panic;
 use std::sync::{MutexGuard, PoisonError, TryLockError};
+use std::thread;
 
 /// Before a thread waits for the lock, it spins and tries it: for this many pauses, and then for
 /// twice as many each time. Then it yields and tries it. With a quarter of the pauses, four threads
@@ -25,10 +28,12 @@ impl<R: Room> Switchboard<R> {
         by: Option<&Parker>,
         call: impl FnOnce(&mut Inside<R>) -> T,
     ) -> T {
+        let panicking = Panicking { board: self, by };
         let mut inside = self.lock();
         let answer = inside.call(call);
         let due = inside.next_due();
         drop(inside);
+        mem::forget(panicking);
         self.wake_at(due, by);
         answer
     }
@@ -41,6 +46,10 @@ impl<R: Room> Switchboard<R> {
         is_again: bool,
         call: impl FnOnce(&mut Handle) -> u32,
     ) -> u32 {
+        let panicking = Panicking {
+            board: self,
+            by: Some(by),
+        };
         let mut inside = self.lock();
         let code = inside.ask(is_again, call);
         by.note_ask(is_again, code == code::PARKED, inside.calls());
@@ -49,6 +58,7 @@ impl<R: Room> Switchboard<R> {
         let may_be_due = is_again || code != code::PARKED;
         let due = may_be_due.then(|| inside.next_due()).flatten();
         drop(inside);
+        mem::forget(panicking);
         self.wake_at(due, Some(by));
         code
     }
@@ -87,21 +97,45 @@ impl<R: Room> Switchboard<R> {
     }
 
     /// Wakes a seat that is due. `by` is the parker of the calling seat, if a seat calls. A thread
-    /// that is woken makes a call, which wakes the seat after. A task may be polled late. So after a
-    /// task this wakes the next seat too, up to the first thread.
+    /// that is woken makes a call, which wakes the seat after. A task may be polled late, and one
+    /// whose waker panics perhaps never. So after a task this wakes the next seat too, up to the
+    /// first thread. Then the first panic goes on.
     fn wake(&self, due: &Parker, by: Option<&Parker>) {
-        let mut next = Some(due);
+        let (mut next, mut panicked) = (Some(due), None);
         while let Some(due) = next {
             let woken = due.unpark(by);
             if let Some(by) = by {
-                by.note_woken(due, woken);
+                by.note_woken(due, &woken);
             }
-            next = (woken == Woken::Task).then(|| self.next_due()).flatten();
+            next = matches!(woken, Woken::Task(_)).then(|| self.next_due()).flatten();
+            if let Woken::Task(Err(panic)) = woken {
+                panicked.get_or_insert(panic);
+            }
+        }
+        // A thread that panics already, as it drops a seat, would abort at a second panic.
+        if let Some(panic) = panicked.filter(|_| !thread::panicking()) {
+            panic::resume_unwind(panic);
         }
     }
 
     fn next_due(&self) -> Option<&Parker> {
         let due = self.lock().next_due();
         due.and_then(|place| self.parkers.get(place))
+    }
+}
+
+/// A call under the lock that hasn't returned. It is dropped only if a sink panics in the call. The
+/// call may have made a seat due before, so this wakes the next one.
+struct Panicking<'c, R: Room> {
+    board: &'c Switchboard<R>,
+    by: Option<&'c Parker>,
+}
+
+impl<R: Room> Drop for Panicking<'_, R> {
+    #[cold]
+    fn drop(&mut self) {
+        if let Some(due) = self.board.next_due() {
+            self.board.wake(due, self.by);
+        }
     }
 }

@@ -3,9 +3,11 @@
 use crate::backoff::{pass_by_spinning, LongBackoff, Pass, ShortBackoff};
 use crate::yields::pass_by_yielding;
 use std::mem;
+use std::panic::{self, AssertUnwindSafe};
 use std::sync::atomic::{AtomicBool, AtomicU64, AtomicU8, Ordering};
 use std::sync::{Condvar, Mutex, MutexGuard, PoisonError};
 use std::task::Waker;
+use std::thread;
 use std::time::{Duration, Instant};
 
 /// If more calls than this were made on the switchboard while a seat waited, the answer to its next
@@ -22,12 +24,11 @@ const ASLEEP: u8 = 2;
 const LISTENS: u8 = 3;
 
 /// What a wake has met.
-#[derive(Clone, Copy, PartialEq)]
 pub(crate) enum Woken {
     /// A thread that slept.
     Thread,
-    /// The task of a future. It is polled some time.
-    Task,
+    /// The task of a future. It is polled some time. `Err`: its waker panicked.
+    Task(thread::Result<()>),
     /// Neither: the seat is about to wait, and sees the wake then.
     Awake,
 }
@@ -183,10 +184,11 @@ impl Parker {
                 Woken::Thread
             }
             LISTENS => {
-                // A waker may run anything, so that the lock isn't held.
+                // A waker may run anything, so that the lock isn't held. If it panics, other seats
+                // that are due have to be woken first.
                 let waker = self.waker().take();
-                waker.into_iter().for_each(Waker::wake);
-                Woken::Task
+                let wake = AssertUnwindSafe(|| waker.into_iter().for_each(Waker::wake));
+                Woken::Task(panic::catch_unwind(wake))
             }
             _ => Woken::Awake,
         }
@@ -207,8 +209,8 @@ impl Parker {
 
     /// The seat's call has just woken another seat. If a thread slept there, or that seat had woken
     /// this one, it may answer soon: so in its next wait this seat's thread may look for longer.
-    pub fn note_woken(&self, other: &Parker, woken: Woken) {
-        if woken == Woken::Thread || self.woken_by.load(Ordering::Relaxed) == other.number {
+    pub fn note_woken(&self, other: &Parker, woken: &Woken) {
+        if matches!(woken, Woken::Thread) || self.woken_by.load(Ordering::Relaxed) == other.number {
             self.is_answer_near.store(true, Ordering::Relaxed);
         }
     }

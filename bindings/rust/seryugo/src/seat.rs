@@ -369,9 +369,15 @@ impl<R: Room, H: Holds<R>> Seat<'_, R, H> {
 
 impl<R: Room, H: Holds<R>> Drop for Seat<'_, R, H> {
     fn drop(&mut self) {
-        let seat = self.ready();
-        let answers = self.answers.take();
+        let (seat, answers) = (self.number, self.answers.take());
+        if self.is_parked {
+            self.parker.forget_waker();
+        }
+        // This is one call: the seat leaves also if the waker of another seat panics.
         self.board.change(None, |inside| {
+            if self.is_parked {
+                inside.withdraw(seat);
+            }
             // The seat isn't parked, so that it may leave.
             raw::seryugo_leave(&mut inside.handle, seat);
             inside.free_answers.extend(answers);
