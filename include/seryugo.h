@@ -764,7 +764,7 @@ uint32_t seryugo_is_full(const struct seryugo *room);
 
 /* Takes the entries of a taken journal. The first is at position `from`, which is what seryugo_journal_text wants. Returns true if it has
  * them. If it returns false, the keeper keeps them, and hands them over again before any later ones. The journal's handle is the
- * keeper's. */
+ * keeper's. A sink in C++ must not throw. */
 typedef bool seryugo_sink(void *context, struct seryugo *journal, uint64_t from, uint64_t count);
 
 struct seryugo_keeper {

@@ -45,6 +45,10 @@
  * - With SERYUGO_STALLED, if each other seat waits or has left: nobody could answer it. A seat that was opened and doesn't wait may
  *   still send. So open the seats of all threads before the first one waits. If threads come later, keep a seat open meanwhile.
  *
+ * pthread_cancel ends a thread that waits in a call: the call did nothing, and its seat is free. Let the seat leave in a cleanup function
+ * of the thread (pthread_cleanup_push). While a sink runs, its thread isn't cancelled. Between seryugo_switchboard_lock and
+ * seryugo_switchboard_unlock, disable cancellation yourself.
+ *
  * Keep these rules. One thread at a time uses a seat. A seat and a switchboard stay where they are in memory. The rules of seryugo.h
  * hold too.
  */
@@ -145,8 +149,9 @@ static inline void seryugo_switchboard_close(struct seryugo_switchboard *board)
 }
 
 /* Says what becomes of a full journal, before the first call: the call that finds it full cuts it, hands its entries to the sink, and is
- * then made. The sink runs under the lock. Without a sink (null) the entries are dropped. If you don't call this, calls fail with
- * SERYUGO_JOURNAL_FULL. If the sink returns false, so does the call that found the journal full, and no entry is lost. */
+ * then made. The sink runs under the lock. A sink in C++ must not throw. Without a sink (null) the entries are dropped. If you don't call
+ * this, calls fail with SERYUGO_JOURNAL_FULL. If the sink returns false, so does the call that found the journal full, and no entry is
+ * lost. */
 static inline void seryugo_switchboard_when_full(struct seryugo_switchboard *board, seryugo_sink *sink, void *context)
 {
     board->keeper.sink = sink;
@@ -193,10 +198,13 @@ static inline void seryugo_let_go(struct seryugo_switchboard *board)
 static inline uint32_t seryugo_switchboard_keep(struct seryugo_switchboard *board)
 {
     uint32_t code;
+    int state = 0;
 
+    pthread_setcancelstate(PTHREAD_CANCEL_DISABLE, &state);
     seryugo_switchboard_lock(board);
     code = seryugo_keep(&board->keeper, &board->room);
     seryugo_switchboard_unlock(board);
+    pthread_setcancelstate(state, &state);
     return code;
 }
 
@@ -313,23 +321,60 @@ static inline struct seryugo_turn seryugo_begin(struct seryugo_seat *seat, const
     return turn;
 }
 
+/* Withdraws the call of a thread that was cancelled while it waited. pthread_cond_wait has locked the switchboard again before. */
+static inline void seryugo_take_back(void *given)
+{
+    struct seryugo_seat *seat = (struct seryugo_seat *)given;
+
+    (void)seryugo_withdraw(&seat->board->room, seat->number);
+    seryugo_let_go(seat->board);
+}
+
+/* Sleeps until the seat's thread is signalled. Returns false at the deadline. */
+static inline bool seryugo_sleeps(struct seryugo_seat *seat, const struct timespec *deadline)
+{
+    /* In C pthread_cleanup_push may be a setjmp. */
+    volatile int failure = 0;
+
+    pthread_cleanup_push(seryugo_take_back, seat);
+    if (deadline == NULL) {
+        pthread_cond_wait(&seat->due, &seat->board->lock);
+    } else {
+        failure = pthread_cond_timedwait(&seat->due, &seat->board->lock, deadline);
+    }
+    pthread_cleanup_pop(0);
+    return failure == 0;
+}
+
 /* Waits until the seat is due, and returns true; or returns false at the deadline. */
 static inline bool seryugo_waits(struct seryugo_turn *turn)
 {
     struct seryugo_seat *seat = turn->seat;
-    int failure = 0;
+    bool has_time = true;
 
     while (seryugo_is_due(&seat->board->room, seat->number) == SERYUGO_NOTHING) {
-        if (failure != 0) {
+        if (!has_time) {
             return false;
         }
-        if (turn->deadline == NULL) {
-            pthread_cond_wait(&seat->due, &seat->board->lock);
-        } else {
-            failure = pthread_cond_timedwait(&seat->due, &seat->board->lock, turn->deadline);
-        }
+        has_time = seryugo_sleeps(seat, turn->deadline);
     }
     return true;
+}
+
+/* Makes room in a full journal, if that is wanted. A sink that writes would be a point at which its thread may be cancelled. */
+static inline bool seryugo_has_room(struct seryugo_turn *turn)
+{
+    struct seryugo_switchboard *board = turn->seat->board;
+    int state = 0;
+    bool has_room;
+
+    if (!board->cuts || turn->code != SERYUGO_JOURNAL_FULL) {
+        return false;
+    }
+    pthread_setcancelstate(PTHREAD_CANCEL_DISABLE, &state);
+    has_room = seryugo_makes_room(&board->keeper, &board->room, &turn->code);
+    pthread_setcancelstate(state, &state);
+    return has_room;
 }
 
 /* Returns true if the call has to be made again: the journal was full and has room now, or the call had to wait. Else it unlocks the
@@ -340,7 +385,7 @@ static inline bool seryugo_goes_on(struct seryugo_turn *turn)
     bool was_again = turn->is_again;
 
     turn->is_again = false;
-    if (board->cuts && seryugo_makes_room(&board->keeper, &board->room, &turn->code)) {
+    if (seryugo_has_room(turn)) {
         return true;
     }
     if (turn->code == SERYUGO_PARKED) {

@@ -77,13 +77,14 @@ refuse_each_again() {
 }
 
 # sanitized KIND PROGRAM WORD..: built and run with this sanitizer. It sees what the program in C does, and not what the library does.
+# Without its stack for signals: as a cancelled thread ends, the sanitizer of addresses would find a fault in its own code there.
 sanitized() {
     kind=$1
     program=$2
     shift 2
     cc -g -O1 "-fsanitize=$kind" -fno-sanitize-recover=undefined -Wall -Wextra -pthread -I include \
         -o "$work/sanitized" "bindings/c/$program.c" "$rooms" "$kit/liblibc_c.a" || return
-    timeout 120 "$work/sanitized" "$@"
+    ASAN_OPTIONS=use_sigaltstack=0 timeout 120 "$work/sanitized" "$@"
 }
 
 # has_sanitizer KIND: programs can be built with it, and run.

@@ -3,6 +3,7 @@
 #include "require.h"
 #include <seryugo_switchboard.h>
 
+#include <sched.h>
 #include <stdio.h>
 
 #define SENDERS 4
@@ -303,6 +304,113 @@ static void lanes(void)
     puts("lanes wake who waits");
 }
 
+/* Waits until a part's thread waits: its seat may make no other call then. */
+static void await_parked(struct seryugo_switchboard *board, struct part *part)
+{
+    uint32_t code = SERYUGO_DONE;
+    uint64_t message = 0;
+
+    while (code != SERYUGO_GONE) {
+        sched_yield();
+        seryugo_switchboard_lock(board);
+        code = seryugo_recv_poll(&board->room, part->seat.number, part->object, &message);
+        seryugo_switchboard_unlock(board);
+    }
+}
+
+static void leaves(void *seat)
+{
+    seryugo_seat_leave((struct seryugo_seat *)seat);
+}
+
+/* Receives once, by a deadline if `first` isn't 0. Its seat leaves also if the thread is cancelled. */
+static void *receives_or_leaves(void *given)
+{
+    struct part *part = given;
+    struct timespec deadline = seryugo_in_milliseconds(60000);
+    uint64_t message = 0;
+
+    pthread_cleanup_push(leaves, &part->seat);
+    part->code = seryugo_seat_recv(&part->seat, part->object, part->first != 0 ? &deadline : NULL, &message);
+    part->received = message;
+    pthread_cleanup_pop(1);
+    return NULL;
+}
+
+/* A thread that waits is cancelled as a message comes for it. The next one receives that, and no lock is left. */
+static void cancelled(uint64_t first)
+{
+    struct seryugo_switchboard board;
+    struct part parts[2] = {{.first = first}, {.first = first}};
+    struct seryugo_seat ann;
+    pthread_t threads[2];
+    uint64_t mailbox = 0;
+    void *result = NULL;
+
+    require(seryugo_switchboard_open((uint64_t)1 << 32, &board) == SERYUGO_DONE, "a switchboard is opened");
+    require(seryugo_seat_open(&board, &ann) == SERYUGO_DONE && seryugo_seat_new_mailbox(&ann, &mailbox) == SERYUGO_DONE, "a seat is there");
+    for (int i = 0; i < 2; i++) {
+        require(seryugo_seat_open(&board, &parts[i].seat) == SERYUGO_DONE, "a seat is opened");
+        parts[i].object = mailbox;
+        require(pthread_create(&threads[i], NULL, receives_or_leaves, &parts[i]) == 0, "a thread is started");
+        await_parked(&board, &parts[i]);
+    }
+    seryugo_switchboard_lock(&board);
+    require(seryugo_send(&board.room, ann.number, mailbox, 5) == SERYUGO_DONE, "a message is sent");
+    require(pthread_cancel(threads[0]) == 0, "a thread is cancelled");
+    seryugo_switchboard_unlock(&board);
+    pthread_join(threads[0], &result);
+    require(result == PTHREAD_CANCELED, "it ends where it waits");
+    pthread_join(threads[1], NULL);
+    require(parts[1].code == SERYUGO_DONE && parts[1].received == 5, "the next one receives the message");
+    require(seryugo_seat_recv(&ann, mailbox, NULL, &mailbox) == SERYUGO_STALLED, "both have left");
+    seryugo_seat_leave(&ann);
+    seryugo_switchboard_close(&board);
+}
+
+/* A sink in which a thread could be cancelled. */
+static bool take_and_test(void *context, struct seryugo *journal, uint64_t from, uint64_t count)
+{
+    pthread_testcancel();
+    return take(context, journal, from, count);
+}
+
+/* Sends with a full journal while it is to be cancelled, and hands the entries over. */
+static void *sends_and_keeps(void *given)
+{
+    struct part *part = given;
+
+    pthread_cancel(pthread_self());
+    part->code = seryugo_seat_send(&part->seat, part->object, 1);
+    if (part->code == SERYUGO_DONE) {
+        part->code = seryugo_switchboard_keep(part->seat.board);
+    }
+    part->received = 1;
+    pthread_testcancel();
+    return NULL;
+}
+
+static void cancelled_in_a_sink(void)
+{
+    struct seryugo_switchboard board;
+    struct taken taken = {0, 0, true};
+    struct part part = {0};
+    pthread_t thread;
+    void *result = NULL;
+
+    require(seryugo_switchboard_open(1, &board) == SERYUGO_DONE, "a switchboard is opened");
+    seryugo_switchboard_when_full(&board, take_and_test, &taken);
+    require(seryugo_seat_open(&board, &part.seat) == SERYUGO_DONE, "a seat is opened");
+    require(seryugo_seat_new_mailbox(&part.seat, &part.object) == SERYUGO_DONE, "a mailbox is made");
+    require(pthread_create(&thread, NULL, sends_and_keeps, &part) == 0, "a thread is started");
+    pthread_join(thread, &result);
+    require(result == PTHREAD_CANCELED && part.received == 1, "it ends after its calls");
+    require(part.code == SERYUGO_DONE && taken.count == 2, "the sink has both entries");
+    seryugo_seat_leave(&part.seat);
+    seryugo_switchboard_close(&board);
+    puts("threads are cancelled, and leave no lock");
+}
+
 /* A switchboard on a room that goes on from a journal: its first seat has the next number. */
 static void goes_on(void)
 {
@@ -338,6 +446,9 @@ int main(void)
     each_call_of_bytes();
     deadlines();
     lanes();
+    cancelled(0);
+    cancelled(1);
+    cancelled_in_a_sink();
     goes_on();
     words();
     many_threads();
