@@ -31,6 +31,20 @@ class Awaiting(unittest.TestCase):
         while len(self.board._room._parked) < count:
             await asyncio.sleep(0.001)
 
+    def receives(self, sender, receiver, mailbox, waiting):
+        """Have a thread receive, send once this many seats wait, and see that it comes."""
+        received = []
+
+        def receive():
+            received.append(receiver.recv(mailbox))
+
+        thread = threading.Thread(target=receive, daemon=True)
+        thread.start()
+        asyncio.run(self.parked(waiting))
+        sender.send(mailbox, 5)
+        thread.join(LIMIT)
+        self.assertEqual(received, [5])
+
     def test_a_message_that_waits_is_received_at_once(self):
         (seat,) = self.seats(1)
         mailbox = seat.mailbox(str)
@@ -190,17 +204,11 @@ class Awaiting(unittest.TestCase):
     def test_a_loop_that_was_closed_hands_its_wake_on(self):
         main, other, last = self.seats(3)
         mailbox = main.mailbox(int)
-        received = []
         loop = asyncio.new_event_loop()
         task = loop.create_task(other.recv_async(mailbox))
         loop.run_until_complete(self.parked(1))
         loop.close()
-        thread = threading.Thread(target=lambda: received.append(last.recv(mailbox)), daemon=True)
-        thread.start()
-        asyncio.run(self.parked(2))
-        main.send(mailbox, 5)
-        thread.join(LIMIT)
-        self.assertEqual(received, [5])
+        self.receives(main, last, mailbox, 2)
         # The task is never done: nobody runs its loop.
         task._log_destroy_pending = False
 
@@ -220,13 +228,7 @@ class Awaiting(unittest.TestCase):
 
         with mock.patch.object(room, "listen", interrupted):
             run(begun())
-        received = []
-        thread = threading.Thread(target=lambda: received.append(other.recv(mailbox)), daemon=True)
-        thread.start()
-        asyncio.run(self.parked(1))
-        main.send(mailbox, 5)
-        thread.join(LIMIT)
-        self.assertEqual(received, [5])
+        self.receives(main, other, mailbox, 1)
 
     def test_all_that_wait_are_stalled(self):
         one, two = self.seats(2)
