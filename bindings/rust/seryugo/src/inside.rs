@@ -313,33 +313,29 @@ impl<R: Room> Inside<R> {
     /// Moves what is seen of an open lane into the journal, up to the first message that is
     /// refused.
     pub fn drain(&mut self, lane: u64) -> Result<u64, Error> {
-        let count = self.move_seen(|room, count| raw::seryugo_lane_drain(room, lane, count))?;
-        self.note_moved(lane, count);
-        Ok(count)
+        self.move_seen(|inside| inside.drain_unkept(lane))
     }
 
-    /// The same while nobody takes the entries of the last full journal. The next call still has
-    /// them taken first.
+    /// The same, also while nobody takes the entries of the last full journal. The next call still
+    /// has them taken first.
     fn drain_unkept(&mut self, lane: u64) -> Result<u64, Error> {
         let count = written(|count| raw::seryugo_lane_drain(&mut self.handle, lane, count))?;
-        self.note_moved(lane, count);
-        Ok(count)
-    }
-
-    fn note_moved(&mut self, lane: u64, count: u64) {
         if let Some(lane) = self.lanes.get_mut(&lane) {
             lane.moved = lane.moved.saturating_add(count);
         }
+        Ok(count)
     }
 
     /// Receives what a feed is owed, up to the first message that is refused.
     pub fn pump(&mut self, feed: u64) -> Result<u64, Error> {
-        self.move_seen(|room, count| raw::seryugo_feed_pump(room, feed, count))
+        self.move_seen(|inside| {
+            written(|count| raw::seryugo_feed_pump(&mut inside.handle, feed, count))
+        })
     }
 
     /// Makes a call that moves what it sees. If it stops at a full journal, and room is made there,
     /// it goes on.
-    fn move_seen(&mut self, call: impl Fn(&mut Handle, &mut u64) -> u32) -> Result<u64, Error> {
+    fn move_seen(&mut self, call: impl Fn(&mut Self) -> Result<u64, Error>) -> Result<u64, Error> {
         let mut last = self.move_once(&call)?;
         let mut moved = last;
         while last != 0 && moved < MOST_MOVED && self.cuts_now() {
@@ -350,7 +346,7 @@ impl<R: Room> Inside<R> {
         Ok(moved)
     }
 
-    fn move_once(&mut self, call: impl Fn(&mut Handle, &mut u64) -> u32) -> Result<u64, Error> {
+    fn move_once(&mut self, call: impl Fn(&mut Self) -> Result<u64, Error>) -> Result<u64, Error> {
         if !self.makes_room() {
             return Err(Error::NotKept);
         }
@@ -358,7 +354,7 @@ impl<R: Room> Inside<R> {
             // It has an entry for each message.
             self.spare = 0;
         }
-        written(|count| call(&mut self.handle, count))
+        call(self)
     }
 
     /// Whether the journal is full, and the next call cuts it.

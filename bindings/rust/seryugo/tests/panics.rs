@@ -101,6 +101,10 @@ fn a_message_wakes_its_seat_though_the_sink_panics_after_it() {
     assert!(panic::catch_unwind(AssertUnwindSafe(|| lane.drain())).is_err());
     assert_eq!(alarm.count(), 1);
     assert_eq!(poll_once(received), Poll::Ready(Ok(0)));
+    // What moved before the panic is no loss.
+    assert_eq!(lane.drain(), Ok(3));
+    drop(lane);
+    assert_eq!(board.lost(), 0);
 }
 
 /// The thread that is woken makes its call again, and the sink panics in it. The thread wakes the
