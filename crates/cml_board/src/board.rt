@@ -135,6 +135,7 @@ impl<M: Message, L: MessageLog<M>> Board<M, L> {
     }
 
     /// Returns how many calls were accepted since the board was made.
+    #[inline]
     pub fn entries(&self) -> u64
         ensures { result ≡ entries_in self.now.history }
     {
@@ -150,6 +151,7 @@ impl<M: Message, L: MessageLog<M>> Board<M, L> {
 
     /// Says whether the journal is full. It is full if it has as many entries as its limit. It is also full if 2^64 - 1
     /// calls, the highest count, were accepted since the board was made.
+    #[inline]
     pub fn is_full(&self) -> bool
         ensures full { MatchBool result (entries_in self.now.history ≡ full_at self.now) (HasRoom self.now) }
         ensures lawful { Lawful self.now.history }
@@ -227,6 +229,7 @@ impl<M: Message, L: MessageLog<M>> Board<M, L> {
     }
 
     /// Returns the object's kind, or `None` if no object has this name.
+    #[inline]
     pub fn kind(&self, name: Name) -> Option<Kind>
         ensures { result ≡ kind_of self.now.history name.0 }
     {
@@ -348,6 +351,7 @@ impl<M: Message, L: MessageLog<M>> Board<M, L> {
         share_at(&mut self.objects, self.alloc, cursor.0, cursor.1)
     }
 
+    #[inline]
     fn object(&self, name: Name) -> Option<&Object<M, L>>
         ensures { MatchOption result (origin_of self.now.history name.0 ≡ None)
             (λ object. Stands L.CHUNK self.now name.0 (map_log L.log object.now)) }
@@ -356,6 +360,7 @@ impl<M: Message, L: MessageLog<M>> Board<M, L> {
     }
 
     /// Where a mailbox or an open port reads: the object with its log, and its cursor there.
+    #[inline]
     fn cursor(&self, name: Name) -> Option<(Name, Key)>
         ensures { MatchOption result ((is_a is_receiver self.now.history name.0 && is_open self.now.history name.0) ≡ false)
             (λ cursor. ReadsAt self.now name.0 cursor.0.0 cursor.1) }
@@ -363,6 +368,7 @@ impl<M: Message, L: MessageLog<M>> Board<M, L> {
         object::cursor_in(self.object(name)?, name)
     }
 
+    #[inline]
     fn log(&self, source: Name) -> &L
         requires { HasLog self.now.objects source.0 }
         ensures { log_at self.now.objects source.0 ≡ Some (L.log result.now) }

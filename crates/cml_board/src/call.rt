@@ -67,6 +67,7 @@ impl<M> Call<M> {
     }
 
     /// Returns the call that gives the object this message.
+    #[inline]
     pub fn give(give: Give, name: Name, message: M) -> Call<M>
         ensures { result ≡ given_call give name message }
     {
@@ -79,6 +80,7 @@ impl<M> Call<M> {
     }
 
     /// Returns the call that asks the object this.
+    #[inline]
     pub fn ask(ask: Ask, name: Name) -> Call<M>
         ensures { result ≡ asked_call ask name }
     {
@@ -137,7 +139,7 @@ impl<M> Call<M> {
 
     /// Returns which objects take the call. This is one column of the row, which a board looks at in each call.
     // A board calls this and `object` in each call. To match the variants costs less than to take the call apart.
-    #[inline(always)]
+    #[inline]
     pub fn takers(&self) -> Takers
         ensures { result ≡ (row_of self.now).takers }
     {

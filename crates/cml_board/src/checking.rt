@@ -31,18 +31,18 @@ pub fn check<M: Message>(
 }
 
 /// Checks a journal that comes in pieces, as one does that was cut. Feed it the pieces in order, the first from when the board
-/// was made. It keeps the objects and what waits in them, and no entry.
+/// was made. It keeps the objects and what waits in them, and no entry. `L` is the type of the board's logs.
 #[derive(Drop)]
-pub struct Checker<M: Message> {
+pub struct Checker<M: Message, L: MessageLog<M> = BoardLog<M>> {
     alloc: Global,
 
     // Its journal is cut after each entry.
-    board: Board<M, BoardLog<M>>,
+    board: Board<M, L>,
     makers: Makers,
     unlawful: Option<Unlawful<M>>,
 }
 
-impl<M: Message> Model for Checker<M> {
+impl<M: Message, L: MessageLog<M>> Model for Checker<M, L> {
     ghost use Rattle.std.specs.Prelude.{MatchOption, ⊤};
     ghost use Rattle.cml_board.specs.Checking.{Found, checked, IsClean};
 
@@ -56,6 +56,15 @@ impl<M: Message> Model for Checker<M> {
 impl<M: Message> Checker<M> {
     /// Makes a checker that has seen no entry.
     pub fn new(alloc: Global) -> Result<Checker<M>, AllocError>
+        ensures { IfOk result (λ checker. checker ≡ Ok no_entries) }
+    {
+        Checker::with_logs(alloc)
+    }
+}
+
+impl<M: Message, L: MessageLog<M>> Checker<M, L> {
+    /// Makes a checker that has seen no entry, whose board has logs of this type. A board that goes on from it has them too.
+    pub fn with_logs(alloc: Global) -> Result<Checker<M, L>, AllocError>
         ensures { IfOk result (λ checker. checker ≡ Ok no_entries) }
     {
         Ok(Checker {
@@ -100,7 +109,7 @@ impl<M: Message> Checker<M> {
 
     /// Returns a board with the objects and the history that these entries give, as if it had made each call and then cut its
     /// journal. Its journal takes `limit` entries until the next cut. If an entry is unlawful, returns the checker.
-    pub fn into_board(self, limit: u64) -> Result<Board<M, BoardLog<M>>, Checker<M>>
+    pub fn into_board(self, limit: u64) -> Result<Board<M, L>, Checker<M, L>>
         requires least { 1 ≤ limit }
         requires most { limit ≤ 2 ^ 32 }
         ensures { Restores self limit result }
@@ -113,7 +122,7 @@ impl<M: Message> Checker<M> {
 
     /// Returns the same board, and who made its entries. The checker is then like a new one. If an entry is unlawful, returns
     /// `None`, and the checker stays as it is.
-    pub fn restore(&mut self, limit: u64) -> Option<Restored<M, BoardLog<M>>>
+    pub fn restore(&mut self, limit: u64) -> Option<Restored<M, L>>
         requires least { 1 ≤ limit }
         requires most { limit ≤ 2 ^ 32 }
         ensures { RestoresWith self.old limit self.new result }

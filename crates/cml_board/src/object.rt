@@ -71,6 +71,7 @@ impl Form {
 }
 
 /// The log of an object that has one.
+#[inline]
 pub fn log_in<M, L: MessageLog<M>>(object: &Object<M, L>) -> &L
     requires { IsSome (log_in (map_log L.log object.now)) }
     ensures { log_in (map_log L.log object.now) ≡ Some (L.log result.now) }
@@ -100,6 +101,7 @@ pub fn push<M, L: MessageLog<M>>(object: &mut Object<M, L>, message: M) -> Resul
 }
 
 /// A message equal to the one at a cursor's place.
+#[inline(always)]
 pub fn share_first<M: Message, L: MessageLog<M>>(
     log: &L,
     alloc: Global,
@@ -116,17 +118,19 @@ pub fn share_first<M: Message, L: MessageLog<M>>(
     }
 }
 
-// Moves the message at a cursor's place out of a log. If it owns no memory, or the log doesn't part with it, shares it and moves the
-// cursor past it.
+// Moves the message at a cursor's place out of a log. If it owns no memory, or the log doesn't part with it, shares the equal one
+// that was noted, and moves the cursor past it: a second look at the log would take longer.
 #[inline(always)]
 fn take_first<M: Message, L: MessageLog<M>>(
     log: &mut L,
     alloc: Global,
     key: Key,
+    noted: &M,
 ) -> Result<M, AllocError>
     requires opened { IsOpen (L.log log.old) key }
     requires owed { 0 < length (owed_items (L.log log.old) key) }
-    ensures first { IfOk result (λ message. slice_get (owed_items (L.log log.old) key) 0 ≡ Some message) }
+    requires first { slice_get (owed_items (L.log log.old) key) 0 ≡ Some noted.now }
+    ensures same { IfOk result (λ message. message ≡ noted.now) }
     ensures ok { OnOk result (L.log log.new ≡ advanced L.CHUNK key (L.log log.old)) }
     ensures err { OnErr result (L.log log.new ≡ L.log log.old) }
     ensures sure { OnErr result (M.SURE ≡ false) }
@@ -136,31 +140,33 @@ fn take_first<M: Message, L: MessageLog<M>>(
     {
         return Ok(message);
     }
-    let message = share_first(log, alloc, key)?;
+    let message = noted.share(alloc)?;
     log.advance(key);
     Ok(message)
 }
 
-/// Takes the message at a cursor's place out of the object's log, and moves the cursor past it. If another cursor may still read
-/// that message, it returns an equal one.
+/// Takes the message at a cursor's place out of the object's log, and moves the cursor past it. `noted` is equal to it. If another
+/// cursor may still read that message, it returns an equal one.
 #[inline(always)]
 pub fn take<M: Message, L: MessageLog<M>>(
     object: &mut Object<M, L>,
     alloc: Global,
     key: Key,
+    noted: &M,
 ) -> Result<M, AllocError>
     requires stands { IsSome (log_in (map_log L.log object.old)) }
     requires opened { (log : Log M) → log_in (map_log L.log object.old) ≡ Some log → IsOpen log key }
     requires owed { (log : Log M) → log_in (map_log L.log object.old) ≡ Some log → 0 < length (owed_items log key) }
-    ensures first { IfOk result (λ message. (log : Log M) → log_in (map_log L.log object.old) ≡ Some log
-        → slice_get (owed_items log key) 0 ≡ Some message) }
+    requires first { (log : Log M) → log_in (map_log L.log object.old) ≡ Some log
+        → slice_get (owed_items log key) 0 ≡ Some noted.now }
+    ensures same { IfOk result (λ message. message ≡ noted.now) }
     ensures ok { OnOk result (map_log L.log object.new ≡ map_log (advanced L.CHUNK key) (map_log L.log object.old)) }
     ensures err { OnErr result (map_log L.log object.new ≡ map_log L.log object.old) }
     ensures sure { OnErr result (M.SURE ≡ false) }
 {
     match object {
-        Object::Mailbox(log, _) => take_first(log, alloc, key),
-        Object::Channel(log) => take_first(log, alloc, key),
+        Object::Mailbox(log, _) => take_first(log, alloc, key, noted),
+        Object::Channel(log) => take_first(log, alloc, key, noted),
         Object::Port(_) | Object::Variable(_, _) => unreachable!(),
     }
 }
@@ -209,6 +215,7 @@ pub fn copy_cursor<M, L: MessageLog<M>>(
 }
 
 /// The object whose log the object of this name reads, and its cursor there.
+#[inline]
 pub fn cursor_in<M, L>(object: &Object<M, L>, name: Name) -> Option<(Name, Key)>
     ensures { option_map (λ cursor. (cursor.0.0, cursor.1)) result ≡ cursor_in name.0 object.now }
 {

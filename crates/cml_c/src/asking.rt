@@ -11,6 +11,7 @@ use crate::kept::{RoomOf, on_one};
 use cml_board::{Call, Message, Reply, Response};
 
 /// Makes a call, again if it had parked its seat.
+#[inline(always)]
 pub(crate) fn ask<M: Message>(
     room: &mut RoomOf<M>,
     seat: u64,
@@ -29,6 +30,7 @@ pub(crate) fn ask<M: Message>(
 }
 
 /// The code of what became of a call. A name that it gave is written.
+#[inline(always)]
 pub(crate) fn tell_name<M: Message>(response: Response<M>, name: &mut u64) -> u32
     ensures code { (entries : ℕ) (call : Call M) → result ≡ number (told_outcome (outcome_of entries call response)) }
     ensures written { (entries : ℕ) (call : Call M) → name.new ≡ named_outcome name.old (outcome_of entries call response) }
@@ -40,6 +42,7 @@ pub(crate) fn tell_name<M: Message>(response: Response<M>, name: &mut u64) -> u3
 }
 
 /// The code of what became of a call.
+#[inline]
 pub(crate) fn code_of_response<M>(response: &Response<M>) -> Code
     ensures { (entries : ℕ) (call : Call M) → result ≡ told_outcome (outcome_of entries call response.now) }
 {
@@ -51,6 +54,7 @@ pub(crate) fn code_of_response<M>(response: &Response<M>) -> Code
 }
 
 /// The code of a reply.
+#[inline]
 pub(crate) fn code_of_reply<M>(reply: &Reply<M>) -> Code
     ensures { result ≡ told_reply reply.now }
 {
@@ -63,6 +67,7 @@ pub(crate) fn code_of_reply<M>(reply: &Reply<M>) -> Code
 }
 
 /// Makes a call in a room of numbers, and writes the name or the message that it gives.
+#[inline(always)]
 pub(crate) fn make_call(
     handle: &mut Handle,
     seat: u64,
@@ -76,6 +81,7 @@ pub(crate) fn make_call(
 }
 
 /// Makes a call that gives none.
+#[inline(always)]
 pub(crate) fn make_plain_call(handle: &mut Handle, seat: u64, call: Call<u64>) -> u32
     ensures { CallsPlain false seat call handle.old.kept handle.new.kept result }
 {
@@ -84,14 +90,20 @@ pub(crate) fn make_plain_call(handle: &mut Handle, seat: u64, call: Call<u64>) -
 }
 
 /// The code of what became of a call. A number that it gave is written.
+#[inline(always)]
 fn tell(response: Response<u64>, given: &mut u64) -> u32
     ensures code { (entries : ℕ) (call : Call ℕ) → result ≡ number (told_outcome (outcome_of entries call response)) }
     ensures written { (entries : ℕ) (call : Call ℕ) → given.new ≡ written_outcome given.old (outcome_of entries call response) }
 {
     match response {
-        Response::Reply(Reply::Made(name)) => *given = name.0,
-        Response::Reply(Reply::Got(message)) => *given = message,
-        _ => {}
+        Response::Reply(Reply::Made(name)) => {
+            *given = name.0;
+            Code::Done.number()
+        }
+        Response::Reply(Reply::Got(message)) => {
+            *given = message;
+            Code::Done.number()
+        }
+        other => code_of_response(&other).number(),
     }
-    code_of_response(&response).number()
 }

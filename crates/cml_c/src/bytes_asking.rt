@@ -15,6 +15,7 @@ use cml_board::{Bytes, Call, Reply, Response};
 use std::alloc::{AllocError, Global};
 
 /// Makes a call, and hands over the message that it gives.
+#[inline(always)]
 pub(crate) fn make_call(
     alloc: Global,
     handle: &mut Handle,
@@ -34,6 +35,7 @@ pub(crate) fn make_call(
     }
 }
 
+#[inline(always)]
 pub(crate) fn make_in_room(
     alloc: Global,
     stocked: &mut Stocked<Bytes>,
@@ -53,6 +55,7 @@ pub(crate) fn make_in_room(
 }
 
 /// Makes a call though there is no memory to keep a long message. If the call needs some, nothing is changed.
+#[inline(never)]
 fn make_without_block(
     room: &mut RoomOf<Bytes>,
     seat: u64,
@@ -70,6 +73,7 @@ fn make_without_block(
 }
 
 /// Sees that there is a spare block.
+#[inline]
 fn stock(alloc: Global, spare: &mut Option<Box<Held>>) -> Result<(), AllocError>
     ensures { OnOk result (IsSome spare.new) }
 {
@@ -80,6 +84,7 @@ fn stock(alloc: Global, spare: &mut Option<Box<Held>>) -> Result<(), AllocError>
 }
 
 /// The code of what became of a call. A message that the call gave is handed over, a long one in the spare block.
+#[inline(always)]
 fn tell(spare: &mut Option<Box<Held>>, response: Response<Bytes>, given: &mut SeryugoBytes) -> u32
     requires { IsSome spare.old }
     ensures code { (entries : ℕ) (call : Call (List ℕ)) → result ≡ number (told_outcome (outcome_of entries call response)) }

@@ -15,6 +15,7 @@ use cml_board::{Bytes, Call, Name, Want};
 use std::alloc::Global;
 
 /// Copies a message and makes the call that sends it, and writes the name that the call gives.
+#[inline(always)]
 pub(crate) fn make_sending_call(
     alloc: Global,
     handle: &mut Handle,
@@ -29,6 +30,7 @@ pub(crate) fn make_sending_call(
 }
 
 /// Copies a message and makes the call that sends it. The call gives no name.
+#[inline(always)]
 pub(crate) fn make_nameless_sending_call(
     alloc: Global,
     handle: &mut Handle,
@@ -42,6 +44,7 @@ pub(crate) fn make_nameless_sending_call(
     make_sending_call(alloc, handle, seat, sending, message, &mut name)
 }
 
+#[inline(always)]
 fn send_in(
     alloc: Global,
     room: &mut RoomOf<Bytes>,

@@ -43,6 +43,7 @@ pub enum Code {
 }
 
 impl Code {
+    #[inline]
     pub fn number(self) -> u32
         ensures { result ≡ number self }
     {
@@ -71,6 +72,7 @@ impl Code {
         }
     }
 
+    #[inline]
     pub fn of_refusal(refusal: Refusal) -> Code
         ensures { result ≡ of_refusal refusal }
     {

@@ -84,6 +84,7 @@ impl Handle {
     }
 
     /// Lends what it leads to.
+    #[inline]
     pub(crate) fn as_mut(&mut self) -> &mut Kept
         ensures* writes_back { sem 𝓛 (handle_follows self.entry result) }
         ensures value { result.now ≡ self.old.kept }

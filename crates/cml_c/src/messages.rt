@@ -29,6 +29,7 @@ pub extern "C" fn seryugo_bytes_release(owner: Keeper) {
 }
 
 /// Copies the bytes that C sends.
+#[inline]
 pub(crate) fn copied(alloc: Global, source: &[u8]) -> Result<Bytes, Code>
     ensures copied { IfOk result (λ bytes. bytes ≡ source.now) }
     ensures refused { IfErr result (λ code. NotCopied source.now (number code)) }
@@ -94,12 +95,14 @@ pub(crate) fn hand_over_new(alloc: Global, given: Bytes, message: &mut SeryugoBy
 }
 
 /// Memory in which a message is kept.
+#[inline(never)]
 pub(crate) fn new_block(alloc: Global) -> Result<Box<Held>, AllocError> {
     Ok(Box::new(alloc, Held { bytes: None })?)
 }
 
 /// Hands a message over. A long one is kept in the spare block, whose memory was there before the message was taken. A short one
 /// leaves the block there.
+#[inline(always)]
 pub(crate) fn hand_over(spare: &mut Option<Box<Held>>, message: Bytes, to: &mut SeryugoBytes)
     requires { IsSome spare.old }
     ensures { IsHanded message to.new }
@@ -114,6 +117,7 @@ pub(crate) fn hand_over(spare: &mut Option<Box<Held>>, message: Bytes, to: &mut 
 }
 
 /// Keeps a long message in the block, and writes where it is.
+#[inline(never)]
 fn keep_long(mut block: Box<Held>, message: Bytes, to: &mut SeryugoBytes)
     requires { 78 < length message }
     ensures { IsHanded message to.new }
@@ -128,6 +132,7 @@ fn keep_long(mut block: Box<Held>, message: Bytes, to: &mut SeryugoBytes)
 }
 
 /// Writes a short message into the struct. What keeps a long one isn't read then, and is left as it was.
+#[inline]
 pub(crate) fn show_short(bytes: &[u8], to: &mut SeryugoBytes)
     requires { length bytes.now ≤ 78 }
     ensures { IsHanded bytes.now to.new }

@@ -14,6 +14,7 @@ pub enum Sending {
 
 impl Sending {
     /// The call with this message.
+    #[inline(always)]
     pub fn into_call<M>(self, message: M) -> Call<M>
         ensures { result ≡ sending_call self message }
     {

@@ -88,6 +88,7 @@ impl<T: Drop, const N: usize> Chain<T, N> {
     }
 
     /// Lends the item at a slot of the chunk that lies there.
+    #[inline(always)]
     pub(crate) fn item(&self, at: Address, slot: usize) -> Option<&T>
         requires lies { LiesAt self.now.cells at.number at.at }
         requires within { slot < N }
@@ -121,6 +122,7 @@ impl<T: Drop, const N: usize> Chain<T, N> {
     }
 
     /// Where the chunk after this one lies.
+    #[inline(never)]
     pub(crate) fn follow(&mut self, at: Address) -> Address
         requires lies { LiesAt self.old.cells at.number at.at }
         requires before { at.number < end_of N self.old / N }
@@ -168,6 +170,7 @@ impl<T: Drop, const N: usize> Chain<T, N> {
         self.chunks.set_cursors(at, cursors);
     }
 
+    #[inline(always)]
     pub(crate) fn is_idle(&self) -> bool
         ensures { result ≡ is_idle N self.now }
     {
@@ -175,6 +178,7 @@ impl<T: Drop, const N: usize> Chain<T, N> {
     }
 
     /// Frees the head. `next` is where the chunk after it lies.
+    #[inline(never)]
     pub(crate) fn pass_head_to(&mut self, next: Address)
         requires before { self.old.given < end_of N self.old / N }
         requires number { next.number ≡ self.old.given + 1 }
@@ -185,6 +189,7 @@ impl<T: Drop, const N: usize> Chain<T, N> {
         self.head = next;
     }
 
+    #[inline(never)]
     fn pass_head(&mut self)
         requires { self.old.given < end_of N self.old / N }
         ensures { self.new ≡ record (passed N self.old) { followed = self.old.followed + 1 } }
@@ -194,6 +199,7 @@ impl<T: Drop, const N: usize> Chain<T, N> {
     }
 
     /// Frees the chunks from the head on that no cursor is in, up to the tail.
+    #[inline(always)]
     pub(crate) fn pass_idle(&mut self)
         ensures idle { is_idle N self.new ≡ false }
         ensures passed { Passed N self.old self.new }
@@ -211,6 +217,7 @@ impl<T: Drop, const N: usize> Chain<T, N> {
     }
 
     /// The place that the next item gets.
+    #[inline]
     pub(crate) fn next(&self) -> u64
         ensures { result ≡ end_of N self.now }
     {

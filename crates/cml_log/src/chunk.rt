@@ -68,6 +68,7 @@ impl<T: Drop, const N: usize> KeptChunks<T, N> {
     }
 
     /// Makes a chunk with no item, no link and no cursor, under the next number, and counts it.
+    #[inline(never)]
     pub(crate) fn make(&mut self, alloc: Global, number: u64) -> Result<Address, AllocError>
         requires { number ≡ length self.old.blocks.kept }
         ensures number { IfOk result (λ at. at.number ≡ number) }
@@ -106,6 +107,7 @@ impl<T: Drop, const N: usize> KeptChunks<T, N> {
     }
 
     /// Lends the item at a slot, if it was written.
+    #[inline(always)]
     pub(crate) fn item(&self, at: Address, slot: usize) -> Option<&T>
         requires kept { IsKept self.now.blocks.kept at.number at.at }
         requires left { taken_at self.now.blocks.kept at.number ≤ slot }
@@ -116,6 +118,7 @@ impl<T: Drop, const N: usize> KeptChunks<T, N> {
     }
 
     /// How many cursors are in a chunk.
+    #[inline(always)]
     pub(crate) fn cursors(&self, at: Address) -> u64
         requires { IsKept self.now.blocks.kept at.number at.at }
         ensures { cell_of (block_at self.now.blocks.kept at.number) ≡ Some (at.at, result) }
@@ -135,6 +138,7 @@ impl<T: Drop, const N: usize> KeptChunks<T, N> {
         self.blocks.get_mut(at).link = Link::to(next);
     }
 
+    #[inline(always)]
     pub(crate) fn set_cursors(&mut self, at: Address, cursors: u64)
         requires { IsKept self.old.blocks.kept at.number at.at }
         ensures rewrites { Rewrites self.old.blocks.kept self.new.blocks.kept at.number at.at (with_cursors cursors) }
@@ -145,6 +149,7 @@ impl<T: Drop, const N: usize> KeptChunks<T, N> {
     }
 
     /// Writes the next slot of a chunk.
+    #[inline(always)]
     pub(crate) fn write(&mut self, at: Address, slot: usize, item: T)
         requires kept { IsKept self.old.blocks.kept at.number at.at }
         requires next { slot ≡ length (row_at self.old.blocks.kept at.number) }

@@ -152,6 +152,7 @@ impl<T: Drop, const N: usize> MessageLog<T> for ChunkLog<T, N> {
         self.chain.pass_idle();
     }
 
+    #[inline(always)]
     fn peek(&self, k: Key) -> Option<&T> {
         let cursor = self.cursors.get(k.0);
         self.chain
@@ -203,14 +204,17 @@ impl<T: Drop, const N: usize> MessageLog<T> for ChunkLog<T, N> {
         self.chain.first()
     }
 
+    #[inline]
     fn next(&self) -> u64 {
         self.chain.next()
     }
 
+    #[inline]
     fn place(&self, k: Key) -> u64 {
         self.cursors.get(k.0).place
     }
 
+    #[inline(always)]
     fn owed(&self, k: Key) -> u64 {
         self.chain.next() - self.cursors.get(k.0).place
     }

@@ -48,6 +48,7 @@ impl<T: Drop, const N: usize> Row<T, N> {
     }
 
     /// The item at a slot, if it was written.
+    #[inline(always)]
     pub(crate) fn get(&self, slot: usize) -> Option<&T>
         requires { self.now.taken ≤ slot }
         ensures { option_copied result ≡ slice_get self.now.items slot }
@@ -59,6 +60,7 @@ impl<T: Drop, const N: usize> Row<T, N> {
     }
 
     /// Writes the next slot.
+    #[inline(always)]
     pub(crate) fn write(&mut self, slot: usize, item: T)
         requires next { slot ≡ length self.old.items }
         requires within { slot < N }

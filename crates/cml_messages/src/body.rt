@@ -19,6 +19,7 @@ pub(crate) enum Body {
 }
 
 /// Copies bytes into a block. It fills the block where it lies, because moving a full array there takes longer.
+#[inline]
 fn block_of(alloc: Global, source: &[u8]) -> Result<Arc<Body>, AllocError>
     requires { length source.now ≤ 78 }
     ensures { IfOk result (λ block. bytes_of (arc_value block) ≡ source.now) }
@@ -34,6 +35,7 @@ fn block_of(alloc: Global, source: &[u8]) -> Result<Arc<Body>, AllocError>
 
 impl Body {
     /// Copies bytes to where they fit.
+    #[inline]
     pub(crate) fn of_slice(alloc: Global, source: &[u8]) -> Result<Arc<Body>, AllocError>
         ensures { IfOk result (λ body. bytes_of (arc_value body) ≡ source.now) }
     {
@@ -54,6 +56,7 @@ impl Body {
     }
 
     /// Puts these few bytes in the place of those that were there.
+    #[inline]
     fn fill(&mut self, source: &[u8])
         requires { length source.now ≤ 78 }
         ensures { bytes_of self.new ≡ source.now }

@@ -41,6 +41,7 @@ pub struct TooLong;
 
 impl Bytes {
     /// Copies these bytes. By the code, it allocates once for up to 78 of them, and twice for more.
+    #[inline]
     pub fn from_slice(alloc: Global, source: &[u8]) -> Result<Result<Bytes, TooLong>, AllocError>
         ensures bytes { IfOk result (λ tested. IfOk tested (λ bytes. bytes ≡ source.now)) }
         ensures refused { IfOk result (λ tested. OnErr tested (IsTooLong source.now)) }

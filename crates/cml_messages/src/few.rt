@@ -21,6 +21,7 @@ impl<const N: usize> Model for Few<N> {
 }
 
 impl<const N: usize> Few<N> {
+    #[inline]
     pub(crate) fn empty() -> Few<N>
         ensures { result ≡ [] }
     {
@@ -41,6 +42,7 @@ impl<const N: usize> Few<N> {
     }
 
     /// Puts these bytes in the place of those that were there.
+    #[inline]
     pub(crate) fn fill(&mut self, source: &[u8])
         requires room { length source.now ≤ N }
         requires count { length source.now < 2 ^ 8 }

@@ -20,6 +20,7 @@ pub enum News {
 }
 
 /// Returns what the call brings once it is answered.
+#[inline]
 pub fn news_in<M>(call: &Call<M>) -> Option<News>
     ensures { result ≡ news_in call.now }
 {

@@ -23,6 +23,7 @@ pub struct Waiter {
 }
 
 impl Place {
+    #[inline]
     pub fn state(self) -> State
         ensures { result ≡ state_by self }
     {

@@ -50,6 +50,7 @@ impl Places {
     }
 
     /// What is known of the seat, if it was made.
+    #[inline]
     pub fn get(&self, number: u64) -> Option<Place>
         ensures { result ≡ slice_get self.now number }
     {

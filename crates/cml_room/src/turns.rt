@@ -63,6 +63,7 @@ pub fn finish_turn<M: Message, L: MessageLog<M>>(
 }
 
 /// The seat's call was answered, and brought these news: the seat is free. All are due if the journal is full now.
+#[inline(always)]
 pub fn answer_turn<M: Message, L: MessageLog<M>>(
     floor: &Floor<M, L>,
     seats: &mut Seats,
@@ -85,6 +86,7 @@ pub fn answer_turn<M: Message, L: MessageLog<M>>(
 }
 
 /// The seat is free. If it waited, the next that waits for the same has its turn. If not, who may go on by the news becomes due.
+#[inline(never)]
 pub fn end_turn<M: Message, L: MessageLog<M>>(
     floor: &Floor<M, L>,
     seats: &mut Seats,
@@ -119,6 +121,7 @@ fn waiter_at(seats: &Seats, number: u64) -> Option<Waiter>
 }
 
 /// The seat waits for this, and isn't due. If no seat can go on then, the seat is set free, and `park` returns false.
+#[inline(never)]
 pub fn park<M: Message, L: MessageLog<M>>(
     floor: &Floor<M, L>,
     seats: &mut Seats,

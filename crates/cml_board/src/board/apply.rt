@@ -22,6 +22,10 @@ impl<M: Message, L: MessageLog<M>> Board<M, L> {
         if let Some(refusal) = self.refusal(&call) {
             return Outcome::Refused(refusal, call);
         }
+        // Only a swap has a message and may wait: so a call that waits shares none.
+        if matches!(call, Call::Swap(_, _)) && self.would_wait(&call) {
+            return Outcome::WouldWait(call);
+        }
         let Ok(noted) = call.share(self.alloc) else {
             return self.unshared(call);
         };
@@ -60,9 +64,26 @@ impl<M: Message, L: MessageLog<M>> Board<M, L> {
         Outcome::Refused(Refusal::NoMemory, call)
     }
 
-    /// Makes a call that can fail only for want of memory. The journal keeps it.
+    /// Makes a call that can fail only for want of memory. The journal keeps it. Sends and receives, which are most calls, are made
+    /// here, so that the caller's code has them alone where it knows which call it makes.
     #[inline(always)]
     fn perform(&mut self, who: Who, call: Call<M>) -> Response<M>
+        requires fits { Fits self.old.history call }
+        requires room { HasRoom self.old }
+        ensures { Performs L.CHUNK M.SURE self.old self.new who call result }
+    {
+        match call {
+            Call::Send(name, message) => {
+                given(Give::Send, name, self.put(who, name, message, Give::Send))
+            }
+            Call::Recv(name) => self.receive(who, name),
+            other => self.perform_any(who, other),
+        }
+    }
+
+    /// Makes a call of any kind in the same way.
+    #[inline(never)]
+    fn perform_any(&mut self, who: Who, call: Call<M>) -> Response<M>
         requires fits { Fits self.old.history call }
         requires room { HasRoom self.old }
         ensures { Performs L.CHUNK M.SURE self.old self.new who call result }
@@ -94,6 +115,7 @@ impl<M: Message, L: MessageLog<M>> Board<M, L> {
     }
 
     /// The reason why the call fails, whatever memory there is.
+    #[inline(always)]
     fn refusal(&self, call: &Call<M>) -> Option<Refusal>
         ensures { MatchOption result (Fits self.now.history call.now × HasRoom self.now)
             (λ refusal. (refusal ≢ Refusal.NoMemory) × Refuses L.CHUNK M.SURE self.now call.now refusal) }

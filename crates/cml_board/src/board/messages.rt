@@ -18,7 +18,7 @@ use cml_log::{Key, MessageLog};
 impl<M: Message, L: MessageLog<M>> Board<M, L> {
     /// Sends a message to a mailbox, or multicasts it on a channel. The answer is `Done`. Returns the message if it fails for
     /// want of memory.
-    #[inline(never)]
+    #[inline(always)]
     pub(super) fn put(&mut self, who: Who, name: Name, message: M, give: Give) -> Result<(), M>
         requires adds { adds give ≡ true }
         requires fits { Fits self.old.history (given_call give name message) }
@@ -43,7 +43,7 @@ impl<M: Message, L: MessageLog<M>> Board<M, L> {
         Ok(())
     }
 
-    #[inline(never)]
+    #[inline(always)]
     pub(super) fn receive(&mut self, who: Who, name: Name) -> Response<M>
         requires fits { is_a is_receiver self.old.history name.0 ≡ true }
         requires room { HasRoom self.old }
@@ -74,7 +74,7 @@ impl<M: Message, L: MessageLog<M>> Board<M, L> {
     }
 
     /// A call on a port that was closed before.
-    #[inline(always)]
+    #[inline(never)]
     pub(super) fn find_closed(&mut self, who: Who, name: Name, ask: Ask) -> Response<M>
         requires asks { asks_port ask ≡ true }
         requires fits { Fits self.old.history (asked_call ask name) }
@@ -96,7 +96,7 @@ impl<M: Message, L: MessageLog<M>> Board<M, L> {
     }
 
     /// A poll where nothing is owed.
-    #[inline(always)]
+    #[inline(never)]
     fn find_nothing(&mut self, who: Who, name: Name) -> Response<M>
         requires fits { is_a is_receiver self.old.history name.0 ≡ true }
         requires opened { is_open self.old.history name.0 ≡ true }
@@ -133,7 +133,7 @@ impl<M: Message, L: MessageLog<M>> Board<M, L> {
         let Ok(()) = self.journal.reserve(1) else {
             return denied(call);
         };
-        let Ok(message) = take_at(&mut self.objects, self.alloc, source, key) else {
+        let Ok(message) = take_at(&mut self.objects, self.alloc, source, key, &noted) else {
             return denied(call);
         };
         let entry = Entry {

@@ -38,6 +38,7 @@ impl Making {
 }
 
 /// Adds an entry to a journal that has room for it.
+#[inline]
 pub fn note<M>(journal: &mut Vec<Entry<M>>, entry: Entry<M>)
     requires { vec_len journal.old < vec_capacity journal.old }
     ensures entries { journal.new.items ≡ journal.old.items ++ entry ∷ [] }
@@ -47,6 +48,7 @@ pub fn note<M>(journal: &mut Vec<Entry<M>>, entry: Entry<M>)
 }
 
 /// Returns a call that fails for want of memory.
+#[inline]
 pub fn denied<M>(call: Call<M>) -> Response<M>
     ensures { result ≡ Refused NoMemory call }
 {
@@ -54,7 +56,7 @@ pub fn denied<M>(call: Call<M>) -> Response<M>
 }
 
 /// The response to a call that gives an object a message. If the call fails, its message is here.
-#[inline(always)]
+#[inline]
 pub fn given<M>(give: Give, name: Name, put: Result<(), M>) -> Response<M>
     ensures { result ≡ given_response give name put }
 {

@@ -14,6 +14,7 @@ use crate::sharing::share_all;
 use cml_log::{Back, Key, MessageLog};
 use std::alloc::{AllocError, Global};
 
+#[inline]
 pub fn log_at<M, L: MessageLog<M>>(objects: &Vec<Object<M, L>>, name: Name) -> &L
     requires { HasLog (seen_all L.log objects.now.items) name.0 }
     ensures { log_at (seen_all L.log objects.now.items) name.0 ≡ Some (L.log result.now) }
@@ -38,23 +39,25 @@ pub fn push_at<M, L: MessageLog<M>>(
     object::push(&mut objects[name.0 as usize], message)
 }
 
-/// Takes the message at a cursor's place out of a log, and moves the cursor past it.
+/// Takes the message at a cursor's place out of a log, and moves the cursor past it. `noted` is equal to it.
 #[inline(always)]
 pub fn take_at<M: Message, L: MessageLog<M>>(
     objects: &mut Vec<Object<M, L>>,
     alloc: Global,
     name: Name,
     key: Key,
+    noted: &M,
 ) -> Result<M, AllocError>
-    requires { HasOwed (seen_all L.log objects.old.items) name.0 key }
-    ensures first { IfOk result (λ message. (log : Log M) → log_at (seen_all L.log objects.old.items) name.0 ≡ Some log
-        → slice_get (owed_items log key) 0 ≡ Some message) }
+    requires owed { HasOwed (seen_all L.log objects.old.items) name.0 key }
+    requires first { (log : Log M) → log_at (seen_all L.log objects.old.items) name.0 ≡ Some log
+        → slice_get (owed_items log key) 0 ≡ Some noted.now }
+    ensures same { IfOk result (λ message. message ≡ noted.now) }
     ensures ok { OnOk result
         (seen_all L.log objects.new.items ≡ on_log (advanced L.CHUNK key) (seen_all L.log objects.old.items) name.0) }
     ensures err { OnErr result (seen_all L.log objects.new.items ≡ seen_all L.log objects.old.items) }
     ensures sure { OnErr result (M.SURE ≡ false) }
 {
-    object::take(&mut objects[name.0 as usize], alloc, key)
+    object::take(&mut objects[name.0 as usize], alloc, key, noted)
 }
 
 /// Shares all messages that a cursor of a log has still to read, in order.

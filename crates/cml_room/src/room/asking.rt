@@ -39,6 +39,7 @@ impl<M: Message, L: MessageLog<M>> Room<M, L> {
 
     /// Makes a free seat's call, as `ask` does, and returns the reply alone. The journal keeps the caller's own call, as in
     /// `Board::call`.
+    #[inline(always)]
     pub fn call(&mut self, seat: u64, call: Call<M>) -> Response<M>
         ensures asks { let outcome = outcome_of (entries_in self.old.board.history) call result in
             Asks L.CHUNK M.SURE (MayAsk self.old seat) self.old self.new seat call outcome }
@@ -52,6 +53,7 @@ impl<M: Message, L: MessageLog<M>> Room<M, L> {
     }
 
     /// Makes a parked seat's call again, as `ask_again` does, and returns the reply alone.
+    #[inline(never)]
     pub fn call_again(&mut self, seat: u64, call: Call<M>) -> Response<M>
         ensures asks { let outcome = outcome_of (entries_in self.old.board.history) call result in
             Asks L.CHUNK M.SURE (MayAskAgain self.old seat call) self.old self.new seat call outcome }
@@ -84,6 +86,7 @@ impl<M: Message, L: MessageLog<M>> Room<M, L> {
     }
 
     /// Says whether the seat is parked on such a call: of this kind, on this object.
+    #[inline(always)]
     fn waits_on(&self, seat: u64, call: &Call<M>) -> bool
         ensures { IsTrue result ↔ MayAskAgain self.now seat call.now }
     {
@@ -121,6 +124,7 @@ impl<M: Message, L: MessageLog<M>> Room<M, L> {
     }
 
     /// Makes the call of a seat that may make it. The journal keeps the call, and the reply comes alone.
+    #[inline(always)]
     fn call_turn(&mut self, seat: u64, call: Call<M>) -> Response<M>
         requires { MayAsk self.old seat ⊎ MayAskAgain self.old seat call }
         ensures asks { let outcome = outcome_of (entries_in self.old.board.history) call result in

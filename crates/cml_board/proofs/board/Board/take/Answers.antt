@@ -1,5 +1,7 @@
-use Rattle.std.proofs.Common.{refl, sym, ap, ◌∙◌, reverse, arith, ◌++◌}
+use Rattle.std.proofs.Common.{refl, sym, ap, ◌∙◌, reverse, arith, ◌++◌, slice_get, Some}
 use Rattle.std.proofs.lemmas.Option.{same_Some}
+use Rattle.cml_log.specs.Log.{Log}
+use Rattle.cml_log.specs.{owed_items}
 use Rattle.cml_board.specs.declared.entry.Reply.TheVariants.{Got}
 use Rattle.cml_board.specs.{asked_call, log_at, owed, HasOwed, seen_all, ReadsAt}
 use Rattle.cml_board.specs.Shown.{Shown}
@@ -45,10 +47,17 @@ returns-in_default-take_at g c =
     (as_before c.self.view_is c.reserve.ensures.items c.in_default-take_at.ensures.err
     (omega (arith, c.reserve.ensures.len, c.reserve.ensures.capacity)))
 
-pub take_at-requires : goal.take_at-requires
-take_at-requires g c =
+pub take_at-requires-clause-owed : goal.take_at-requires-clause-owed
+take_at-requires-clause-owed g c =
     inside (λ (b : Shown g.row.M.Denot). HasOwed b.objects c.args.source.0 c.args.key) c.self.view_is
     (reads_owed c.args.self.now c.args.name.0 c.args.source.0 c.args.key c.requires.reads c.requires.owed)
+
+pub take_at-requires-clause-first : goal.take_at-requires-clause-first
+take_at-requires-clause-first g c = λ log there.
+    let here = ap (λ (b : Shown g.row.M.Denot). log_at b.objects c.args.source.0) c.self.view_is ∙ c.log.ensures in
+    ap (λ (read : Log g.row.M.Denot). slice_get (owed_items read c.args.key) 0)
+    (same_Some log (g.L.MessageLog.log c.log.result.now) (sym there ∙ here))
+    ∙ c.in-Ok.ensures.copy
 
 pub invariant_of-self-2 : goal.invariant_of-self-2
 invariant_of-self-2 g c =
@@ -72,14 +81,13 @@ pub returns : goal.returns
 returns g c =
     let h = c.args.self.now.history in
     let call = asked_call c.args.ask c.args.name in
-    let log = g.L.MessageLog.log c.log.result.now in
-    let there = ap (λ (b : Shown g.row.M.Denot). log_at b.objects c.args.source.0) c.self.view_is ∙ c.log.ensures in
-    let is = c.in-Ok-take_at.ensures.first log there in
-    let first = first_owed c.args.self.now c.args.name.0 c.args.source.0 c.args.key log c.in-Ok-take_at.message c.requires.reads
-    c.log.ensures is in (
-      answer_taken h c.args.ask c.args.name c.in-Ok-take_at.message c.requires.takes c.requires.reads.opened first,
+    let first = first_owed c.args.self.now c.args.name.0 c.args.source.0 c.args.key (g.L.MessageLog.log c.log.result.now)
+    c.in-Ok.noted c.requires.reads c.log.ensures c.in-Ok.ensures.copy in
+    let same = sym c.in-Ok-take_at.ensures.same in (
+      answer_taken h c.args.ask c.args.name c.in-Ok.noted c.requires.takes c.requires.reads.opened first
+          ∙ ap (λ (message : g.row.M.Denot). Some (Got message)) same,
       adds_entry c.args.who call c.ask-call.result (Got c.in-Ok.noted)
           (Got c.in-Ok-take_at.message) c.self.view_is c.note.ensures.entries c.reserve.ensures.items c.ask-call.ensures
-          (ap Got (same_Some c.in-Ok.noted c.in-Ok-take_at.message (sym c.in-Ok.ensures.copy ∙ is)))
+          (ap Got same)
           (omega (arith, c.reserve.ensures.len, c.reserve.ensures.capacity, c.note.ensures.spare)),
     )
