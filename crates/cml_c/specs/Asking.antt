@@ -19,7 +19,7 @@ use Rattle.cml_c.specs.Handles.{OnEither, OnNumbers, OnRoom}
 
 -- how many messages a room's chunks hold
 abbrev pub chunk : ℕ
-chunk = chunk_of 4
+chunk = chunk_of 16
 
 -- the code of a reply
 abbrev pub told_reply : {M : Type 0} → Reply M → Code

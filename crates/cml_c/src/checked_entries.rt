@@ -7,9 +7,9 @@ use crate::checkers::feed;
 use crate::code::Code;
 use crate::entries::{SeryugoEntry, SeryugoMaker};
 use crate::handle::Handle;
-use crate::kept::{Kept, Resource, on_one};
+use crate::kept::{CheckerOf, Kept, Resource, on_one};
 use crate::messages::copied;
-use cml_board::{Ask, Bytes, Call, Checker, Entry, Give, Make, Message, Name, Reply, Who};
+use cml_board::{Ask, Bytes, Call, Entry, Give, Make, Message, Name, Reply, Who};
 use cml_calls::shape_of_filled;
 use std::alloc::Global;
 
@@ -81,7 +81,7 @@ impl Parts {
     }
 }
 
-fn feed_number(checker: &mut Checker<u64>, entry: Option<Entry<u64>>) -> u32
+fn feed_number(checker: &mut CheckerOf<u64>, entry: Option<Entry<u64>>) -> u32
     ensures { FeedsEntry entry result checker.old checker.new }
 {
     match entry {
@@ -102,7 +102,7 @@ fn feed_bytes(checker: &mut Kept, entry: Option<Entry<Bytes>>) -> u32
     }
 }
 
-fn feed_bytes_to(checker: &mut Checker<Bytes>, entry: Option<Entry<Bytes>>) -> u32
+fn feed_bytes_to(checker: &mut CheckerOf<Bytes>, entry: Option<Entry<Bytes>>) -> u32
     ensures { FeedsEntry entry result checker.old checker.new }
 {
     match entry {

@@ -7,9 +7,9 @@ ghost use Rattle.cml_c.specs.{OnChecker};
 
 use crate::code::Code;
 use crate::handle::{Handle, Slot};
-use crate::kept::{Kept, Resource, on_both, on_either};
+use crate::kept::{CheckerOf, Kept, Resource, on_both, on_either};
 use crate::rooms::write_handle;
-use cml_board::{Checker, Entry, Message};
+use cml_board::{Entry, Message};
 use std::alloc::{AllocError, Global};
 
 /// Opens a checker of journals whose messages are numbers, and writes a handle to it.
@@ -34,10 +34,10 @@ pub extern "C" fn seryugo_bytes_checker_open(alloc: Global, checker: &mut Slot) 
     }
 }
 
-fn new_checker<M: Message>(alloc: Global) -> Result<Box<Checker<M>>, AllocError>
+fn new_checker<M: Message>(alloc: Global) -> Result<Box<CheckerOf<M>>, AllocError>
     ensures { IfOk result (λ checker. checker.value ≡ Ok no_entries) }
 {
-    Ok(Box::new(alloc, Checker::new(alloc)?)?)
+    Ok(Box::new(alloc, CheckerOf::with_logs(alloc)?)?)
 }
 
 /// Checks the entries of a journal that was taken, from this place on.
@@ -61,7 +61,7 @@ fn feed_journal<M: Message>(checker: &mut Resource<M>, journal: &mut Resource<M>
     }
 }
 
-fn feed_taken<M: Message>(checker: &mut Checker<M>, journal: &mut Resource<M>, place: u64) -> u32
+fn feed_taken<M: Message>(checker: &mut CheckerOf<M>, journal: &mut Resource<M>, place: u64) -> u32
     ensures { FeedsTaken place result journal.old journal.new checker.old checker.new }
 {
     match journal {
@@ -71,7 +71,7 @@ fn feed_taken<M: Message>(checker: &mut Checker<M>, journal: &mut Resource<M>, p
 }
 
 fn feed_entries<M: Message>(
-    checker: &mut Checker<M>,
+    checker: &mut CheckerOf<M>,
     journal: &mut Vec<Entry<M>>,
     place: u64,
 ) -> u32
@@ -81,7 +81,7 @@ fn feed_entries<M: Message>(
     feed_from(checker, journal, place)
 }
 
-fn feed_from<M: Message>(checker: &mut Checker<M>, journal: &[Entry<M>], place: u64) -> u32
+fn feed_from<M: Message>(checker: &mut CheckerOf<M>, journal: &[Entry<M>], place: u64) -> u32
     ensures { FeedsFrom journal.now place result checker.old checker.new }
 {
     match journal.get(place as usize..) {
@@ -91,7 +91,7 @@ fn feed_from<M: Message>(checker: &mut Checker<M>, journal: &[Entry<M>], place: 
 }
 
 /// Checks these entries after those before.
-pub(crate) fn feed<M: Message>(checker: &mut Checker<M>, entries: &[Entry<M>]) -> u32
+pub(crate) fn feed<M: Message>(checker: &mut CheckerOf<M>, entries: &[Entry<M>]) -> u32
     ensures { FeedsIn entries.now result checker.old checker.new }
 {
     if entries.len() as u64 > u64::MAX - checker.entries() {
@@ -122,7 +122,7 @@ pub extern "C" fn seryugo_checker_verdict(checker: &mut Handle, count: &mut u64)
     on_either!(checker, Checker(checker) => tell_verdict(checker, count))
 }
 
-fn tell_verdict<M: Message>(checker: &mut Checker<M>, count: &mut u64) -> u32
+fn tell_verdict<M: Message>(checker: &mut CheckerOf<M>, count: &mut u64) -> u32
     ensures { TellsVerdict result count.new checker.old checker.new }
 {
     *count = checker.entries();

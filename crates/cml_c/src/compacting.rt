@@ -5,13 +5,13 @@ ghost use Rattle.cml_c.specs.{Shortens, ShortensBy, ShortensKept, WritesShort};
 
 use crate::code::Code;
 use crate::handle::{Handle, Slot};
-use crate::kept::{Kept, Resource, Sort, for_both};
+use crate::kept::{CheckOf, Kept, LogOf, Resource, Sort, for_both};
 use crate::read_journals::code_of_halt;
 use crate::restoring::left_of;
 use crate::rooms::MOST;
-use cml_board::{BoardLog, Entry, Restored};
+use cml_board::{Entry, Restored};
 use cml_compact::short_journal_of;
-use cml_journal::{Check, Written};
+use cml_journal::Written;
 use std::alloc::Global;
 use std::mem;
 
@@ -48,7 +48,7 @@ fn shorten<M: Sort + Written>(
 /// What a reading's handle leads to then, and the code that tells it.
 fn shorten_by<M: Sort + Written>(
     alloc: Global,
-    mut reading: Box<Check<M>>,
+    mut reading: Box<CheckOf<M>>,
     journal: &mut Slot,
     count: &mut u64,
 ) -> (Resource<M>, u32)
@@ -69,7 +69,7 @@ fn shorten_by<M: Sort + Written>(
 /// Writes a handle to the short journal of this board, and how many entries it has.
 fn write_short<M: Sort>(
     alloc: Global,
-    restored: Restored<M, BoardLog<M>>,
+    restored: Restored<M, LogOf<M>>,
     journal: &mut Slot,
     count: &mut u64,
 ) -> u32

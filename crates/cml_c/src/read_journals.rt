@@ -8,11 +8,11 @@ ghost use Rattle.cml_c.specs.ReadJournals.{Takes};
 
 use crate::code::Code;
 use crate::handle::{Handle, Slot};
-use crate::kept::{Kept, Resource, on_either};
+use crate::kept::{CheckOf, Kept, Resource, on_either};
 use crate::rooms::write_handle;
 use crate::telling::write_number;
 use cml_board::Message;
-use cml_journal::{Check, Halt, Written};
+use cml_journal::{Halt, Written};
 use std::alloc::{AllocError, Global};
 
 /// Opens a reading of a journal whose messages are numbers, and writes a handle to it.
@@ -37,10 +37,10 @@ pub extern "C" fn seryugo_bytes_reading_open(alloc: Global, reading: &mut Slot) 
     }
 }
 
-fn new_reading<M: Message + Written>(alloc: Global) -> Result<Box<Check<M>>, AllocError>
+fn new_reading<M: Message + Written>(alloc: Global) -> Result<Box<CheckOf<M>>, AllocError>
     ensures { IfOk result (λ reading. IsSoFar M.VERSION M.meaning [] reading.value) }
 {
-    Ok(Box::new(alloc, Check::new(alloc)?)?)
+    Ok(Box::new(alloc, CheckOf::with_logs(alloc)?)?)
 }
 
 /// Reads the next part of a journal's text, and checks the entries whose lines end there.
@@ -51,7 +51,7 @@ pub extern "C" fn seryugo_reading_take_from(reading: &mut Handle, text: &[u8]) -
     on_either!(reading, Reading(reading) => take_part(reading, text))
 }
 
-fn take_part<M: Message + Written>(reading: &mut Check<M>, text: &[u8]) -> u32
+fn take_part<M: Message + Written>(reading: &mut CheckOf<M>, text: &[u8]) -> u32
     ensures { Takes M.VERSION M.meaning text.now result reading.old reading.new }
 {
     match reading.advance(text) {
@@ -98,7 +98,7 @@ pub extern "C" fn seryugo_reading_end(reading: &mut Handle) -> u32
     on_either!(reading, Reading(reading) => tell_end(reading))
 }
 
-fn tell_end<M: Message + Written>(reading: &mut Check<M>) -> u32
+fn tell_end<M: Message + Written>(reading: &mut CheckOf<M>) -> u32
     ensures { EndsSo M.VERSION M.meaning result reading.old reading.new }
 {
     let is_whole = reading.end();

@@ -4,11 +4,11 @@ ghost use Rattle.cml_c.specs.{number, told_halt, IsRoomOn, OpensOn, Restores, Re
 
 use crate::code::Code;
 use crate::handle::{Handle, Slot};
-use crate::kept::{Kept, Resource, Sort, Stocked, for_both};
+use crate::kept::{CheckOf, Kept, LogOf, Resource, Sort, Stocked, for_both};
 use crate::read_journals::code_of_halt;
 use crate::rooms::{MOST, write_handle};
-use cml_board::{BoardLog, Restored};
-use cml_journal::{Check, Halt, Written};
+use cml_board::Restored;
+use cml_journal::{Halt, Written};
 use cml_room::Room;
 use std::alloc::{AllocError, Global};
 use std::mem;
@@ -45,7 +45,7 @@ fn restore<M: Sort + Written>(
 /// What a reading's handle leads to then, and the code that tells it.
 fn restore_by<M: Sort + Written>(
     alloc: Global,
-    mut reading: Box<Check<M>>,
+    mut reading: Box<CheckOf<M>>,
     limit: u64,
     room: &mut Slot,
 ) -> (Resource<M>, u32)
@@ -64,7 +64,7 @@ fn restore_by<M: Sort + Written>(
 }
 
 /// What is left of a reading that stopped so: nothing, if there was no memory.
-pub(crate) fn left_of<M: Sort>(reading: Box<Check<M>>, halt: Halt) -> Resource<M>
+pub(crate) fn left_of<M: Sort>(reading: Box<CheckOf<M>>, halt: Halt) -> Resource<M>
     ensures { result ≡ left_halted reading halt }
 {
     match halt {
@@ -74,7 +74,7 @@ pub(crate) fn left_of<M: Sort>(reading: Box<Check<M>>, halt: Halt) -> Resource<M
 }
 
 /// Opens a room on this board, and writes a handle to it.
-fn open<M: Sort>(alloc: Global, restored: Restored<M, BoardLog<M>>, room: &mut Slot) -> u32
+fn open<M: Sort>(alloc: Global, restored: Restored<M, LogOf<M>>, room: &mut Slot) -> u32
     ensures { OpensOn M.KEPT restored room.old room.new result }
 {
     match new_room(alloc, restored) {
@@ -85,7 +85,7 @@ fn open<M: Sort>(alloc: Global, restored: Restored<M, BoardLog<M>>, room: &mut S
 
 fn new_room<M: Sort>(
     alloc: Global,
-    restored: Restored<M, BoardLog<M>>,
+    restored: Restored<M, LogOf<M>>,
 ) -> Result<Box<Stocked<M>>, AllocError>
     ensures { IfOk result (λ room. IsRoomOn restored room.value.room) }
 {

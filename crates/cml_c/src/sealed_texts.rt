@@ -5,10 +5,10 @@ ghost use Rattle.cml_c.specs.{HandsSealed, HandsSealedJournal, IsSum, IsUnwritte
 
 use crate::code::Code;
 use crate::handle::Handle;
-use crate::kept::on_either;
+use crate::kept::{CheckOf, on_either};
 use crate::messages::{SeryugoBytes, hand_over_new};
 use cml_board::{Bytes, Entry, Message};
-use cml_journal::{Check, Sum, Unwritten, Written, add_sealed_piece};
+use cml_journal::{Sum, Unwritten, Written, add_sealed_piece};
 use std::alloc::Global;
 
 /// The sum of a piece as C has it, if there is one.
@@ -117,7 +117,7 @@ pub extern "C" fn seryugo_reading_sum(reading: &mut Handle, sum: &mut SeryugoSum
     on_either!(reading, Reading(reading) => tell_sum(reading, sum))
 }
 
-fn tell_sum<M: Message + Written>(reading: &Check<M>, sum: &mut SeryugoSum) -> u32
+fn tell_sum<M: Message + Written>(reading: &CheckOf<M>, sum: &mut SeryugoSum) -> u32
     ensures { TellsSumOf sum.old sum.new result reading.now }
 {
     match reading.kept_sum() {

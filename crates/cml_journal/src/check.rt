@@ -11,23 +11,25 @@ use crate::stop::{Halt, Stop};
 use crate::writing::write_entry;
 use crate::written::Written;
 use cml_board::{BoardLog, Checker, Entry, Expected, Message, Restored};
+use cml_log::MessageLog;
 use cml_sums::Sum;
 use std::alloc::{AllocError, Global};
 use std::marker::Model;
 
-/// A journal's text, from its first entry on, that is read and checked as it comes.
+/// A journal's text, from its first entry on, that is read and checked as it comes. `L` is the type of the logs of a board that goes
+/// on from it.
 #[derive(Drop)]
-pub struct Check<M: Message> {
+pub struct Check<M: Message, L: MessageLog<M> = BoardLog<M>> {
     alloc: Global,
     reader: Reader,
     // In a box, since a drop of a check in a box gets no proof where it has the checker in place.
-    checker: Box<Checker<M>>,
+    checker: Box<Checker<M, L>>,
     halt: Option<Halt>,
     // The entry that was read last, alone. It is kept so that its memory is used again.
     entry: Vec<Entry<M>>,
 }
 
-impl<M: Message> Model for Check<M> {
+impl<M: Message, L: MessageLog<M>> Model for Check<M, L> {
     ghost use Rattle.std.specs.Prelude.{slice_get};
     ghost use Rattle.cml_journal.specs.Checks.{Progress};
 
@@ -41,10 +43,19 @@ impl<M: Message + Written> Check<M> {
     pub fn new(alloc: Global) -> Result<Check<M>, AllocError>
         ensures { IfOk result (λ check. IsSoFar M.VERSION M.meaning [] check) }
     {
+        Check::with_logs(alloc)
+    }
+}
+
+impl<M: Message + Written, L: MessageLog<M>> Check<M, L> {
+    /// Makes a check that has read nothing, whose board has logs of this type.
+    pub fn with_logs(alloc: Global) -> Result<Check<M, L>, AllocError>
+        ensures { IfOk result (λ check. IsSoFar M.VERSION M.meaning [] check) }
+    {
         Ok(Check {
             alloc,
             reader: Reader::from(alloc, 0),
-            checker: Box::new(alloc, Checker::new(alloc)?)?,
+            checker: Box::new(alloc, Checker::with_logs(alloc)?)?,
             halt: None,
             entry: Vec::new(alloc),
         })
@@ -193,7 +204,7 @@ impl<M: Message + Written> Check<M> {
     /// A board with the history that the whole entries so far give, as if it had made each call itself, and had cut its journal
     /// then; and who made these entries. Its journal takes `limit` entries until it is cut again. The check is then as a new one.
     /// Ask `end` before, if a journal that was torn isn't to be taken. `None` if the check has stopped: then it stays as it is.
-    pub fn restore(&mut self, limit: u64) -> Option<Restored<M, BoardLog<M>>>
+    pub fn restore(&mut self, limit: u64) -> Option<Restored<M, L>>
         requires least { 1 ≤ limit }
         requires most { limit ≤ 2 ^ 32 }
         ensures restored { IfSome result (λ restored. (bytes : List ℕ) → IsSoFar M.VERSION M.meaning bytes self.old
