@@ -39,13 +39,19 @@ pub(crate) struct OpenLane {
     moved: u64,
 }
 
-/// What the lock guards.
+/// What the lock guards. What each call uses comes first, so that it lies in the lock's line of
+/// memory: each line goes from the thread that called before to the one that calls.
+#[repr(C)]
 pub(crate) struct Inside<R: Room> {
     pub handle: Handle,
-    /// How many entries the journal takes between two cuts.
-    limit: u64,
     /// The journal surely has room for this many more. Without a keeper nobody asks.
     spare: u64,
+    /// How many seats are parked.
+    parked: u64,
+    /// How many calls were made that may park a seat or make one due.
+    calls: u64,
+    /// How many entries the journal takes between two cuts.
+    limit: u64,
     /// What cuts a full journal.
     keeper: Option<Keeper<R>>,
     /// Where the text begins to which the next piece is added.
@@ -59,10 +65,6 @@ pub(crate) struct Inside<R: Room> {
     pub awaited: Awaited,
     /// Where seats that have left had their questions answered.
     pub free_answers: Vec<Answers>,
-    /// How many seats are parked.
-    parked: u64,
-    /// How many calls were made that may park a seat or make one due.
-    calls: u64,
     /// The open lanes, by their numbers.
     pub lanes: BTreeMap<u64, OpenLane>,
     /// How many messages were lost with their lanes.

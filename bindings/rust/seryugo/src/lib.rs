@@ -188,6 +188,7 @@ mod kept;
 mod kind;
 mod lane;
 mod lists;
+mod lock;
 mod locked;
 mod making;
 mod message;

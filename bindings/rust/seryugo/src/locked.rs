@@ -2,6 +2,7 @@
 
 use crate::backoff;
 use crate::inside::Inside;
+use crate::lock::Guard;
 use crate::parker::{Parker, Woken};
 use crate::raw::{code, Handle};
 use crate::room::Room;
@@ -9,7 +10,6 @@ use crate::switchboard::Switchboard;
 use crate::yields::pass_by_yielding;
 use std::mem;
 use std::panic;
-use std::sync::{MutexGuard, PoisonError, TryLockError};
 use std::thread;
 
 /// Before a thread waits for the lock, it spins and tries it: for this many pauses, and then for
@@ -66,26 +66,22 @@ impl<R: Room> Switchboard<R> {
     /// The room, for a call that makes no seat due. A thread that panicked left it between two
     /// calls, where it is whole.
     #[inline]
-    pub(crate) fn lock(&self) -> MutexGuard<'_, Inside<R>> {
+    pub(crate) fn lock(&self) -> Guard<'_, Inside<R>> {
         self.try_lock().unwrap_or_else(|| self.lock_late())
     }
 
     /// The same, if no thread has the lock.
     #[inline]
-    fn try_lock(&self) -> Option<MutexGuard<'_, Inside<R>>> {
-        match self.inside.0.try_lock() {
-            Ok(inside) => Some(inside),
-            Err(TryLockError::Poisoned(inside)) => Some(inside.into_inner()),
-            Err(TryLockError::WouldBlock) => None,
-        }
+    fn try_lock(&self) -> Option<Guard<'_, Inside<R>>> {
+        self.inside.0.try_lock()
     }
 
     /// The same, if another thread had the lock just now. To sleep there and to be woken takes far
     /// longer than a call.
     #[cold]
-    fn lock_late(&self) -> MutexGuard<'_, Inside<R>> {
+    fn lock_late(&self) -> Guard<'_, Inside<R>> {
         backoff::look(PAUSES, SPINS, pass_by_yielding, YIELDS, || self.try_lock())
-            .unwrap_or_else(|| self.inside.0.lock().unwrap_or_else(PoisonError::into_inner))
+            .unwrap_or_else(|| self.inside.0.lock())
     }
 
     /// Wakes the seat at this place, if a seat is due.

@@ -7,6 +7,7 @@ use crate::feed::Feed;
 use crate::inside::Inside;
 use crate::kind::Missing;
 use crate::lane::Lane;
+use crate::lock::Lock;
 use crate::names::{Channel, Name, Named, Target};
 use crate::parkers::Parkers;
 use crate::raw::Handle;
@@ -16,7 +17,6 @@ use crate::version;
 use std::fmt;
 use std::marker::PhantomData;
 use std::sync::atomic::{AtomicU64, Ordering};
-use std::sync::{Mutex, PoisonError};
 
 /// Objects, the journal of every call that was accepted, and the seats from which threads call.
 ///
@@ -40,7 +40,7 @@ use std::sync::{Mutex, PoisonError};
 /// ```
 pub struct Switchboard<R: Room = Bytes> {
     /// Threads that wake others read what lies beside the lock.
-    pub(crate) inside: Apart<Mutex<Inside<R>>>,
+    pub(crate) inside: Apart<Lock<Inside<R>>>,
     pub(crate) parkers: Parkers,
     /// No other switchboard of the process has it. The names of the objects have it too.
     number: u64,
@@ -104,7 +104,7 @@ impl<R: Room> Switchboard<R> {
     /// entries between two cuts.
     pub(crate) fn over(handle: Handle, limit: u64) -> Switchboard<R> {
         Switchboard {
-            inside: Apart(Mutex::new(Inside::new(handle, limit))),
+            inside: Apart(Lock::new(Inside::new(handle, limit))),
             parkers: Parkers::new(),
             number: MADE.fetch_add(1, Ordering::Relaxed),
             conductor: None,
@@ -259,7 +259,7 @@ impl<R: Room> Switchboard<R> {
 
     /// The room, before any thread has the switchboard.
     pub(crate) fn inside_mut(&mut self) -> &mut Inside<R> {
-        self.inside.0.get_mut().unwrap_or_else(PoisonError::into_inner)
+        self.inside.0.get_mut()
     }
 }
 

@@ -3,9 +3,9 @@
 mod common;
 
 use common::{poll_once, seats};
-use seryugo::{Error, Switchboard, WhenFull};
+use seryugo::{Error, Numbers, OwnedSeat, Seat, Switchboard, WhenFull};
 use std::future::Future;
-use std::panic::{self, AssertUnwindSafe};
+use std::panic::{self, AssertUnwindSafe, RefUnwindSafe, UnwindSafe};
 use std::pin::{pin, Pin};
 use std::sync::atomic::{AtomicU64, Ordering};
 use std::sync::Arc;
@@ -173,4 +173,22 @@ fn a_seat_leaves_though_a_waker_panics() {
     drop((received, ann));
     // If a seat were left, this would wait.
     assert_eq!(poll_once(pin!(carl.recv_async(mailbox))), Poll::Ready(Err(Error::Stalled)));
+}
+
+/// A panic leaves a switchboard whole, so that nobody who catches one has to assert that it is.
+#[test]
+fn a_closure_that_panics_may_use_a_switchboard() {
+    fn may_be_caught<T: UnwindSafe + RefUnwindSafe>() {}
+    may_be_caught::<Switchboard>();
+    may_be_caught::<Seat<'_>>();
+    may_be_caught::<OwnedSeat<Numbers>>();
+
+    let board = Switchboard::of_numbers(100).unwrap();
+    let mailbox = board.seat().unwrap().mailbox::<u64>().unwrap();
+    let panicked = panic::catch_unwind(|| {
+        board.seat().unwrap().send(mailbox, 5).unwrap();
+        panic::resume_unwind(Box::new(()));
+    });
+    assert!(panicked.is_err());
+    assert_eq!(board.seat().unwrap().recv(mailbox), Ok(5));
 }
