@@ -3,7 +3,8 @@
 # each crate that crates.txt calls a static library. `rt ci` proves a static library and keeps nothing of that proof, so the
 # first run here proves it once more. It keeps what it proved in the user's cache. A later run builds from that, if all that
 # the proof read is the same: the compiler compares every file and library. `rt lib` in the crate's folder writes the same
-# archive, but proves for it all that lies below. The last line is `N passed, M failed`.
+# archive, but proves for it all that lies below. Then it looks whether the compiler has left a call's way in one function. The last
+# line is `N passed, M failed`.
 . "$(dirname "$0")/lib/cases.sh"
 cd "$(dirname "$0")/.." || exit 1
 top=$PWD
@@ -44,6 +45,10 @@ build() {
     keep "$1" "$work/$1.checked" || true
 }
 
+# apart ARCHIVE: what a send and a receive go through, as far as it isn't part of the exports. An export knows which call it makes. A
+# function that it calls takes that call out of memory, and looks at its kind again.
+apart() { nm "$1" 2> /dev/null | grep -E '::(call_turn|Room::call|perform|take_first|put|receive)(::<|$)'; }
+
 names=$(sed -n 's/^\([a-z_]*\) staticlib:.*/\1/p' crates.txt)
 for name in $names; do
     (build "$name") > "$work/$name" 2>&1 || echo > "$work/$name.failed" &
@@ -57,4 +62,9 @@ for name in $names; do
         tail -n 20 "$work/$name"
     fi
 done
+if apart crates/cml_c/out/libcml_c.a > "$work/apart"; then
+    fail "functions of the archive that each export should have in it: $(cat "$work/apart")"
+else
+    pass
+fi
 count

@@ -8,17 +8,18 @@ scripts=crates/cml_script_c/out/libcml_script_c.a
 cml=crates/cml/out/cml
 
 # The steps, those that take longest first.
-steps='bindings install follow chat_server keep_journal build_system'
+steps='bindings install instructions follow chat_server keep_journal build_system'
 
 step() {
     case $1 in
         bindings | install) sh "tests/$1.sh" "$rooms" "$scripts" ;;
+        instructions) sh tests/instructions.sh "$rooms" ;;
         *) sh "tests/$1.sh" "$rooms" "$cml" check ;;
     esac
 }
 
 # Less than for all of them in tests/all.sh.
-longest=3600
+longest_step=7200
 . tests/lib/beside.sh
 [ $# -gt 0 ] || set -- $steps
 beside tests/libraries.sh "$@"

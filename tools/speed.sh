@@ -104,6 +104,7 @@ awk '$1 > 0.5 { print "this machine is busy, as its load of " $1 " shows: the fi
 . tools/speed/machine.sh
 . tools/speed/build.sh
 . tools/speed/rounds.sh
+. tools/speed/instructions.sh
 
 describe > "$figures"
 make_script > "$work/script"
@@ -118,5 +119,12 @@ while [ "$round" -le "$rounds" ]; do
     one_round || fail "a program failed in round $round"
     round=$((round + 1))
 done
+if command -v valgrind > /dev/null; then
+    echo 'counting instructions' >&2
+    setting=instructions
+    by_turns by_count || fail 'a program failed whose instructions were counted'
+else
+    echo 'left out: instructions: there is no valgrind' >&2
+fi
 [ -z "$kept" ] || cp "$figures" "$kept" || fail "the figures are not kept in $kept"
 PYTHONDONTWRITEBYTECODE=1 python3 tools/speed/page.py "$figures" "$into" && echo "wrote $into/SPEED.md, speed.svg and speed.tsv"

@@ -1,8 +1,9 @@
-/* What a message costs from C, on one thread and without a lock: `speed [MESSAGES [ROUNDS]]`. A seat sends it and receives it, again
- * and again. Beside it a ring and a journal by hand, whose entries have as many bytes as those of a room of numbers. Both cut the
- * journal after each 10,000 messages. A short journal is made of as many empty mailboxes as MESSAGES, and of half as many with a
- * message in each. A line has the workload, the way, and the median of the rounds in nanoseconds a message, two spaces apart at
- * least. All come in turn in each round. */
+/* What a message costs from C, on one thread and without a lock: `speed [MESSAGES [ONLY [ROUNDS]]]`. A seat sends it and receives it,
+ * again and again. Only what has the word ONLY in its name is measured, as `in C, a number: by hand`, and all with an empty word.
+ * Beside it a ring and a journal by hand, whose entries have as many bytes as those of a room of numbers. Both cut the journal after
+ * each 10,000 messages. A short journal is made of as many empty mailboxes as MESSAGES, and of half as many with a message in each. A
+ * line has the workload, the way, and the median of the rounds in nanoseconds a message, two spaces apart at least. All come in turn
+ * in each round. */
 #include "checks.h"
 
 #include <string.h>
@@ -190,22 +191,36 @@ static int compare(const void *left, const void *right)
     return (a > b) - (a < b);
 }
 
+static bool is_asked(size_t way, const char *only)
+{
+    char name[100];
+
+    snprintf(name, sizeof name, "%s: %s", ways[way].workload, ways[way].way);
+    return strstr(name, only) != NULL;
+}
+
 int main(int argc, char **argv)
 {
     static double times[WAYS][MOST_ROUNDS];
     const uint64_t messages = argc > 1 ? strtoull(argv[1], NULL, 10) : 200000;
-    const size_t rounds = argc > 2 ? strtoull(argv[2], NULL, 10) : 11;
+    const char *only = argc > 2 ? argv[2] : "";
+    const size_t rounds = argc > 3 ? strtoull(argv[3], NULL, 10) : 11;
 
     if (messages == 0 || rounds == 0 || rounds > MOST_ROUNDS) {
-        fprintf(stderr, "usage: speed [MESSAGES [ROUNDS]], ROUNDS up to %d\n", MOST_ROUNDS);
+        fprintf(stderr, "usage: speed [MESSAGES [ONLY [ROUNDS]]], ROUNDS up to %d\n", MOST_ROUNDS);
         return 2;
     }
     for (size_t round = 0; round < rounds; round++) {
         for (size_t way = 0; way < WAYS; way++) {
-            times[way][round] = ways[way].pass(messages, ways[way].size) / (double)messages;
+            if (is_asked(way, only)) {
+                times[way][round] = ways[way].pass(messages, ways[way].size) / (double)messages;
+            }
         }
     }
     for (size_t way = 0; way < WAYS; way++) {
+        if (!is_asked(way, only)) {
+            continue;
+        }
         qsort(times[way], rounds, sizeof(double), compare);
         printf("%-28s  %-26s  %9.1f\n", ways[way].workload, ways[way].way, times[way][rounds / 2]);
     }

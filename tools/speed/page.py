@@ -72,6 +72,8 @@ def parts(figures):
     in_python = rows(lambda workload, _: workload.startswith("in Python"), QUEUES)
     scripts = rows(lambda workload, _: workload.startswith("a script"))
     journals = rows(lambda workload, _: workload.startswith("an entry"))
+    counts = figures.rows("instructions", PEERS, lambda *_: True)
+    found["instructions"] = compared(counts, "instructions", PEERS)
     found["machine"] = "\n".join(f"- {name}: {words}" for name, words in figures.machine.items())
     found["bench"] = compared(rows(lambda _, way: is_of_bench(way)), "ns")
     found["C"] = compared(in_c, "ns", PEERS)

@@ -87,13 +87,21 @@ by_cml() {
 # From C, from Python, and the journals of the crate in Rust.
 by_others() {
     has "$1" speed_in_c || return 0
-    ran "$work/$1/speed_in_c" $((200000 / share)) 1 || return
+    ran "$work/$1/speed_in_c" $((200000 / share)) '' 1 || return
     note "$1" 1 < "$work/told"
     ran "$work/$1/journals" $((1000000 / share)) || return
     sed 's/^\(to [a-z]*\) *\([0-9]*\) .*/an entry of a journal  in Rust, \1  \2/' "$work/told" | note "$1" 1
     ran env SERYUGO_PREFIX="$(cat "$work/$1/prefix")" PYTHONPATH="$(cat "$work/$1/python")" PYTHONDONTWRITEBYTECODE=1 \
         python3 bindings/python/examples/speed.py 9 || return
     note "$1" 1000 < "$work/told"
+}
+
+# by_count BUILD: instructions, which are the same in each round.
+by_count() {
+    has "$1" speed_in_c || return 0
+    count_in_c "$work/$1/speed_in_c" > "$work/told" && count_in_rust "$work/$1/speed" >> "$work/told" || return
+    ! has_peers || count_instructions "$work/$1/speed" 'one thread' crossbeam >> "$work/told" || return
+    note "$1" 1 < "$work/told"
 }
 
 # by_turns PART..: each part is done with both builds. In every second round the earlier one comes first.

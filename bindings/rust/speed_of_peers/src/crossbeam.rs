@@ -13,7 +13,7 @@ pub fn one_thread(messages: u64) -> Duration {
     let start = Instant::now();
     for n in 0..messages {
         sender.send(n).unwrap();
-        assert_eq!(receiver.recv(), Ok(n));
+        assert_eq!(receiver.recv().unwrap(), n);
     }
     start.elapsed()
 }

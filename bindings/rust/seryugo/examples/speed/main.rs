@@ -3,7 +3,7 @@
 //! may follow `--`:
 //!
 //! - how many messages are passed, 200,000 without the word;
-//! - only workloads and ways whose names have this in them are measured, and all with an empty
+//! - only what has this in its name is measured, as `one thread: mpsc`, and all with an empty
 //!   word;
 //! - how many rounds there are, eleven without the word. All ways come in turn in each round.
 //!

@@ -25,10 +25,9 @@ impl Asked {
     }
 
     /// Prints the nanoseconds that a message takes, a hop of the token, or a request with its
-    /// answer: for each way whose name has the word in it, and for all if the workload's has.
+    /// answer, for each way whose name after its workload's has the words in it.
     pub fn measure(&self, workload: &str, messages: u64, ways: &[Way]) {
-        let is_asked =
-            |(name, _): &&Way| workload.contains(&self.only) || name.contains(&self.only);
+        let is_asked = |(name, _): &&Way| format!("{workload}: {name}").contains(&self.only);
         let ways: Vec<&Way> = ways.iter().filter(is_asked).collect();
         let mut times = vec![Vec::with_capacity(self.rounds); ways.len()];
         for _ in 0..self.rounds {

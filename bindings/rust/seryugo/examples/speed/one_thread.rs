@@ -29,7 +29,7 @@ fn by_lock(messages: u64, waking: Waking) -> Duration {
     let start = Instant::now();
     for n in 0..messages {
         queue.send(0, n).unwrap();
-        assert_eq!(queue.recv(0), Ok(n));
+        assert_eq!(queue.recv(0).unwrap(), n);
         if n % CUT == 0 {
             queue.cut();
         }
@@ -44,7 +44,7 @@ fn by_seat(messages: u64) -> Duration {
     let start = Instant::now();
     for n in 0..messages {
         seat.send(mailbox, n).unwrap();
-        assert_eq!(seat.recv(mailbox), Ok(n));
+        assert_eq!(seat.recv(mailbox).unwrap(), n);
         if n % CUT == 0 {
             board.cut().unwrap();
         }
@@ -59,7 +59,7 @@ fn by_mpsc(messages: u64) -> Duration {
     let start = Instant::now();
     for n in 0..messages {
         sender.send(n).unwrap();
-        assert_eq!(receiver.recv(), Ok(n));
+        assert_eq!(receiver.recv().unwrap(), n);
     }
     start.elapsed()
 }
