@@ -1,11 +1,11 @@
 -- Who was returned in a run of calls, and who may sleep after it.
-use Rattle.std.proofs.Common.{◌≡◌, ◌⊎◌, ℕ, inl, inr, Bool, true, false, List, [], ◌∷◌, slice_get, Option, Some, None, refl, sym, ap, ◌∙◌}
+use Rattle.std.proofs.Common.{◌≡◌, ◌⊎◌, ◌<◌, ℕ, zero, suc, arith, length, inl, inr, Bool, true, false, List, [], ◌∷◌, slice_get, Option, Some, None, refl, sym, ap, ◌∙◌}
 use Rattle.std.specs.Prelude.{◌&&◌, ◌||◌, not}
-use Rattle.std.proofs.lemmas.Option.{none-some, same_Some}
+use Rattle.std.proofs.lemmas.Option.{none-some, same_Some, slice_get_within}
 use Rattle.std.proofs.lemmas.Bool.{true≢false, false≢true, eq-eqb, ne_eqb}
 use Rattle.cml_board.specs.{Want}
 use Rattle.cml_room.specs.{State, Notice, RoomShown, is_parked, has_notice, is_due, state_of, NoneDue, AllSleepRightly, RoomCall, AskOf}
-use Rattle.cml_room.specs.{NextDue, Other, AreMade, HasAsked, NobodyForgotten, HaveAllAsked, AllWouldWait, is_returned, woken_in, was_woken}
+use Rattle.cml_room.specs.{NextDue, Other, AreMade, HasAsked, NobodyForgotten, AnotherAsksNext, AllWouldWait, is_returned, woken_in, was_woken}
 use Rattle.cml_room.specs.declared.state.State.TheVariants.{Free, Parked, Left}
 use Rattle.cml_lanes.proofs.SlotsLemmas.{this_or_other}
 use Rattle.cml_room.specs.declared.notice.Notice.TheVariants.{Nothing, Due, Woken}
@@ -27,6 +27,13 @@ due_waits None due is = absurd (false≢true is)
 due_waits (Some Free) due is = absurd (false≢true is)
 due_waits (Some Left) due is = absurd (false≢true is)
 due_waits (Some (Parked on)) due is = (on, refl)
+
+-- who is free or has left doesn't wait
+free_parks : (on : Want) → Some Free ≡ Some (Parked on) → ⊥
+free_parks on is = absurd (true≢false (sym (ap is_parked is)))
+
+left_parks : (on : Want) → Some Left ≡ Some (Parked on) → ⊥
+left_parks on is = absurd (true≢false (sym (ap is_parked is)))
 
 module _ {M : Type 0} where
   -- a seat counts as woken just if it was returned
@@ -96,22 +103,62 @@ module _ {M : Type 0} where
       returned : (seat : ℕ) → was_woken last.notices seat ≡ is_returned calls seat
       returned seat = woken_returned (NextDue None ∷ calls) first last none run seat
 
-  -- where the last call is a `next_due`, and all that were returned have asked, each seat that waits would wait again
-  pub all_would_wait : (calls : List RoomCall) (given : Option ℕ) (first last : RoomShown M) → NoneDue first
-      → AreMade (NextDue given ∷ calls) first last → AllSleepRightly last
-      → HaveAllAsked (NextDue given ∷ calls) last → AllWouldWait last
-  all_would_wait calls None first last none run asleep asked =
-      λ seat on waits. elim (nobody_forgotten calls first last none run asleep seat on waits) [
-        | inl returned ↦ absurd (true≢false (sym returned ∙ asked seat on waits))
-        | inr may ↦ (
-          elim may.rests [
-            | inl would ↦ would
-            | inr mate ↦ absurd (true≢false (sym mate.returned ∙ asked mate.seat on mate.waits))
-          ],
-          may.moves,
-        )
+  -- a seat among the first ones waits that was returned and has not asked, or none of them does
+  among : (calls : List RoomCall) (last : RoomShown M) (count : ℕ)
+      → AnotherAsksNext calls last
+      ⊎ ((seat : ℕ) (on : Want) → seat < count → state_of last seat ≡ Some (Parked on) → is_returned calls seat ≡ false)
+  among calls last zero = inr (λ seat on below waits. absurd (omega (arith, below)))
+  among calls last (suc count) = elim (among calls last count) [
+    | inl one ↦ inl one
+    | inr none ↦ elim (true_or_false (is_returned calls count)) [
+      | inl returned ↦ by_state none returned (state_of last count) refl
+      | inr isnt ↦ inr (λ seat on below waits. elim (this_or_other seat count) [
+        | inl here ↦ ap (is_returned calls) here ∙ isnt
+        | inr other ↦ none seat on (omega (arith, below, other)) waits
+      ])
+    ]
+  ]
+    where
+      None_below : Type 0
+      None_below = (seat : ℕ) (on : Want) → seat < count → state_of last seat ≡ Some (Parked on) → is_returned calls seat ≡ false
+
+      rest : None_below → ((on : Want) → state_of last count ≡ Some (Parked on) → ⊥)
+          → (seat : ℕ) (on : Want) → seat < suc count → state_of last seat ≡ Some (Parked on) → is_returned calls seat ≡ false
+      rest none never seat on below waits = elim (this_or_other seat count) [
+        | inl here ↦ absurd (never on (ap (state_of last) (sym here) ∙ waits))
+        | inr other ↦ none seat on (omega (arith, below, other)) waits
       ]
-  all_would_wait calls (Some given) first last none run asleep asked =
+
+      by_state : None_below → is_returned calls count ≡ true → (seen : Option State) → state_of last count ≡ seen
+          → AnotherAsksNext calls last
+          ⊎ ((seat : ℕ) (on : Want) → seat < suc count → state_of last seat ≡ Some (Parked on) → is_returned calls seat ≡ false)
+      by_state none returned None is = inr (rest none (λ on waits. none-some (Parked on) (sym is ∙ waits)))
+      by_state none returned (Some Free) is = inr (rest none (λ on waits. free_parks on (sym is ∙ waits)))
+      by_state none returned (Some Left) is = inr (rest none (λ on waits. left_parks on (sym is ∙ waits)))
+      by_state none returned (Some (Parked on)) is = inl (on, record { seat = count; waits = is; returned = returned })
+
+  -- where the last call is a `next_due`, a seat that was returned has yet to ask, or each seat that waits would wait again
+  pub one_is_enough : (calls : List RoomCall) (given : Option ℕ) (first last : RoomShown M) → NoneDue first
+      → AreMade (NextDue given ∷ calls) first last → AllSleepRightly last
+      → AnotherAsksNext (NextDue given ∷ calls) last ⊎ AllWouldWait last
+  one_is_enough calls None first last none run asleep = elim (among (NextDue None ∷ calls) last (length last.seats)) [
+    | inl one ↦ inl one
+    | inr asked ↦ inr (λ seat on waits. elim (nobody_forgotten calls first last none run asleep seat on waits) [
+      | inl returned ↦ absurd (true≢false (sym returned ∙ asked seat on (slice_get_within last.seats seat (Parked on) waits) waits))
+      | inr may ↦ (
+        elim may.rests [
+          | inl would ↦ would
+          | inr mate ↦ absurd
+              (true≢false (sym mate.returned ∙ asked mate.seat on (slice_get_within last.seats mate.seat (Parked on) mate.waits) mate.waits))
+        ],
+        may.moves,
+      )
+    ])
+  ]
+  one_is_enough calls (Some given) first last none run asleep =
       let waits = due_waits (state_of run.0 given) (run.0.all_due || has_notice (slice_get run.0.notices given)) run.2.first.0 in
       let here : state_of last given ≡ Some (Parked waits.0) = ap (λ (s : List State). slice_get s given) run.2.seats ∙ waits.1 in
-      absurd (true≢false (sym (ap (λ (b : Bool). b || is_returned calls given) (eq-eqb given given refl)) ∙ asked given waits.0 here))
+      inl (
+        waits.0,
+        record { seat = given; waits = here; returned = ap (λ (b : Bool). b || is_returned calls given) (eq-eqb given given refl) },
+      )

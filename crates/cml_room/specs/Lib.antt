@@ -23,7 +23,7 @@ pub use Room.{AllSleepRightly, MayAsk, MayAskAgain, Moves, NoneDue, RoomShown, S
 pub use Room.{state_of, with_state}
 pub use Rising.{BecomesDue, HasRisen, IsForOne, MakesFewByOne, MakesFewDue, MakesNoneDue, OneEach, RisesFew, WantOf, news_by}
 pub use Asking.{Asks, IsBarred, Reaches}
-pub use Running.{AllWouldWait, AreMade, AskOf, GivesNext, HasAsked, HaveAllAsked, IsMade, KeepsWoken, NextDue, NobodyForgotten, Other}
+pub use Running.{AllWouldWait, AreMade, AskOf, GivesNext, HasAsked, AnotherAsksNext, IsMade, KeepsWoken, NextDue, NobodyForgotten, Other}
 pub use Running.{RoomCall, asked_by, is_returned, is_woken, was_woken, withdrawn_by, woken_in}
 pub use Frames.{KeepsSeats, Settles, Stirs, Turns}
 pub use InTurn.{GivesInTurn}

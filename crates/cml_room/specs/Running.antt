@@ -85,7 +85,7 @@ is_returned (NextDue None ∷ earlier) seat = is_returned earlier seat
 is_returned (Other ∷ earlier) seat = is_returned earlier seat
 
 module _ {M : Type 0} where
-  -- a seat that waits for the very same was returned in the run, and has not asked since
+  -- a seat that waits for this was returned in the run, and has not asked since
   pub record HasReturned (calls : List RoomCall) (room : RoomShown M) (on : Want) : Type 0 where
     pub seat : ℕ
     pub waits : state_of room seat ≡ Some (Parked on)
@@ -102,9 +102,9 @@ module _ {M : Type 0} where
   NobodyForgotten calls room = (seat : ℕ) (on : Want) → state_of room seat ≡ Some (Parked on)
       → (is_returned calls seat ≡ true) ⊎ MaySleep calls room on
 
-  -- each seat that was returned has asked since, or no longer waits
-  abbrev pub HaveAllAsked : List RoomCall → RoomShown M → Type 0
-  HaveAllAsked calls room = (seat : ℕ) (on : Want) → state_of room seat ≡ Some (Parked on) → is_returned calls seat ≡ false
+  -- a seat waits that was returned in the run, and has not asked since: its thread was woken, and asks next
+  abbrev pub AnotherAsksNext : List RoomCall → RoomShown M → Type 0
+  AnotherAsksNext calls room = (on : Want) × HasReturned calls room on
 
   -- each seat that waits would wait again if it asked now, and there is no stall
   abbrev pub AllWouldWait : RoomShown M → Type 0

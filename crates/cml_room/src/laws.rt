@@ -1,7 +1,7 @@
 //! Laws of runs of a room's calls. Each call's contract says which step of a run it is: `IsMade` in `specs/Running.antt`.
-ghost use Rattle.std.specs.Prelude.{◌≡◌, ◌≤◌, ℕ, false, length, List, ◌∷◌, Option, Some, None};
+ghost use Rattle.std.specs.Prelude.{◌≡◌, ◌≤◌, ◌⊎◌, ℕ, false, length, List, ◌∷◌, Option, Some, None};
 ghost use Rattle.cml_room.specs.{GivesInTurn, RoomShown, NoneDue, is_due, RoomCall, NextDue, AreMade, HasAsked, NobodyForgotten};
-ghost use Rattle.cml_room.specs.{HaveAllAsked, AllWouldWait, is_returned, was_woken};
+ghost use Rattle.cml_room.specs.{AnotherAsksNext, AllWouldWait, is_returned, was_woken};
 
 use crate::room::Room;
 use cml_board::Message;
@@ -47,13 +47,14 @@ pub fn nobody_is_left_asleep<M: Message, L: MessageLog<M>>(room: &Room<M, L>)
 }
 
 /// Shows that one `next_due` after each call is enough, whatever it returns. Take any run of calls since the room was made or
-/// restored, of which the last is a `next_due`. If each seat that was returned has asked since, each that waits would wait again
-/// if it asked now, and there is no stall. So call `next_due` once after each call, and wake the thread of the seat that it
-/// returns: the thread asks, and calls `next_due` in turn. Once no woken thread is left to ask, nobody is left asleep.
+/// restored, of which the last is a `next_due`. Then a seat that was returned still waits, and has not asked since: its thread was
+/// woken. Or each seat that waits would wait again if it asked now, and there is no stall. So call `next_due` once after each
+/// call, and wake the thread of the seat that it returns: the thread asks, and calls `next_due` in turn. Once no woken thread is
+/// left to ask, nobody is left asleep.
 pub fn one_next_due_is_enough<M: Message, L: MessageLog<M>>(room: &Room<M, L>)
     ensures { (calls : List RoomCall) (given : Option ℕ) (first : RoomShown M) → NoneDue first
         → AreMade (NextDue given ∷ calls) first room.now
-        → HaveAllAsked (NextDue given ∷ calls) room.now → AllWouldWait room.now }
+        → AnotherAsksNext (NextDue given ∷ calls) room.now ⊎ AllWouldWait room.now }
 {
     // As above.
     let _board = room.board();

@@ -1,5 +1,5 @@
 //! Laws of runs of calls in a hall.
-ghost use Rattle.std.specs.Prelude.{◌≡◌, ℕ, ◌+◌, ◌<◌, ◌≤◌, Bool, true, List, ◌∷◌, Option, None};
+ghost use Rattle.std.specs.Prelude.{◌≡◌, ℕ, ◌+◌, ◌<◌, ◌≤◌, ◌⊎◌, Bool, true, List, ◌∷◌, Option, None};
 ghost use Rattle.cml_board.specs.{Call};
 ghost use Rattle.cml_board.specs.declared.outcome.Refusal.TheVariants.{NoMemory};
 ghost use Rattle.cml_lanes.specs.{FloorShown, HoldsUp, Starves, added_since, TakesEntryAlone, LaneTakesEntryAlone, FeedTakesEntryAlone};
@@ -77,7 +77,7 @@ pub fn one_next_due_is_enough_in_a_hall<M: Message, L: MessageLog<M>, Led: Ledge
 )
     ensures { (calls : List room.RoomCall) (given : Option ℕ) (first : RoomShown M) → NoneDue first
         → room.AreMade (room.NextDue given ∷ calls) first (room_of hall.now)
-        → room.HaveAllAsked (room.NextDue given ∷ calls) (room_of hall.now) → room.AllWouldWait (room_of hall.now) }
+        → room.AnotherAsksNext (room.NextDue given ∷ calls) (room_of hall.now) ⊎ room.AllWouldWait (room_of hall.now) }
 {
     // As above.
     let _board = hall.board();

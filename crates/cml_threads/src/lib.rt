@@ -6,9 +6,11 @@ mod hall;
 mod laws;
 mod locked;
 mod parker;
+mod roused;
 mod seat;
 mod settled;
 mod switchboard;
+mod turn;
 mod yields;
 
 pub use cml_room::State;

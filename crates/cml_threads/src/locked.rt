@@ -5,15 +5,15 @@ ghost use Rattle.cml_threads.specs.{UnparksNext};
 use crate::backoff::{LOCK_LOOKS, pause_for_lock};
 use crate::hall::Hall;
 use crate::parker::{Parkers, Unparked};
+use crate::turn::{Turn, unlock};
 use crate::yields::Yields;
 use cml_board::Message;
 use cml_log::MessageLog;
 use crossbeam_utils::CachePadded;
 use std::alloc::{AllocError, Global};
-use std::marker::Model;
 use std::rt::Clock;
 use std::sync::ledger::Ledger;
-use std::sync::{Mutex, MutexGuard, Wait};
+use std::sync::{Mutex, Wait};
 use std::thread::Threads;
 
 /// A hall under its lock, and the parkers of its seats.
@@ -23,29 +23,6 @@ pub struct Locked<M, L: MessageLog<M>, Led: Ledger> {
     hall: Mutex<CachePadded<Hall<M, L, Led>>>,
     parkers: Parkers,
     yields: Yields,
-}
-
-/// The hall, while this thread has the lock. It can't be dropped: only `Locked::let_go` and `let_go_by` take it. So the compiler
-/// refuses a call that unlocks the hall and unparks nobody.
-pub struct Turn<'a, M, L: MessageLog<M>, Led: Ledger> {
-    hall: MutexGuard<'a, CachePadded<Hall<M, L, Led>>>,
-}
-
-impl<'a, M, L: MessageLog<M>, Led: Ledger> Model for Turn<'a, M, L, Led> {
-    ghost use Rattle.std.specs.Sync.Mutex.{mutex_guard_value};
-    ghost use Rattle.crossbeam_utils.specs.Padded.{padded_value};
-    ghost use Rattle.cml_threads.specs.Hosting.{Hosted};
-
-    ghost Value = { Hosted M };
-
-    ghost view = { λ t. padded_value (mutex_guard_value t.hall) };
-}
-
-impl<'a, M: Message, L: MessageLog<M>, Led: Ledger> Turn<'a, M, L, Led> {
-    /// The hall. What a call does to it is in the contract of `Hall`'s call.
-    pub fn hall(&mut self) -> &mut Hall<M, L, Led> {
-        &mut self.hall
-    }
 }
 
 impl<M: Message, L: MessageLog<M>, Led: Ledger> Locked<M, L, Led> {
@@ -65,14 +42,12 @@ impl<M: Message, L: MessageLog<M>, Led: Ledger> Locked<M, L, Led> {
         if self.yields.are_short() {
             for look in 0..LOCK_LOOKS {
                 if let Some(hall) = self.hall.try_lock() {
-                    return Turn { hall };
+                    return Turn::of(hall);
                 }
                 pause_for_lock(look);
             }
         }
-        Turn {
-            hall: self.hall.lock(rt),
-        }
+        Turn::of(self.hall.lock(rt))
     }
 
     /// Adds the parker of the next seat, where this many were made. The thread has the lock.
@@ -92,7 +67,8 @@ impl<M: Message, L: MessageLog<M>, Led: Ledger> Locked<M, L, Led> {
     {
         let due = unlock(turn)?;
         // `by` is the seat itself, so its parker never takes this wake for an answer.
-        Some(self.parkers.unpark(due, due))
+        let seat = due.seat();
+        Some(self.parkers.unpark(due, seat))
     }
 
     /// Does what `let_go` does, after a seat's call whose thread waits next, maybe for what the woken one does.
@@ -128,15 +104,4 @@ impl<M: Message, L: MessageLog<M>, Led: Ledger> Locked<M, L, Led> {
             yields: Yields::unknown(),
         }
     }
-}
-
-/// Takes the seat that is due next, and unlocks the hall.
-fn unlock<M: Message, L: MessageLog<M>, Led: Ledger>(turn: Turn<'_, M, L, Led>) -> Option<u64>
-    ensures { UnparksNext turn.entry result }
-{
-    let Turn { hall } = turn;
-    let mut hall = hall;
-    let due = hall.next_due();
-    drop(hall);
-    due
 }

@@ -91,6 +91,36 @@ impl Parker {
     }
 }
 
+/// A seat that `Hall::next_due` has returned, and whose thread is not unparked yet. It can't be dropped: only `Parkers::unpark` takes
+/// it. So the compiler refuses code that takes a due seat and hands it to no `unpark`.
+pub struct Due {
+    seat: u64,
+}
+
+impl Model for Due {
+    ghost use Rattle.std.specs.Prelude.{ℕ};
+
+    ghost Value = { ℕ };
+
+    ghost view = { λ d. d.seat };
+}
+
+impl Due {
+    /// The seat, which counts as woken from now on.
+    pub fn of(seat: u64) -> Due
+        ensures { result ≡ seat }
+    {
+        Due { seat }
+    }
+
+    /// Returns its number.
+    pub fn seat(&self) -> u64
+        ensures { result ≡ self.now }
+    {
+        self.seat
+    }
+}
+
 /// The seat whose thread was unparked, and whether it slept. Only `Parkers::unpark` makes one.
 #[derive(Drop)]
 pub struct Unparked {
@@ -136,9 +166,10 @@ impl Parkers {
     }
 
     /// Wakes the seat's thread, for a call of another seat. If it doesn't sleep yet, it won't.
-    pub fn unpark(&self, seat: u64, by: u64) -> Unparked
-        ensures { result ≡ seat }
+    pub fn unpark(&self, due: Due, by: u64) -> Unparked
+        ensures { result ≡ due }
     {
+        let Due { seat } = due;
         let slept = match self.parker(seat) {
             Some(parker) => parker.unpark(by),
             None => false,

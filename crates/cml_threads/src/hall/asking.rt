@@ -39,6 +39,7 @@ impl<M: Message, L: MessageLog<M>, Led: Ledger> Hall<M, L, Led> {
 
     /// Makes a free seat's call, as `ask` does, and returns the reply alone. The journal keeps the caller's own call, as in
     /// `Board::call`.
+    #[inline(always)]
     pub fn call(&mut self, seat: &mut Seat<Led>, call: Call<M>) -> Response<M>
         ensures asks { let outcome = outcome_of (entries_in self.old.board.history) call result in
             Asks L.CHUNK M.SURE (MayAsk self.old seat.old.number) self.old self.new seat.old seat.new call outcome }
@@ -51,6 +52,7 @@ impl<M: Message, L: MessageLog<M>, Led: Ledger> Hall<M, L, Led> {
     }
 
     /// Makes a parked seat's call again, as `ask_again` does, and returns the reply alone.
+    #[inline(never)]
     pub fn call_again(&mut self, seat: &mut Seat<Led>, call: Call<M>) -> Response<M>
         ensures asks { let outcome = outcome_of (entries_in self.old.board.history) call result in
             Asks L.CHUNK M.SURE (MayAskAgain self.old seat.old.number call) self.old self.new seat.old seat.new call outcome }

@@ -5,6 +5,7 @@ ghost use Rattle.cml_room.specs.{is_due, state_of, SleepsRightly, GivesNext};
 ghost use Rattle.cml_threads.specs.{room_of};
 
 use super::Hall;
+use crate::parker::Due;
 use cml_board::Message;
 use cml_log::MessageLog;
 use cml_room::State;
@@ -28,13 +29,14 @@ impl<M: Message, L: MessageLog<M>, Led: Ledger> Hall<M, L, Led> {
         self.room.is_due(seat)
     }
 
-    /// Returns the next seat that is due, and was not returned since it last asked. Wake its thread, and let it ask again. The
+    /// Returns the next seat that is due, and was not returned since it last asked. Its thread has to be unparked, and asks again. The
     /// seat that has been due the longest comes first. Returns `None` if each seat that is due was returned. One call after each
     /// other call is enough (`one_next_due_is_enough_in_a_hall`).
-    pub fn next_due(&mut self) -> Option<u64>
+    pub(crate) fn next_due(&mut self) -> Option<Due>
         ensures gives { GivesNext result (room_of self.old) (room_of self.new) }
         ensures book { self.new.book ≡ self.old.book }
     {
-        self.room.next_due()
+        let seat = self.room.next_due()?;
+        Some(Due::of(seat))
     }
 }

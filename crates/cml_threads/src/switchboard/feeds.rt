@@ -22,7 +22,7 @@ impl<M: Message, L: MessageLog<M>, Led: Ledger> Switchboard<M, L, Led> {
     ) -> Result<(Feed<M>, u64), Refusal>
         requires least { 1 ≤ capacity }
         requires most { capacity ≤ MAX_CAPACITY }
-        ensures feed { IfOk result (λ feed. feed.0 ≡ record { ring = feed.0.ring; number = feed.1; port = feed.0.port; taken = [] }) }
+        ensures feed { IfOk result (λ feed. feed.0 ≡ record { ring = feed.0.ring; number = feed.1; port = feed.0.port; capacity = capacity; taken = [] }) }
         ensures refused { IfErr result MayRefuseFeed }
     {
         let mut turn = self.locked.lock(rt);

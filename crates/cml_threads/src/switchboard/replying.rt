@@ -12,6 +12,7 @@ use std::sync::ledger::Ledger;
 impl<M: Message, L: MessageLog<M>, Led: Ledger> Switchboard<M, L, Led> {
     /// Makes a call, and blocks until it returns or fails, as `call` does. Returns the reply alone, which takes less time: the
     /// message is shared once less and dropped once less.
+    #[inline(always)]
     pub fn reply<R: Wait>(
         &self,
         rt: &R,
@@ -35,6 +36,7 @@ impl<M: Message, L: MessageLog<M>, Led: Ledger> Switchboard<M, L, Led> {
     }
 
     /// Makes the seat's call, and wakes a seat that is due, as `ask` does.
+    #[inline(always)]
     fn call_once<R: Wait>(&self, rt: &R, seat: &mut Seat<Led>, call: Call<M>) -> Response<M>
         ensures { Responds seat.old seat.new call result }
     {
@@ -45,6 +47,7 @@ impl<M: Message, L: MessageLog<M>, Led: Ledger> Switchboard<M, L, Led> {
     }
 
     /// Makes the call of a parked seat again, as `call_once` makes one.
+    #[inline(never)]
     fn call_again<R: Wait>(&self, rt: &R, seat: &mut Seat<Led>, call: Call<M>) -> Response<M>
         ensures { Responds seat.old seat.new call result }
     {
@@ -56,6 +59,7 @@ impl<M: Message, L: MessageLog<M>, Led: Ledger> Switchboard<M, L, Led> {
 }
 
 /// `Hall::call`, with as much of its contract as holds for the caller of a switchboard.
+#[inline(always)]
 fn call_once<M: Message, L: MessageLog<M>, Led: Ledger>(
     hall: &mut Hall<M, L, Led>,
     seat: &mut Seat<Led>,
@@ -67,6 +71,7 @@ fn call_once<M: Message, L: MessageLog<M>, Led: Ledger>(
 }
 
 /// `Hall::call_again`, in the same way.
+#[inline(always)]
 fn call_again<M: Message, L: MessageLog<M>, Led: Ledger>(
     hall: &mut Hall<M, L, Led>,
     seat: &mut Seat<Led>,
