@@ -1,5 +1,5 @@
 -- What the drawing of a report reads and writes, by how it ends.
-use Rattle.std.specs.Prelude.{ℕ, ◌+◌, ◌-◌, ◌^◌, ◌⊎◌, min, List, ◌≡◌, Option, Some, unwrap_or, true, ⊤}
+use Rattle.std.specs.Prelude.{ℕ, ◌+◌, ◌-◌, ◌^◌, ◌⊎◌, min, List, length, map, take, drop, ◌≡◌, Option, Some, unwrap_or, true, ⊤}
 use Rattle.std.specs.Io.KnownBytes.{Consumes, IsAtEnd, Appends, Keeps}
 use Rattle.cml_grammar.specs.{IsReadUpTo, Fault as ScriptFault, fault_of, Lines, IsScript}
 use Rattle.cml_chart.specs.declared.report.faults.Fault.{Fault}
@@ -8,6 +8,8 @@ use Rattle.cml_chart.specs.Shown.{shown_report}
 use Rattle.cml_chart.specs.Reading.{told, report, wrong}
 use Rattle.cml_chart.specs.declared.command_line.Order.{Order}
 use Rattle.cml_chart.specs.declared.chart.Course.{Course}
+use Rattle.cml_chart.specs.declared.chart.Row.{Row}
+use Rattle.cml_chart.specs.declared.marks.Drawn.{Drawn}
 use Rattle.cml_chart.specs.declared.ending.Ending.{Ending}
 use Rattle.cml_chart.specs.declared.ending.Ending.TheVariants as ending
 use Rattle.cml_chart.specs.Following.{IsCourse, lines_fault}
@@ -27,6 +29,13 @@ last_of order = unwrap_or order.to (min (first_of order + 499) (2 ^ 64 - 1))
 -- of `count` rows, those asked for are between these two positions, as far as there are such rows
 abbrev pub bounds_of : Order → ℕ → ℕ × ℕ
 bounds_of order count = let end = min count (last_of order) in (min end (first_of order - 1), end)
+
+-- the rows of a chart that are asked for, and the rows of those that are drawn
+abbrev pub rows_asked : Order → List Row → List Row
+rows_asked order rows = let bounds = bounds_of order (length rows) in drop bounds.0 (take bounds.1 rows)
+
+abbrev pub rows_in : List Drawn → List Row
+rows_in drawn = map (λ (d : Drawn). d.row) drawn
 
 -- All of the reader's bytes were read, they are a report or a journal, of the script where there is one, and this is the course that
 -- was drawn.
@@ -57,9 +66,9 @@ EndsUndrawn script old new ending.ReadFault = ⊤
 EndsUndrawn script old new ending.NoMemory = ⊤
 EndsUndrawn script old new _ = ⊥
 
--- nothing but the picture was written, or a write failed, or nothing was drawn and nothing written
+-- nothing but some text was written, of which nothing is said; or a write failed, or nothing was drawn and nothing written
 abbrev pub Draws : Option Lines → Option (List ℕ) → Option (List ℕ) → Option (List ℕ) → Option (List ℕ) → Ending → Type 0
-Draws script old new held holds ending.Done = IsDrawnOf script old new × (picture : List ℕ) × Appends held holds picture
+Draws script old new held holds ending.Done = IsDrawnOf script old new × (text : List ℕ) × Appends held holds text
 Draws script old new held holds ending.WriteFault = ⊤
 Draws script old new held holds ended = EndsUndrawn script old new ended × Keeps held holds
 

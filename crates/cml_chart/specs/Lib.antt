@@ -30,7 +30,7 @@ pub use Telling.{channel_state, mailbox_state, told_call}
 pub use Telling.{doer_by, is_giving, is_got, is_no_feed, is_receiving, is_shown_by, report_or, ring_name, row, row_count, row_text, rows, shown_word, state_by, told_below, told_object, told_objects, told_reply}
 pub use CommandLine.{IsAsked, IsFlag, IsRow, TellsNumber, drawing_usage, faults_of, numbered_rule, options_in, script_rule, text_rule}
 pub use CommandLine.{usage}
-pub use Drawing.{Draws, DrawsGiven, EndsUndrawn, EndsUnread, IsDrawnOf, IsFaulty, IsGiven, IsRead, bounds_of}
+pub use Drawing.{Draws, DrawsGiven, EndsUndrawn, EndsUnread, IsDrawnOf, IsFaulty, IsGiven, IsRead, bounds_of, rows_asked, rows_in}
 pub use Endings.{ending_of_fault, ending_of_what, ending_of_script_fault, is_shown, status}
 pub use declared.chart.Course.{Course}
 pub use declared.report.Report.{Report}

@@ -2,14 +2,14 @@
 ghost use Rattle.std.specs.Prelude.{◌≡◌, ◌⊎◌, ◌≤◌, IfOk, IfErr, OnOk};
 ghost use Rattle.cml_chart.specs.declared.ending.Ending.TheVariants as ending;
 ghost use Rattle.std.specs.Option.{option_map};
-ghost use Rattle.cml_chart.specs.{bounds_of, Draws, DrawsGiven, IsDrawnOf, IsGiven, EndsUndrawn, EndsUnread, IsRead};
+ghost use Rattle.cml_chart.specs.{bounds_of, rows_in, rows_asked, Draws, DrawsGiven, IsDrawnOf, IsGiven, EndsUndrawn, EndsUnread, IsRead};
 
 use crate::chart::{Course, course_of};
 use crate::command_line::Order;
 use crate::ending::Ending;
 use crate::journal::{report_or, told_report};
-use crate::marks::{add_declared, add_drawn};
-use crate::picture::Picture;
+use crate::marks::{add_declared, add_drawn, follow_all};
+use crate::picture::{Picture, columns_of};
 use crate::plain::draw_plain;
 use crate::report::read_report;
 use crate::svg::draw_svg;
@@ -111,19 +111,7 @@ fn draw_course<'a>(
     course: &Course<'a>,
     order: &Order<'_>,
 ) -> Result<String, AllocError> {
-    let bounds = bounds(order, course.chart.rows.len());
-    let mut picture = Picture {
-        course,
-        columns: Vec::new(alloc),
-        rows: Vec::new(alloc),
-        before: bounds.0,
-    };
-    picture.add_columns()?;
-    let mut open = Vec::new(alloc);
-    if let Some(script) = script {
-        add_declared(alloc, &mut open, script)?;
-    }
-    add_drawn(alloc, &mut picture.rows, &mut open, &course.chart, bounds)?;
+    let picture = picture_of(alloc, script, course, order)?;
     let mut out = String::new(alloc);
     if order.text {
         draw_plain(&mut out, &picture)?;
@@ -133,9 +121,38 @@ fn draw_course<'a>(
     Ok(out)
 }
 
+/// The rows that are asked for, with their marks, under all columns.
+fn picture_of<'p, 'a>(
+    alloc: Global,
+    script: Option<&'a Script>,
+    course: &'p Course<'a>,
+    order: &Order<'_>,
+) -> Result<Picture<'p, 'a>, AllocError>
+    ensures rows { IfOk result (λ picture. rows_in picture.rows.items ≡ rows_asked order.now course.now.chart.rows.items) }
+{
+    let all = course.chart.rows.as_slice();
+    let (start, end) = bounds(order, all.len());
+    let columns = columns_of(alloc, course)?;
+    let mut open = Vec::new(alloc);
+    if let Some(script) = script {
+        add_declared(alloc, &mut open, script)?;
+    }
+    let front = &all[..end];
+    follow_all(&mut open, &front[..start])?;
+    let mut rows = Vec::new(alloc);
+    add_drawn(alloc, &mut rows, &mut open, &course.chart, &front[start..])?;
+    Ok(Picture {
+        course,
+        columns,
+        rows,
+        before: start,
+    })
+}
+
 /// The two positions, among `count` rows, between which the rows asked for are, as far as there are such rows.
 fn bounds(order: &Order<'_>, count: usize) -> (usize, usize)
-    ensures { result ≡ bounds_of order.now count }
+    ensures bounds { result ≡ bounds_of order.now count }
+    ensures within { (result.0 ≤ result.1) × (result.1 ≤ count) }
 {
     let from = order.from.unwrap_or(1);
     let to = order.to.unwrap_or(from.saturating_add(MOST_ROWS - 1));

@@ -1,4 +1,7 @@
 //! Which ports are open, and which of them a multicast goes to.
+ghost use Rattle.std.specs.Prelude.{◌≡◌, ◌++◌, OnOk};
+ghost use Rattle.cml_chart.specs.{rows_in};
+
 use crate::chart::{Added, Chart, Row, column_of};
 use crate::report::Act;
 use cml_calls::{Ask, Give};
@@ -19,19 +22,27 @@ pub(crate) struct Drawn<'a> {
     pub(crate) marks: Vec<usize>,
 }
 
-/// Adds the rows between these positions, with their marks. `open` has the ports that are open before the first of all rows.
+/// Adds these rows of a chart, with their marks. `open` has the ports that are open before the first of them.
 pub(crate) fn add_drawn<'a>(
     alloc: Global,
     drawn: &mut Vec<Drawn<'a>>,
     open: &mut Vec<Listener<'a>>,
     chart: &Chart<'a>,
-    bounds: (usize, usize),
-) -> Added {
-    for (at, row) in chart.rows.iter().take(bounds.1).enumerate() {
-        if at >= bounds.0 {
-            let marks = marks_of(alloc, chart, open, &row.act)?;
-            drawn.push(Drawn { row: *row, marks })?;
-        }
+    rows: &[Row<'a>],
+) -> Added
+    ensures { OnOk result (rows_in drawn.new.items ≡ rows_in drawn.old.items ++ rows.now) }
+{
+    for row in rows {
+        let marks = marks_of(alloc, chart, open, &row.act)?;
+        drawn.push(Drawn { row: *row, marks })?;
+        follow(open, &row.act)?;
+    }
+    Ok(())
+}
+
+/// Goes over rows that are not drawn, before those that are.
+pub(crate) fn follow_all<'a>(open: &mut Vec<Listener<'a>>, rows: &[Row<'a>]) -> Added {
+    for row in rows {
         follow(open, &row.act)?;
     }
     Ok(())

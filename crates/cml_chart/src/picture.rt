@@ -3,6 +3,7 @@ use crate::chart::{Added, Course};
 use crate::marks::Drawn;
 use crate::report::{Act, makes_port, replies_to};
 use cml_calls::ReplyKind;
+use std::alloc::{AllocError, Global};
 use std::fmt::Write;
 
 /// A column: its name, the kind over that, and what is said of an object under it, with a space in front.
@@ -30,30 +31,32 @@ impl Column<'_> {
     }
 }
 
-impl Picture<'_, '_> {
-    /// Adds the columns of those who act, and of the objects. The names of lanes and feeds tell their kind.
-    pub(crate) fn add_columns(&mut self) -> Added {
-        let chart = &self.course.chart;
-        for name in chart.names.iter().take(chart.actors) {
-            let kind = if name.contains(' ') { "" } else { "thread" };
-            let (name, closing) = (name.as_str(), "");
-            self.columns.push(Column {
-                kind,
-                name,
-                closing,
-            })?;
-        }
-        for object in &self.course.report.objects {
-            let (kind, name) = (object.kind, object.name);
-            let (_, closing) = object.line.split_once(':').unwrap_or(("", ""));
-            self.columns.push(Column {
-                kind,
-                name,
-                closing,
-            })?;
-        }
-        Ok(())
+/// The columns of those who act, and of the objects. The names of lanes and feeds tell their kind.
+pub(crate) fn columns_of<'p>(
+    alloc: Global,
+    course: &'p Course<'_>,
+) -> Result<Vec<Column<'p>>, AllocError> {
+    let mut columns = Vec::new(alloc);
+    let chart = &course.chart;
+    for name in chart.names.iter().take(chart.actors) {
+        let kind = if name.contains(' ') { "" } else { "thread" };
+        let (name, closing) = (name.as_str(), "");
+        columns.push(Column {
+            kind,
+            name,
+            closing,
+        })?;
     }
+    for object in &course.report.objects {
+        let (kind, name) = (object.kind, object.name);
+        let (_, closing) = object.line.split_once(':').unwrap_or(("", ""));
+        columns.push(Column {
+            kind,
+            name,
+            closing,
+        })?;
+    }
+    Ok(columns)
 }
 
 /// Adds the label of an act's arrow: its step, the message, and its reply unless that is `done` or `made`.

@@ -1,6 +1,6 @@
 //! The switchboards of the examples with threads. Each function makes one, lets the example's threads use it, and settles it
 //! once all seats have left. `passing.rt` has one beside its threads.
-ghost use Rattle.std.specs.Prelude.{◌≡◌, ◌+◌, ◌*◌, IfOk};
+ghost use Rattle.std.specs.Prelude.{◌≡◌, ◌+◌, ◌*◌, [], IfOk};
 ghost use Rattle.cml_guide.specs.{IsBlankOf};
 
 use crate::calls::Trouble;
@@ -16,6 +16,7 @@ use crate::sinks::{Counted, Counting, PIECE, Pieces, raise_by_four, settle_piece
 use crate::stream::tell_to_three;
 use crate::threads::{Shared, counted, settle, settled};
 use cml_board::{BoardLog, Refusal};
+use cml_keeping::Start;
 use cml_log::MessageLog;
 use cml_threads::Count;
 use std::alloc::Global;
@@ -166,10 +167,11 @@ fn run_with<Led: Ledger + Send + Sync, R: Threads + Wait + Sync>(
 
 pub fn count_in_pieces<
     L: MessageLog<u64> + Send,
-    Led: Ledger + Send + Sync,
+    Led: Start<u64> + Send + Sync,
     R: Threads + Wait + Sync,
 >(rt: &R, alloc: Global, blank: Blank) -> Result<Pieces, Trouble>
-    requires { IsBlankOf blank Led.name Led.parts }
+    requires blank { IsBlankOf blank Led.name Led.parts }
+    requires start { Led.start ≡ [] }
 {
     let board = Counted::<L, Led>::new(alloc, PIECE, blank, Counting::new())?;
     let raised = raise_by_four(rt, alloc, &board);

@@ -1,9 +1,11 @@
 //! A journal that is cut by itself: the call that finds it full hands its entries to a sink, and is then made.
+ghost use Rattle.std.specs.Prelude.{◌≡◌, []};
+
 use crate::calls::{Trouble, message_of, name_of, nothing_of};
 use crate::examples::count_in_pieces;
 use crate::threads::{Came, Ended, settle};
 use cml_board::{BoardLog, Call, Entry, Name};
-use cml_keeping::{Failure, Keeping, Sink, Traces};
+use cml_keeping::{Failure, Keeping, Sink, Start, Traces};
 use cml_log::MessageLog;
 use cml_threads::{Count, Left, PARTS, Seat};
 use std::alloc::Global;
@@ -30,7 +32,9 @@ pub struct Counting {
 }
 
 impl Counting {
-    pub fn new() -> Counting {
+    pub fn new() -> Counting
+        ensures { result.dropped.items ≡ [] }
+    {
         Counting {
             pieces: 0,
             entries: 0,
@@ -82,7 +86,7 @@ pub fn counted_by_four<R: Threads + Wait + Sync>(rt: &R, alloc: Global) -> Resul
 /// Lets the threads raise a counter. Returns its name and their seats.
 pub fn raise_by_four<
     L: MessageLog<u64> + Send,
-    Led: Ledger + Send + Sync,
+    Led: Start<u64> + Send + Sync,
     R: Threads + Wait + Sync,
 >(rt: &R, alloc: Global, board: &Counted<L, Led>) -> Came<Name, Led> {
     let (seats, counter) = begin(rt, alloc, board)?;
@@ -91,7 +95,7 @@ pub fn raise_by_four<
 }
 
 /// The threads' seats, and the counter.
-fn begin<L: MessageLog<u64>, Led: Ledger, R: Wait>(
+fn begin<L: MessageLog<u64>, Led: Start<u64>, R: Wait>(
     rt: &R,
     alloc: Global,
     board: &Counted<L, Led>,
@@ -106,7 +110,7 @@ fn begin<L: MessageLog<u64>, Led: Ledger, R: Wait>(
 }
 
 /// Raises the counter, and leaves.
-fn raise<L: MessageLog<u64>, Led: Ledger, R: Wait>(
+fn raise<L: MessageLog<u64>, Led: Start<u64>, R: Wait>(
     rt: &R,
     board: &Counted<L, Led>,
     mut seat: Seat<Led>,
@@ -117,7 +121,7 @@ fn raise<L: MessageLog<u64>, Led: Ledger, R: Wait>(
 }
 
 /// Raises the counter by one in each round.
-fn raise_each<L: MessageLog<u64>, Led: Ledger, R: Wait>(
+fn raise_each<L: MessageLog<u64>, Led: Start<u64>, R: Wait>(
     rt: &R,
     board: &Counted<L, Led>,
     seat: &mut Seat<Led>,
@@ -144,7 +148,7 @@ fn lefts_of<Led: Ledger>(
 }
 
 /// Hands over what the journal has since the last cut, and settles the switchboard.
-pub fn settle_pieces<L: MessageLog<u64>, Led: Ledger, R: Wait>(
+pub fn settle_pieces<L: MessageLog<u64>, Led: Start<u64>, R: Wait>(
     rt: &R,
     board: Counted<L, Led>,
     raised: Came<Name, Led>,

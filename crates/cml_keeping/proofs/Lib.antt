@@ -1,1 +1,2 @@
+pub mod GrowingLemmas
 pub mod TracesLemmas

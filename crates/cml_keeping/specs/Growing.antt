@@ -1,5 +1,5 @@
 -- What a keeper of entries shows, and how it grows.
-use Rattle.std.specs.Prelude.{◌≡◌, List, ◌++◌}
+use Rattle.std.specs.Prelude.{◌≡◌, List, ◌++◌, take, length}
 use Rattle.cml_board.specs.{Entry}
 
 -- the entries that the sink took, and those that it has still to take, each list oldest first
@@ -15,3 +15,7 @@ module _ {M : Type 0} where
   -- it was given some more, and still has all before them
   abbrev pub Grows : Kept M → Kept M → Type 0
   Grows old new = (later : List (Entry M)) × (all_of new ≡ all_of old ++ later)
+
+  -- the first that it was given are these
+  abbrev pub BeginsWith : List (Entry M) → Kept M → Type 0
+  BeginsWith start kept = take (length start) (all_of kept) ≡ start

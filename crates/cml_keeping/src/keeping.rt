@@ -2,22 +2,24 @@ ghost use Rattle.std.specs.Prelude.{◌≡◌, ◌≤◌, ◌^◌, true, IfOk, I
 ghost use Rattle.cml_board.specs.declared.outcome.Refusal.TheVariants.{NoMemory};
 ghost use Rattle.cml_board.specs.{want_in};
 ghost use Rattle.cml_threads.specs.{MayRefuse, raised, suits};
-ghost use Rattle.cml_keeping.specs.{Grows, MayFail};
+ghost use Rattle.cml_keeping.specs.{BeginsWith, Grows, MayFail};
 
 mod feeds;
 mod lanes;
 
 use crate::failure::Failure;
 use crate::keeper::Keeper;
+use crate::locked::Locked;
 use crate::piece::Piece;
 use crate::sink::Sink;
+use crate::start::Start;
 use cml_board::{Answer, Call, Message, Refusal, Reply};
 use cml_log::MessageLog;
 use cml_threads::{Left, Seat, Switchboard};
 use std::alloc::{AllocError, Global};
 use std::rt::Clock;
 use std::sync::atomic::{AtomicU64, Ordering};
-use std::sync::ledger::{Blank, Ledger};
+use std::sync::ledger::Blank;
 use std::sync::{Mutex, Wait};
 use std::thread::Threads;
 
@@ -31,25 +33,30 @@ use std::thread::Threads;
 /// again, so other calls are accepted. The next call that finds the journal full hands over the pending entries first, and cuts
 /// the journal only if the sink took them all. So what waits for the sink is never more than one journal.
 ///
-/// Whenever the keeper's lock is free, the sink and the pending entries have all that was cut away, in the journal's order: see
-/// `Keeper` and `cut`. A contract here is about what the caller holds, as in `Switchboard`.
+/// Whenever the keeper's lock is free, the sink and the pending entries begin with all that the keeper had at first: `Led.start`. A
+/// ghost field of `Locked` says so. A cut keeps all that they had, and adds its `Piece` after it: see `cut` and `Piece`. No clause
+/// says which entries were cut, since the journal lies under another lock. A contract here is about what the caller holds, as in
+/// `Switchboard`.
 ///
 /// No call fails with `JournalFull`: if other threads fill the journal again before this call is made, it makes room again. Only a
 /// board that has accepted 2^64 - 1 calls has no room after a cut, and calls on it block for ever.
 #[derive(Drop)]
-pub struct Keeping<M, L: MessageLog<M>, Led: Ledger, S: Sink<M>> {
+pub struct Keeping<M, L: MessageLog<M>, Led: Start<M>, S: Sink<M>> {
     board: Switchboard<M, L, Led>,
-    keeper: Mutex<Keeper<M, S>>,
+    keeper: Mutex<Locked<M, Led, S>>,
     // How often the journal was cut. Only a thread that has locked the keeper writes it.
     cuts: AtomicU64,
 }
 
-impl<M: Message, L: MessageLog<M>, Led: Ledger, S: Sink<M>> Keeping<M, L, Led, S> {
-    /// Makes one of a switchboard and a keeper, whose pending entries the sink gets first.
-    pub fn of(board: Switchboard<M, L, Led>, keeper: Keeper<M, S>) -> Keeping<M, L, Led, S> {
+impl<M: Message, L: MessageLog<M>, Led: Start<M>, S: Sink<M>> Keeping<M, L, Led, S> {
+    /// Makes one of a switchboard and a keeper, whose pending entries the sink gets first. `Led.start` is what the keeper begins with,
+    /// at most all that it has.
+    pub fn of(board: Switchboard<M, L, Led>, keeper: Keeper<M, S>) -> Keeping<M, L, Led, S>
+        requires { BeginsWith Led.start keeper }
+    {
         Keeping {
             board,
-            keeper: Mutex::new(keeper),
+            keeper: Mutex::new(Locked::of(keeper)),
             cuts: AtomicU64::new(0),
         }
     }
@@ -66,6 +73,7 @@ impl<M: Message, L: MessageLog<M>, Led: Ledger, S: Sink<M>> Keeping<M, L, Led, S
         requires name { blank.name ≡ Led.name }
         requires parts { blank.parts ≡ Led.parts }
         requires enough { blank.parts ≡ 2 ^ 63 }
+        requires start { S.taken sink ≡ Led.start }
     {
         let board = Switchboard::new(alloc, limit, blank)?;
         Ok(Keeping::of(board, Keeper::new(alloc, sink)))
@@ -153,18 +161,20 @@ impl<M: Message, L: MessageLog<M>, Led: Ledger, S: Sink<M>> Keeping<M, L, Led, S
     /// pause. If the sink fails, the entries that it didn't take are pending.
     pub fn make_room<R: Wait>(&self, rt: &R) -> Result<(), S::Error> {
         let mut keeper = self.keeper.lock(rt);
-        self.cut(rt, &mut keeper)
+        self.cut_locked(rt, &mut keeper)
     }
 
     /// Returns the switchboard and the keeper, with its sink and what is pending. The journal still has the entries since the last
     /// cut: call `make_room` before, or read them off the board at the end.
-    pub fn into_parts(self) -> (Switchboard<M, L, Led>, Keeper<M, S>) {
+    pub fn into_parts(self) -> (Switchboard<M, L, Led>, Keeper<M, S>)
+        ensures { BeginsWith Led.start result.1 }
+    {
         let Keeping {
             board,
             keeper,
             cuts: _,
         } = self;
-        (board, keeper.into_inner())
+        (board, keeper.into_inner().into_keeper())
     }
 
     /// How often the journal was cut. A thread reads it before its call.
@@ -179,7 +189,15 @@ impl<M: Message, L: MessageLog<M>, Led: Ledger, S: Sink<M>> Keeping<M, L, Led, S
         if self.cuts() != seen {
             return Ok(());
         }
-        self.cut(rt, &mut keeper)
+        self.cut_locked(rt, &mut keeper)
+    }
+
+    /// Does what `cut` does, to a keeper under its lock.
+    #[tactic(auto, using(crate::proofs::GrowingLemmas::goes_on))]
+    fn cut_locked<R: Wait>(&self, rt: &R, locked: &mut Locked<M, Led, S>) -> Result<(), S::Error>
+        ensures { Grows locked.old.keeper locked.new.keeper }
+    {
+        self.cut(rt, &mut locked.keeper)
     }
 
     /// Hands the pending entries over, then cuts the journal and hands its entries over. The caller has locked the keeper before the

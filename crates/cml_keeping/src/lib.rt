@@ -4,9 +4,11 @@
 mod failure;
 mod keeper;
 mod keeping;
+mod locked;
 mod piece;
 mod sink;
 mod sinks;
+mod start;
 mod traces;
 
 pub use failure::Failure;
@@ -14,4 +16,5 @@ pub use keeper::Keeper;
 pub use keeping::Keeping;
 pub use sink::Sink;
 pub use sinks::{Collecting, Dropping};
+pub use start::Start;
 pub use traces::Traces;

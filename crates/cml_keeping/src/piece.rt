@@ -10,8 +10,9 @@ use cml_threads::Switchboard;
 use std::sync::Wait;
 use std::sync::ledger::Ledger;
 
-/// The entries that one cut took from a journal. It can't be dropped: only `hand_over_to` takes it. So the compiler refuses a cut
-/// whose entries reach no keeper.
+/// The entries that one cut took from a journal. It can't be dropped: only `hand_over_to` takes it. So the compiler refuses code that
+/// makes a `Piece` and hands it to no keeper. It doesn't refuse a `cut` that drops the entries and makes a `Piece` of none, since no
+/// clause of `take_journal_open` names them.
 pub struct Piece<M> {
     entries: Vec<Entry<M>>,
 }

@@ -10,11 +10,12 @@ pub record LaneShown (M : Type 0) : Type 0 where
   pub capacity : ℕ
   pub accepted : List M
 
--- a feed: its ring, its number on the floor, its port, and all that was taken from it, in order
+-- a feed: its ring, its number on the floor, its port, how many messages the ring has room for, and all that was taken from it, in order
 pub record FeedShown (M : Type 0) : Type 0 where
   pub ring : Ring
   pub number : ℕ
   pub port : Name
+  pub capacity : ℕ
   pub taken : List M
 
 -- a lane or a feed that has finished: its ring, its number, and all that was put into the ring, in order

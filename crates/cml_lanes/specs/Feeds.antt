@@ -24,7 +24,7 @@ module _ {M : Type 0} where
   -- Nothing was pumped into it, and both its ends are on one ring
   pub record OpensFeed (old new : FloorShown M) (channel : Name) (capacity : ℕ) (feed : FeedShown M) (number : ℕ) : Type 0 where
     pub next : number ≡ length old.feeds
-    pub end : feed ≡ record { ring = feed.ring; number = number; port = feed.port; taken = [] }
+    pub end : feed ≡ record { ring = feed.ring; number = number; port = feed.port; capacity = capacity; taken = [] }
     pub port : MakesPort number old.board new.board channel feed.port
     pub feeds : new.feeds ≡ old.feeds
         ++ Some (record { ring = feed.ring; port = feed.port; capacity = capacity; pushed = []; free = capacity }) ∷ []

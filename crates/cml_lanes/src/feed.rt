@@ -1,5 +1,5 @@
 ghost use Rattle.std.specs.Prelude.{◌≡◌, [], ◌∷◌, ◌++◌, length, IfNone, IfSome, MatchOption};
-ghost use Rattle.rtrb.specs.Ring.{received, all_sent};
+ghost use Rattle.rtrb.specs.Ring.{received, consumer_capacity, all_sent};
 ghost use Rattle.cml_lanes.specs.{ring_of};
 
 use cml_board::Name;
@@ -19,16 +19,28 @@ impl<M> Model for Feed<M> {
 
     ghost Value = { FeedShown M };
 
-    ghost use Rattle.rtrb.specs.Ring.{received};
+    ghost use Rattle.rtrb.specs.Ring.{received, consumer_capacity};
     ghost use Rattle.cml_lanes.specs.Ring.{ring_of};
 
-    ghost view = { λ f. record { ring = ring_of f.consumer.end; number = f.number; port = f.port; taken = received f.consumer } };
+    ghost view = { λ f. record {
+      ring = ring_of f.consumer.end;
+      number = f.number;
+      port = f.port;
+      capacity = consumer_capacity f.consumer;
+      taken = received f.consumer;
+    } };
 }
 
 impl<M> Feed<M> {
     pub(crate) fn new(consumer: Consumer<M>, number: u64, port: Name) -> Feed<M>
         requires { received consumer ≡ [] }
-        ensures { result ≡ record { ring = ring_of consumer.end; number = number; port = port; taken = [] } }
+        ensures { result ≡ record {
+          ring = ring_of consumer.end;
+          number = number;
+          port = port;
+          capacity = consumer_capacity consumer;
+          taken = [];
+        } }
     {
         Feed {
             consumer,

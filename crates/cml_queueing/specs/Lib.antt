@@ -5,4 +5,4 @@ pub mod Demands
 -- the names that others import from here
 pub use Station.{IsAnsweredBy, IsServer, IsStation, Place, Receives, ServesInOrder, numbers}
 pub use Stations.{KeepsDemand, ServesAll}
-pub use Demands.{IsAsked}
+pub use Demands.{IsAsked, ServesAsked}

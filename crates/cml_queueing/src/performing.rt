@@ -1,6 +1,6 @@
 //! What the program's words ask for is done.
-ghost use Rattle.std.specs.Prelude.{◌≢◌, OnOk};
-ghost use Rattle.cml_queueing.specs.{ServesAll};
+ghost use Rattle.std.specs.Prelude.{◌≢◌, IfOk, OnOk};
+ghost use Rattle.cml_queueing.specs.{ServesAll, ServesAsked};
 
 use crate::asked::{Asked, Form};
 use crate::demand::Demand;
@@ -13,22 +13,18 @@ use cml_grammar::write_whole;
 use std::alloc::Global;
 use std::io::Write;
 
-/// Simulates, and writes what is asked for.
-pub(crate) fn perform<W: Write>(alloc: Global, asked: &Asked<'_>, writer: &mut W) -> Ending {
-    match simulate_asked(alloc, asked, writer) {
-        Ok(()) => Ending::Done,
-        Err(ending) => ending,
-    }
-}
-
-fn simulate_asked<W: Write>(
+/// Simulates, and writes what is asked for. Returns the simulation as it is then.
+pub(crate) fn perform<W: Write>(
     alloc: Global,
     asked: &Asked<'_>,
     writer: &mut W,
-) -> Result<(), Ending> {
+) -> Result<Simulation, Ending>
+    ensures { asked.now.form ≢ Form.Report → IfOk result (ServesAsked asked.now) }
+{
     let demand = Demand::of(asked)?;
     let mut simulation = Simulation::new(alloc, demand)?;
-    write_asked(alloc, asked.form, &mut simulation, writer)
+    write_asked(alloc, asked.form, &mut simulation, writer)?;
+    Ok(simulation)
 }
 
 fn write_asked<W: Write>(

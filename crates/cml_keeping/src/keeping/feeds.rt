@@ -7,13 +7,13 @@ ghost use Rattle.cml_keeping.specs.{MayFail};
 use super::Keeping;
 use crate::failure::Failure;
 use crate::sink::Sink;
+use crate::start::Start;
 use cml_board::{Message, Name, Refusal};
 use cml_lanes::{Feed, FeedEnd, MAX_CAPACITY};
 use cml_log::MessageLog;
 use std::sync::Wait;
-use std::sync::ledger::Ledger;
 
-impl<M: Message, L: MessageLog<M>, Led: Ledger, S: Sink<M>> Keeping<M, L, Led, S> {
+impl<M: Message, L: MessageLog<M>, Led: Start<M>, S: Sink<M>> Keeping<M, L, Led, S> {
     /// Opens a feed, as `Switchboard::open_feed` does.
     pub fn open_feed<R: Wait>(
         &self,
@@ -23,7 +23,7 @@ impl<M: Message, L: MessageLog<M>, Led: Ledger, S: Sink<M>> Keeping<M, L, Led, S
     ) -> Result<(Feed<M>, u64), Failure<S::Error>>
         requires least { 1 ≤ capacity }
         requires most { capacity ≤ MAX_CAPACITY }
-        ensures feed { IfOk result (λ feed. feed.0 ≡ record { ring = feed.0.ring; number = feed.1; port = feed.0.port; taken = [] }) }
+        ensures feed { IfOk result (λ feed. feed.0 ≡ record { ring = feed.0.ring; number = feed.1; port = feed.0.port; capacity = capacity; taken = [] }) }
         ensures refused { IfErr result (MayFail MayRefuseFeed) }
     {
         for _ in rt.forever() {

@@ -7,13 +7,13 @@ ghost use Rattle.cml_keeping.specs.{MayFail};
 use super::Keeping;
 use crate::failure::Failure;
 use crate::sink::Sink;
+use crate::start::Start;
 use cml_board::{Message, Name, Refusal};
 use cml_lanes::{Lane, LaneEnd, MAX_CAPACITY};
 use cml_log::MessageLog;
 use std::sync::Wait;
-use std::sync::ledger::Ledger;
 
-impl<M: Message, L: MessageLog<M>, Led: Ledger, S: Sink<M>> Keeping<M, L, Led, S> {
+impl<M: Message, L: MessageLog<M>, Led: Start<M>, S: Sink<M>> Keeping<M, L, Led, S> {
     /// Opens a lane, as `Switchboard::open_lane` does. That adds no entry.
     pub fn open_lane<R: Wait>(
         &self,
