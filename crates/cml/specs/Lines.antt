@@ -1,10 +1,10 @@
 -- What is written of an ending.
-use Rattle.std.specs.Prelude.{ℕ, zero, suc, ◌==◌, if◌then◌else◌, List, [], ◌∷◌, ◌++◌, codes, string_bytes, unwrap_or, Option, Some, None, ⊤}
+use Rattle.std.specs.Prelude.{ℕ, zero, suc, ◌==◌, if◌then◌else◌, List, [], ◌∷◌, ◌++◌, length, codes, string_bytes, unwrap_or, Option, Some, None, ⊤}
 use Rattle.std.specs.Fmt.{decimal}
 use Rattle.std.specs.Io.KnownBytes.{Appends}
 use Rattle.cml_calls.specs.{Kind}
 use Rattle.cml_calls.specs.declared.kind.Kind.TheVariants as kind
-use Rattle.cml_board.specs.{Entry, Expected, sent_count, got_count, owed_count, start_of, first_of, kept_count, held_by, entries_in}
+use Rattle.cml_board.specs.{Entry, Expected, sent_count, got_count, owed_count, start_of, first_of, kept_count, held_by, made}
 use Rattle.cml_board.specs.{kind_of}
 use Rattle.cml_board.specs.declared.outcome.Refusal.TheVariants.{NoSuch}
 use Rattle.cml_board.specs.declared.expected.Expected.TheVariants as expected
@@ -85,9 +85,9 @@ module _ {M : Type 0} (text : M → List ℕ) where
   object_lines history zero = []
   object_lines history (suc number) = object_lines history number ++ object_line history number
 
-  -- the lines of all objects: each entry makes one at most
+  -- the lines of all objects, whose numbers are those below their count
   abbrev pub state_lines : List (Entry M) → List ℕ
-  state_lines history = object_lines history (entries_in history)
+  state_lines history = object_lines history (length (made history))
 
   -- the same, if they are asked for
   abbrev pub told_state : Wanted → List (Entry M) → List ℕ

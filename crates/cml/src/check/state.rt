@@ -17,7 +17,7 @@ pub(crate) fn state_lines<M: Message + Written>(
     ensures { IfOk result (λ lines. string_bytes lines ≡ state_lines M.text board.now.history) }
 {
     let mut lines = String::new(alloc);
-    for number in 0..board.entries() {
+    for number in 0..board.object_count() {
         write_object(&mut lines, board, Name(number))?;
     }
     Ok(lines)
