@@ -4,12 +4,12 @@
 # tables of calls, also with the journal cut after each line; the guide's code against the sources, each link, and the pages of
 # HTML; each request for memory refused in turn; logs and journals that are cut, which are not to grow; threads that wait for
 # each other; scripts, faults and charts; all endings of scripts; journals as text, also compacted; simulated queues; the page
-# of figures, without measuring any; and the libraries for C, which are built, installed, and used from C, Rust and Python, also
-# by programs that are killed and go on. The last line is `N passed, M failed`.
+# of figures, without measuring any; bodies that the compiler refuses; and the libraries for C, which are built, installed, and used
+# from C, Rust and Python, also by programs that are killed and go on. The last line is `N passed, M failed`.
 cd "$(dirname "$0")/.." || exit 1
 
 # The steps after `rt ci`, those that take longest first.
-steps='libraries refused explore program waiting memory compact cuts calls html guide links chart journals queueing speed'
+steps='libraries refused explore program waiting refused_bodies memory compact cuts calls html guide links chart journals queueing speed'
 
 step() {
     rows=crates/cml_rows/out/cml_rows
@@ -25,7 +25,7 @@ step() {
         calls | cuts) sh "tests/$1.sh" "$rows" ;;
         memory) sh tests/memory.sh "$bench" ;;
         waiting) sh tests/waiting.sh "$bench" "$cml" ;;
-        guide | html | links | speed) sh "tests/$1.sh" ;;
+        guide | html | links | speed | refused_bodies) sh "tests/$1.sh" ;;
         queueing) sh tests/queueing.sh crates/cml_queueing/out/cml_queueing "$cml" "$chart" ;;
     esac
 }

@@ -4,8 +4,8 @@
 #
 # It compiles the programs and the crate of tests as `rt try` does (tests/lib/tried.sh). It runs each test function, the tables of
 # calls, those with cuts too, the guide, each example with its report, its endings and its chart, each fault, the page of figures without
-# measuring any, and the library from C. As many steps run at once as there are processors. `sh tests/quick.sh NAME..` runs some
-# steps alone. The last line is `N passed, M failed`.
+# measuring any, the bodies that the compiler refuses, and the library from C. As many steps run at once as there are processors.
+# `sh tests/quick.sh NAME..` runs some steps alone. The last line is `N passed, M failed`.
 top=$(cd "$(dirname "$0")/.." && pwd) || exit 1
 cd "$top" || exit 1
 kit=$(dirname "$(rt doc)")
@@ -18,6 +18,7 @@ steps() {
     echo cml_rows
     echo cml_c
     echo cml_tests
+    echo refused_bodies
     echo cml_chart
     echo cml_script_c
     echo cml_guide
@@ -47,7 +48,7 @@ step() {
         cml_c) calls_from_c ;;
         cml_script_c) replays_from_c ;;
         cml_tests) passes "$1" ;;
-        guide | speed) sh "tests/$1.sh" ;;
+        guide | speed | refused_bodies) sh "tests/$1.sh" ;;
         *) build "$1" "crates/$1/src/main.rt" && prints "$1" ;;
     esac
 }
@@ -56,7 +57,7 @@ step() {
 prints() {
     input=/dev/null
     [ ! -f "crates/$1/stdin" ] || input=crates/$1/stdin
-    if timeout 120 "$program" < "$input" 2>&1 | cmp - "crates/$1/stdout"; then
+    if bounded "$program" < "$input" 2>&1 | cmp - "crates/$1/stdout"; then
         echo '1 passed, 0 failed'
     else
         echo "failed: what $1 prints"
@@ -110,8 +111,8 @@ does() {
 calls_from_c() {
     has_c || return
     build_with_c cml_c calls threads || return
-    does calls env TRIED=calls timeout 60 "$program"
-    does threads env TRIED=threads timeout 60 "$program"
+    does calls bounded env TRIED=calls "$program"
+    does threads bounded env TRIED=threads "$program"
 }
 
 replays_from_c() {
