@@ -2,8 +2,8 @@
 # What bindings/install.sh installs: `sh tests/install.sh ROOMS [REPLAY]`, with the archives of cml_c and cml_script_c. It installs
 # them into a new folder. There programs of bindings/c are built by pkg-config, with the shared library and with the static
 # one. The crate in Rust finds the library, and so do the crates beside it, for serde and for tokio. The package for Python is
-# tested, and installed by pip, both with its extension in C and without. Then bindings/try.sh installs the library without a
-# proof. What isn't there is named and counts for nothing. The last line is `N passed, M failed`.
+# tested, and installed by pip, both with its extension in C and without. Then bindings/try.sh installs the library and the
+# programs without a proof. What isn't there is named and counts for nothing. The last line is `N passed, M failed`.
 . "$(dirname "$0")/lib/cases.sh"
 rooms=$(absolute "$1")
 replay=${2:+$(absolute "$2")}
@@ -69,7 +69,7 @@ compiled() {
         export PKG_CONFIG_PATH
         # shellcheck disable=SC2046
         cc "$@" program.c $(pkg-config --cflags --libs "${library:-seryugo}") -o program || exit
-        timeout 60 ./program
+        bounded ./program
     )
 }
 
@@ -164,7 +164,7 @@ from_c() {
 
 # letters VARIABLE=VALUE: the crate finds what is installed by this variable. It needs no other crate.
 letters() {
-    env "$1" CARGO_TARGET_DIR="$work/target" timeout 1200 cargo run --manifest-path "$work/rust/seryugo/Cargo.toml" --quiet --offline \
+    bounded env "$1" CARGO_TARGET_DIR="$work/target" cargo run --manifest-path "$work/rust/seryugo/Cargo.toml" --quiet --offline \
         --example letters > "$work/letters" && [ "$(cat "$work/letters")" = 'Ben received 5' ]
 }
 
@@ -187,7 +187,7 @@ cargo_does() {
     command=$1
     crate=$2
     shift 2
-    SERYUGO_PREFIX="$prefix" CARGO_TARGET_DIR="$work/target" timeout 1200 cargo "$command" --quiet --offline \
+    bounded env SERYUGO_PREFIX="$prefix" CARGO_TARGET_DIR="$work/target" cargo "$command" --quiet --offline \
         --config 'source.crates-io.replace-with="distribution"' --config "source.distribution.directory=\"$sources\"" \
         --manifest-path "$work/rust/$crate/Cargo.toml" "$@"
 }
@@ -279,7 +279,7 @@ in_folder() {
     (
         cd "$1" || exit
         shift
-        SERYUGO_PREFIX="$prefix" PYTHONDONTWRITEBYTECODE=1 PYTHONPATH=. timeout 300 "$@"
+        bounded env SERYUGO_PREFIX="$prefix" PYTHONDONTWRITEBYTECODE=1 PYTHONPATH=. "$@"
     )
 }
 
@@ -398,7 +398,15 @@ from_python() {
 
 # What bindings/try.sh installs without a proof, from an empty environment.
 tried() {
-    env -i PATH="$PATH" sh bindings/try.sh "$work/tried" && prefix=$work/tried && built calls && built messages -static
+    env -i PATH="$PATH" sh bindings/try.sh "$work/tried" && prefix=$work/tried && built calls && built messages -static &&
+        tried_programs
+}
+
+# The programs perform README's first script, and draw its picture.
+tried_programs() {
+    stalled=examples/scripts/three_philosophers
+    bounded "$prefix/bin/cml" replay < examples/scripts/hello_mailbox.cml | cmp - examples/scripts/hello_mailbox.report &&
+        bounded "$prefix/bin/cml" replay < $stalled.cml | bounded "$prefix/bin/cml_chart" --script $stalled.cml | cmp - $stalled.svg
 }
 
 check 'the archive of rooms is there' [ -s "$rooms" ]
