@@ -39,7 +39,7 @@ guide_refused() {
     number=1
     while [ "$number" -le 10000 ]; do
         rm -f "$work/told"
-        timeout 20 env TOLD="$work/told" REFUSE="$number" LD_PRELOAD="$work/refuse.so" "$guide" > "$work/printed" 2> "$work/errors"
+        bounded env TOLD="$work/told" REFUSE="$number" LD_PRELOAD="$work/refuse.so" "$guide" > "$work/printed" 2> "$work/errors"
         status=$?
         [ -e "$work/told" ] || break
         other=$(other_than "$expected" "$work/printed")
@@ -119,6 +119,32 @@ all_refused() {
     add_counts "$work/sums"
 }
 
+# requests TABLE: how many requests the program makes to perform the table.
+requests() {
+    number=0
+    rm -f "$work/told"
+    until [ "$number" -gt 0 ] && [ ! -e "$work/told" ]; do
+        rm -f "$work/told"
+        number=$((number + 1))
+        bounded env TOLD="$work/told" REFUSE="$number" LD_PRELOAD="$work/refuse.so" "$rows" < "$1" > "$work/printed" 2>&1
+    done
+    echo "$number"
+}
+
+# alike NUMBER OTHER CALLS: whether these calls make as many requests if a message is the one number in place of the other.
+alike() {
+    for number in "$1" "$2"; do
+        script "== a swap / board: limit 100 / $3" | sed "s/MESSAGE/$number/" > "$work/swap.$number"
+    done
+    [ "$(requests "$work/swap.$1")" -eq "$(requests "$work/swap.$2")" ]
+}
+
+# To copy a message takes a request, but no request for 13, whose copy always fails.
+waits_alike() { alike 12 13 'mvar: made 0 / swap 0 MESSAGE: waits'; }
+swaps_otherwise() { ! alike 12 13 'mvar 5: made 0 / swap 0 MESSAGE: 5'; }
+
 guide_refused
 all_refused
+check 'a swap that waits copies no message' waits_alike
+check 'a swap that is answered copies one' swaps_otherwise
 count
