@@ -17,7 +17,7 @@ compile() {
 
 # What the program in C does with a script is what cml does with it.
 replays() {
-    timeout 60 "$work/replay" < "$1" > "$work/report" 2> "$work/errors"
+    bounded "$work/replay" < "$1" > "$work/report" 2> "$work/errors"
     status=$?
     if [ -s "$work/errors" ]; then
         [ $status -eq 2 ] && [ ! -s "$work/report" ]
@@ -27,7 +27,7 @@ replays() {
 }
 
 # Without a fault of memory. Threads go on by turns: one that looks again and again would keep the others from going on.
-is_clean() { timeout 1200 valgrind -q --fair-sched=try --error-exitcode=99 --leak-check=full --errors-for-leak-kinds=definite "$@"; }
+is_clean() { bounded valgrind -q --fair-sched=try --error-exitcode=99 --leak-check=full --errors-for-leak-kinds=definite "$@"; }
 
 replay_from_c() {
     check 'a program in C that replays is built' compile replay "$replay"
@@ -43,7 +43,7 @@ replay_from_c() {
 # refused PROGRAM N: with its N-th request for memory refused, a program that makes each call ends with status 5: the call that
 # asked fails, and all that was opened before is closed.
 refused() {
-    timeout 60 env REFUSE="$2" TOLD="$work/met" LD_PRELOAD="$work/refuse.so" "$work/$1"
+    bounded env REFUSE="$2" TOLD="$work/met" LD_PRELOAD="$work/refuse.so" "$work/$1"
     [ $? -eq 5 ]
 }
 
@@ -69,7 +69,7 @@ refuse_each() {
 refuse_each_again() {
     request=1
     while rm -f "$work/met"; do
-        REFUSE=$request TOLD="$work/met" LD_PRELOAD="$work/refuse.so" timeout 60 "$work/requests" 2 || return
+        bounded env REFUSE=$request TOLD="$work/met" LD_PRELOAD="$work/refuse.so" "$work/requests" 2 || return
         [ -e "$work/met" ] || break
         request=$((request + 1))
     done
@@ -84,7 +84,7 @@ sanitized() {
     shift 2
     cc -g -O1 "-fsanitize=$kind" -fno-sanitize-recover=undefined -Wall -Wextra -pthread -I include \
         -o "$work/sanitized" "bindings/c/$program.c" "$rooms" "$kit/liblibc_c.a" || return
-    ASAN_OPTIONS=use_sigaltstack=0 timeout 120 "$work/sanitized" "$@"
+    bounded env ASAN_OPTIONS=use_sigaltstack=0 "$work/sanitized" "$@"
 }
 
 # has_sanitizer KIND: programs can be built with it, and run.
@@ -124,10 +124,10 @@ refusals_from_c() {
 rooms_from_c() {
     for program in calls messages keep sealed compact full threads requests switchboard; do
         check "a program in C of rooms is built: $program" compile $program "$rooms"
-        [ -x "$work/$program" ] && check "rooms from C: $program" timeout 60 "$work/$program"
+        [ -x "$work/$program" ] && check "rooms from C: $program" bounded "$work/$program"
     done
     check 'a program in C that times messages is built' compile speed "$rooms"
-    [ -x "$work/speed" ] && check 'messages are timed in C' timeout 60 "$work/speed" 2000 1
+    [ -x "$work/speed" ] && check 'messages are timed in C' bounded "$work/speed" 2000 1
     refusals_from_c
     if has valgrind 'rooms from C without a fault of memory'; then
         for program in calls messages keep sealed compact full; do
@@ -142,8 +142,8 @@ rooms_from_c() {
 cargo_does() {
     command=$1
     shift
-    SERYUGO_ARCHIVES="$(dirname "$rooms"):$(dirname "$replay")" SERYUGO_KIT="$kit" \
-        timeout 1200 cargo "$command" --manifest-path "$work/bindings/rust/seryugo/Cargo.toml" --quiet --offline "$@"
+    bounded env SERYUGO_ARCHIVES="$(dirname "$rooms"):$(dirname "$replay")" SERYUGO_KIT="$kit" \
+        cargo "$command" --manifest-path "$work/bindings/rust/seryugo/Cargo.toml" --quiet --offline "$@"
 }
 
 # The README's ten lines do what it says.
@@ -151,10 +151,11 @@ letters_from_rust() {
     cargo_does run --example letters > "$work/letters" && [ "$(cat "$work/letters")" = 'Ben received 5' ]
 }
 
-# clean_in_rust TEST: a file of tests in Rust runs without a fault of memory.
+# clean_in_rust TEST [MODULE..]: a file of tests in Rust, or these modules of it, run without a fault of memory.
 clean_in_rust() {
     binary=$(cargo_does test --test "$1" --no-run --message-format=json | sed -n 's/.*"executable":"\([^"]*\)".*/\1/p')
-    [ -x "$binary" ] && is_clean "$binary" --test-threads=1 --skip too_long --skip forgotten
+    shift
+    [ -x "$binary" ] && is_clean "$binary" --test-threads=1 --skip too_long --skip forgotten "$@"
 }
 
 from_rust() {
@@ -163,7 +164,8 @@ from_rust() {
     ln -s "$PWD/docs" "$work/docs"
     check 'the crate in Rust' cargo_does test --all-features
     if has valgrind 'the crate in Rust without a fault of memory'; then
-        for tests in codes keeping typed odd_messages owned explore; do
+        for tests in codes keeping typed odd_messages owned waking 'explore ends rings futures'; do
+            # shellcheck disable=SC2086 # each word is one
             check "without a fault of memory in Rust: $tests" clean_in_rust $tests
         done
     fi

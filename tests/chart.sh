@@ -296,13 +296,13 @@ streams() {
     run < .
     expect "a folder for input" 4 none "cml_chart: read failed"
     if [ -w /dev/full ]; then
-        timeout 60 "$program" < examples/scripts/swap.report > /dev/full 2> "$work/err"
+        bounded "$program" < examples/scripts/swap.report > /dev/full 2> "$work/err"
         status=$?
         : > "$work/out"
         expect "no room for output" 4 none "cml_chart: write failed"
     fi
     long_report 60000 > "$work/in"
-    { timeout 60 "$program" --text --to 60000 < "$work/in" 2> "$work/err"; echo $? > "$work/status"; } | head -n 1 > "$work/out"
+    { bounded "$program" --text --to 60000 < "$work/in" 2> "$work/err"; echo $? > "$work/status"; } | head -n 1 > "$work/out"
     case $(cat "$work/status") in
         4 | 141) pass ;;
         *) fail "a pipe that is closed: status $(cat "$work/status")" ;;

@@ -86,7 +86,7 @@ followed() {
 
 # verdict FILE TO: the verdict on a journal with the lines of its objects; the position of an unlawful entry is left out.
 verdict() {
-    timeout 60 "$program" check --state < "$1" > "$2.all" 2>&1
+    bounded "$program" check --state < "$1" > "$2.all" 2>&1
     { sed -n '1s/^lawful [0-9]*$/lawful/p; s/^unlawful at [0-9]*: /unlawful: /p; /^answer/p' "$2.all"; leaves "$2.all" | grep -v '^answer'; } > "$2"
 }
 
@@ -94,8 +94,8 @@ verdict() {
 # alike by the rest, and by the rest twice.
 is_alike() {
     of_front "$1" "$2" "$work/front"
-    timeout 60 "$program" compact < "$work/front" > "$work/short" 2> "$work/err" || return
-    timeout 60 "$program" compact < "$work/short" | cmp -s - "$work/short" || return
+    bounded "$program" compact < "$work/front" > "$work/short" 2> "$work/err" || return
+    bounded "$program" compact < "$work/short" | cmp -s - "$work/short" || return
     verdict "$work/front" "$work/left"
     verdict "$work/short" "$work/left.short"
     cmp -s "$work/left" "$work/left.short" || return
@@ -158,7 +158,7 @@ endings() {
     run compact < .
     expect 'a folder for standard input' 4 none 'cml: read failed'
     script 'journal 1 / end 0' > "$work/in"
-    timeout 60 "$program" compact < "$work/in" > /dev/full 2> "$work/err"
+    bounded "$program" compact < "$work/in" > /dev/full 2> "$work/err"
     status=$?
     : > "$work/out"
     expect 'a full device' 4 none 'cml: write failed'

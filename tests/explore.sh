@@ -50,12 +50,12 @@ endings_in() {
 
 # agrees CASE SCRIPT: the endings and the number of states are those of the second program.
 agrees() {
-    timeout 60 python3 tests/models/endings.py 20000 < "$2" > "$work/wanted"
+    bounded python3 tests/models/endings.py 20000 < "$2" > "$work/wanted"
     if grep -q '^too many$' "$work/wanted"; then
         too_many=$((too_many + 1))
         return
     fi
-    timeout 60 "$program" explore < "$2" > "$work/explored" 2> "$work/err"
+    bounded "$program" explore < "$2" > "$work/explored" 2> "$work/err"
     endings_in "$2" "$work/explored" > "$work/got"
     if cmp -s "$work/wanted" "$work/got" && [ ! -s "$work/err" ]; then
         pass
@@ -146,12 +146,12 @@ is_among() {
 runs_are_among() {
     [ -n "$few" ] && most=5 || most=20
     for example in $(small_examples); do
-        timeout 60 "$program" explore < "$example" > "$work/explored" 2> /dev/null
+        bounded "$program" explore < "$example" > "$work/explored" 2> /dev/null
         "$program" replay < "$example" > "$work/report"
         if is_among "$work/report"; then pass; else fail "$example: its replay is no ending"; fi
         number=0
         while [ "$number" -lt "$most" ]; do
-            timeout 60 "$program" run < "$example" > "$work/report"
+            bounded "$program" run < "$example" > "$work/report"
             if is_among "$work/report"; then pass; else fail "$example: a run is no ending"; fi
             number=$((number + 1))
         done
@@ -219,12 +219,12 @@ faults() {
     script "$two" > "$work/in"
     for words in '' '--journal'; do
         # shellcheck disable=SC2086
-        timeout 60 "$program" explore $words < "$work/in" > /dev/full 2> "$work/err"
+        bounded "$program" explore $words < "$work/in" > /dev/full 2> "$work/err"
         status=$?
         : > "$work/out"
         expect "a full device, $words" 4 none 'cml: write failed'
     done
-    timeout 60 "$program" explore < "$work/in" 2> "$work/err" | :
+    bounded "$program" explore < "$work/in" 2> "$work/err" | :
     pass
 }
 
@@ -256,7 +256,7 @@ memory() {
     awk 'BEGIN { print "cml 1\nmailbox m\nthread A\nthread B\nthread C"
         for (i = 0; i < 32; i++) print "A poll m\nB poll m\nC poll m" }' > "$work/in"
     # shellcheck disable=SC3045
-    (ulimit -v 65536 2> /dev/null; timeout 300 "$program" explore --states 30000 < "$work/in" > "$work/out" 2> "$work/err")
+    (ulimit -v 65536 2> /dev/null; bounded "$program" explore --states 30000 < "$work/in" > "$work/out" 2> "$work/err")
     status=$?
     tail -n 1 "$work/out" > "$work/last" && mv "$work/last" "$work/out"
     expect '30,000 states in 64 MB' 8 'not all: endings 1 states 30000' 'cml: more than 30000 states'

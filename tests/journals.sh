@@ -317,12 +317,12 @@ streams() {
     run check < .
     expect 'a folder for standard input' 4 none 'cml: read failed'
     script "$letters" > "$work/in"
-    timeout 60 "$program" check < "$work/in" > /dev/full 2> "$work/err"
+    bounded "$program" check < "$work/in" > /dev/full 2> "$work/err"
     status=$?
     : > "$work/out"
     expect 'a full device' 4 none 'cml: write failed'
     (printf 'journal 1\nseat 0 mail'; sleep 0.2; printf 'box: made 0\nend 1\n') |
-        { timeout 60 "$program" check > "$work/out" 2> "$work/err"; echo $? > "$work/status"; }
+        { bounded "$program" check > "$work/out" 2> "$work/err"; echo $? > "$work/status"; }
     status=$(cat "$work/status")
     expect 'a line in two parts' 0 'lawful 1' none
 }
@@ -330,7 +330,7 @@ streams() {
 # at_terminal CASE STATUS OUT COMMAND ERR: what the program says of a journal that comes slowly. Standard error is a terminal, and
 # has a line each second before ERR.
 at_terminal() {
-    timeout 60 python3 tests/lib/terminal.py "$work/err" "$program" "$4" < "$work/in" > "$work/out"
+    bounded python3 tests/lib/terminal.py "$work/err" "$program" "$4" < "$work/in" > "$work/out"
     status=$?
     grep -v '^cml: [0-9][0-9]* MB read$' "$work/err" > "$work/others"
     grep -q '^cml: 0 MB read$' "$work/err" || fail "$1: no line says how much is read"
@@ -388,11 +388,12 @@ changed() {
 
 # What the program says of each case, as journal_judge.awk shows it. This script has a part of the cases.
 says='
+    . tests/lib/bounded.sh
     told=$(mktemp "$1.XXXXXX") || exit 1 # not named by the process: a long run sees its number again
     program=$2
     shift 2
     for file; do
-        output=$(timeout 60 "$program" check --state < "$file" 2> "$told.errors")
+        output=$(bounded "$program" check --state < "$file" 2> "$told.errors")
         status=$?
         errors=$(cat "$told.errors")
         echo "== $file"

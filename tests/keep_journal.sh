@@ -45,10 +45,10 @@ front() {
     echo "$bytes $(head -c "$bytes" "$journal" | cksum)"
 }
 
-# await COMMAND: waits until the command ends well, or the run that was started has ended; at most half a minute.
+# await COMMAND: waits until the command ends well, or the run that was started has ended.
 await() {
     polls=0
-    while ! "$1" && [ $polls -lt 3000 ] && kill -0 "$started" 2> /dev/null; do
+    while ! "$1" && [ $polls -lt $((longest * 100)) ] && kill -0 "$started" 2> /dev/null; do
         sleep 0.01
         polls=$((polls + 1))
     done
@@ -129,14 +129,14 @@ each_once() {
 
 # made_again WORD..: a command says that each entry of the other folder's journal was made again.
 made_again() {
-    timeout 60 "$@" > "$work/said" 2> "$work/errors" && grep -qx "$entries of $entries entries were made again" "$work/said"
+    bounded "$@" > "$work/said" 2> "$work/errors" && grep -qx "$entries of $entries entries were made again" "$work/said"
 }
 
 # Threads go in the order of the journal that one run wrote. With fewer messages they don't, and the program says where.
 reruns() {
     mkdir "$work/other" && : > "$work/other/kept" && "$program" "$work/other" 1000 > "$work/said" || return
     entries=$(tail -n 1 "$work/other/journal" | awk '$1 == "end" { print $2 }')
-    made_again "$program" --rerun "$work/other" 1000 && ! timeout 60 "$program" --rerun "$work/other" 999 > "$work/said" 2> "$work/errors" &&
+    made_again "$program" --rerun "$work/other" 1000 && ! bounded "$program" --rerun "$work/other" 999 > "$work/said" 2> "$work/errors" &&
         grep -q "^the run isn't the journal's at position [0-9]*: expected .seat [0-9]* send" "$work/said"
 }
 

@@ -15,7 +15,7 @@ within() {
     kilobytes=$2
     wanted=$3
     shift 3
-    told=$( (ulimit -v $kilobytes && exec timeout 100 "$program" "$@") 2>&1)
+    told=$( (ulimit -v $kilobytes && bounded "$program" "$@") 2>&1)
     status=$?
     if [ $status -eq "$wanted" ]; then pass; else fail "$name: status $status, $told"; fi
 }

@@ -94,7 +94,7 @@ memory() {
 journal_of() {
     file=$1
     shift
-    timeout 60 "$program" --journal "$@" > "$file" 2> "$work/err" || fail "a journal of $*: $(cat "$work/err")"
+    bounded "$program" --journal "$@" > "$file" 2> "$work/err" || fail "a journal of $*: $(cat "$work/err")"
 }
 
 journals() {
@@ -211,13 +211,13 @@ streams() {
     if [ -w /dev/full ]; then
         for form in '' --journal --report; do
             # shellcheck disable=SC2086
-            timeout 60 "$program" --load 0.5 --customers 1000 $form > /dev/full 2> "$work/err"
+            bounded "$program" --load 0.5 --customers 1000 $form > /dev/full 2> "$work/err"
             status=$?
             : > "$work/out"
             expect "no room for output${form:+ of $form}" 4 none 'cml_queueing: write failed'
         done
     fi
-    { timeout 60 "$program" --load 0.5 --customers 100000 --journal 2> "$work/err"; echo $? > "$work/status"; } | head -n 1 > "$work/out"
+    { bounded "$program" --load 0.5 --customers 100000 --journal 2> "$work/err"; echo $? > "$work/status"; } | head -n 1 > "$work/out"
     case $(cat "$work/status") in
         4 | 141) pass ;;
         *) fail "a pipe that is closed: status $(cat "$work/status")" ;;

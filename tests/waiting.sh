@@ -9,7 +9,8 @@
 bench=$(absolute "$1")
 cml=$(absolute "$2")
 
-# watch PROCESS: kills the process once it has used no processor time for a minute, and after an hour.
+# watch PROCESS: kills the process once it has used no processor time for a minute, and after an hour. The minute isn't a limit
+# for the run: one that goes on uses some, also on a busy machine.
 watch() {
     used=none
     for _ in $(seq 60); do

@@ -5,6 +5,9 @@
 #include <stdio.h>
 #include <stdlib.h>
 
+/* What takes longer hangs, also on a slow machine. */
+#define PATIENCE_IN_MILLISECONDS 1800000
+
 static inline void require(int holds, const char *what)
 {
     if (!holds) {

@@ -130,7 +130,7 @@ static void deadlines(void)
     require(seryugo_seat_recv(&ann, mailbox, &soon, &message) == SERYUGO_DONE && message == 5, "what is there comes after a deadline");
     require(seryugo_seat_recv_poll(&ann, mailbox, &message) == SERYUGO_NOTHING, "nothing is left");
     seryugo_seat_leave(&guest);
-    soon = seryugo_in_milliseconds(60000);
+    soon = seryugo_in_milliseconds(PATIENCE_IN_MILLISECONDS);
     require(seryugo_seat_recv(&ann, mailbox, &soon, &message) == SERYUGO_STALLED, "alone it stalls at once");
     require(seryugo_seat_recv(&ann, mailbox, NULL, &message) == SERYUGO_STALLED, "so it does without a deadline");
     seryugo_seat_leave(&ann);
@@ -327,7 +327,7 @@ static void leaves(void *seat)
 static void *receives_or_leaves(void *given)
 {
     struct part *part = given;
-    struct timespec deadline = seryugo_in_milliseconds(60000);
+    struct timespec deadline = seryugo_in_milliseconds(PATIENCE_IN_MILLISECONDS);
     uint64_t message = 0;
 
     pthread_cleanup_push(leaves, &part->seat);

@@ -2,9 +2,7 @@
 # reads this after its function `step`, which does the step of a name. With `--step WORK NAME` the script does one step, shows and
 # counts what it tells, and ends here; with `--alone WORK NAME` it does it alone. Otherwise `work` names a new folder for what the
 # steps tell.
-
-# The most seconds of a step. One that hangs fails by its name then, and shows how far it was.
-longest=${longest:-5400}
+. tests/lib/bounded.sh
 
 # beside SCRIPT STEP..: has SCRIPT do these steps, and sums what they count. The last line is `N passed, M failed`.
 beside() {
@@ -24,11 +22,11 @@ beside() {
 
 # counted NAME: does one step, shows what it tells with its name before each line, and keeps how many passed and failed.
 counted() {
-    sh -c 'echo $$ > "$0" && exec timeout "$@"' "$work/$1.process" --kill-after 30 $longest \
+    sh -c 'echo $$ > "$0" && exec timeout "$@"' "$work/$1.process" --kill-after 30 $longest_step \
         sh "$0" --alone "$work" "$1" > "$work/$1.told" 2>&1
     status=$?
     rm -f "$work/$1.process"
-    [ $status -ne 124 ] || echo "failed: the step did not end within $longest seconds" >> "$work/$1.told"
+    [ $status -ne 124 ] || echo "failed: the step did not end within $longest_step seconds" >> "$work/$1.told"
     grep -v '^[0-9]* passed, [0-9]* failed$' "$work/$1.told" | sed "s/^/$1: /"
     sed -n 's/^\([0-9]*\) passed, \([0-9]*\) failed$/\1 \2/p' "$work/$1.told" |
         awk -v name="$1" -v status="$status" '

@@ -16,6 +16,9 @@ import unittest
 
 TOP = pathlib.Path(__file__).resolve().parents[2]
 
+# The most seconds that a test waits for anything, as in `tests/lib/bounded.sh`: what takes longer hangs.
+LIMIT = int(os.environ.get("SERYUGO_TEST_SECONDS", 1800))
+
 
 class Counted(unittest.TestResult):
     """Counts the cases, and prints those that fail."""
@@ -54,12 +57,12 @@ def has(*programs):
     return all(shutil.which(program) for program in programs)
 
 
-def wait_until(what, condition, seconds=60):
-    """Waits until the condition holds, and fails after these seconds."""
-    end = time.monotonic() + seconds
+def wait_until(what, condition):
+    """Waits until the condition holds, and fails if it never does."""
+    end = time.monotonic() + LIMIT
     while not condition():
         if time.monotonic() > end:
-            raise AssertionError(f"{what}: not within {seconds} seconds")
+            raise AssertionError(f"{what}: not within {LIMIT} seconds")
         time.sleep(0.02)
 
 
@@ -81,10 +84,10 @@ class Program:
     def runs(self):
         return self.process.poll() is None
 
-    def ends(self, seconds=60):
-        """Returns the status; a program that does not end in time is killed."""
+    def ends(self):
+        """Returns the status; a program that hangs is killed."""
         try:
-            return self.process.wait(seconds)
+            return self.process.wait(LIMIT)
         except subprocess.TimeoutExpired:
             self.kill()
             return None
@@ -124,10 +127,10 @@ class Cases(unittest.TestCase):
         return program
 
     @classmethod
-    def run_program(cls, *words, seconds=60, **how):
+    def run_program(cls, *words, **how):
         """Runs a program to its end, and returns it with its `status`."""
         program = cls.start(*words, **how)
-        program.status = program.ends(seconds)
+        program.status = program.ends()
         return program
 
     @classmethod
@@ -142,7 +145,7 @@ class Cases(unittest.TestCase):
             "SERYUGO_ARCHIVE": str(archive),
             "SERYUGO_SCRIPT_ARCHIVE": "/nowhere",
         }
-        done = cls.run_program("sh", TOP / "bindings/install.sh", prefix, env=named, seconds=600)
+        done = cls.run_program("sh", TOP / "bindings/install.sh", prefix, env=named)
         if done.status != 0:
             raise AssertionError(done.said() + done.errors())
         return prefix

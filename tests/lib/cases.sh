@@ -1,5 +1,6 @@
 # What the tests share that try a built program or a library. It counts cases, and makes the folder `work`, which goes at the end.
 # `run` and `expect` try the program that `program` names.
+. "$(dirname "$0")/lib/bounded.sh"
 work=$(mktemp -d) || exit 1
 trap 'rm -rf "$work"' EXIT
 passed=0
@@ -60,10 +61,10 @@ check() {
 # install_rooms ARCHIVE PREFIX: installs the library of rooms, and not that of scripts.
 install_rooms() { SERYUGO_ARCHIVE=$1 SERYUGO_SCRIPT_ARCHIVE=/nowhere sh bindings/install.sh "$2"; }
 
-# Runs the program on standard input, and keeps its output, its errors, and its status. A program that does not end is
-# stopped after a minute, with status 124.
+# Runs the program on standard input, and keeps its output, its errors, and its status. A program that hangs is
+# stopped in the end, with status 124.
 run() {
-    timeout 60 "$program" "$@" > "$work/out" 2> "$work/err"
+    bounded "$program" "$@" > "$work/out" 2> "$work/err"
     status=$?
 }
 
@@ -77,7 +78,7 @@ make_streams() {
 run_so() {
     command=$1
     shift
-    timeout 60 env LD_PRELOAD="$work/streams.so" "$@" "$program" "$command" < "$work/in" > "$work/out" 2> "$work/err"
+    bounded env LD_PRELOAD="$work/streams.so" "$@" "$program" "$command" < "$work/in" > "$work/out" 2> "$work/err"
     status=$?
 }
 

@@ -17,6 +17,7 @@
 #   compact  a journal by `cml compact`: its short journal, or the same
 #
 # The last line is `KIND HOW INPUT: N passed, M failed, K met`: so often a call, or the whole program, told of a refusal.
+. tests/lib/bounded.sh
 work=$1
 kind=$2
 how=$3
@@ -34,7 +35,7 @@ case $how in rest) rest=REFUSE_REST=1 ;; *) rest=REFUSED=once ;; esac
 refuse() {
     number=$1
     shift
-    timeout 20 env "$variable=$number" "$rest" TOLD="$room/told" LD_PRELOAD="$work/refuse.so" "$@" \
+    bounded env "$variable=$number" "$rest" TOLD="$room/told" LD_PRELOAD="$work/refuse.so" "$@" \
         < "$input" > "$room/out.$number" 2> "$room/err.$number"
     echo "$number $?" >> "$room/statuses"
     [ -e "$room/told" ] && rm "$room/told"

@@ -7,8 +7,7 @@ from unittest import mock
 
 from seryugo import Closed, Gone, Stalled, Switchboard, check
 
-# No test takes so long. A call that isn't woken fails then.
-LIMIT = 30
+from . import LIMIT
 
 
 def run(coroutine):

@@ -15,7 +15,8 @@ import unittest
 import seryugo
 from seryugo import HAS_EXTENSION, Seat, Switchboard
 
-from .test_threads import LIMIT, Waiting, Worker
+from . import LIMIT
+from .test_threads import Waiting, Worker
 
 CALLS = (
     "send",
@@ -421,7 +422,7 @@ class Many(Waiting):
 
         workers = [Worker(seat, pass_on(place)) for place, seat in enumerate(seats)]
         for worker in workers:
-            worker.join(10 * LIMIT)
+            worker.join(LIMIT)
             self.assertEqual(self.value_of(worker), list(range(each)))
         board.keep()
         self.assertEqual(sum(entries), count + 2 * count * each)

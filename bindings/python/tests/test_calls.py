@@ -10,6 +10,8 @@ from unittest import mock
 import seryugo
 from seryugo import Channel, IVar, Mailbox, MVar, Port, Switchboard, errors
 
+from . import LIMIT
+
 
 class Calls(unittest.TestCase):
     def setUp(self):
@@ -189,7 +191,7 @@ class Calls(unittest.TestCase):
         with warnings.catch_warnings():
             warnings.simplefilter("ignore")
             self.board.compact_with(lambda journal: held.clear())
-        thread.join(30)
+        thread.join(LIMIT)
         self.assertEqual(ended, [True])
 
     def test_dropped_while_the_lock_is_held(self):

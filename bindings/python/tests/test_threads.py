@@ -12,8 +12,7 @@ import unittest
 import seryugo
 from seryugo import Switchboard, _calls, check
 
-# No test takes so long. A call that isn't woken fails then.
-LIMIT = 30
+from . import LIMIT
 
 
 class Worker(threading.Thread):

@@ -57,9 +57,8 @@ class BuildSystem(Cases):
             "CARGO_TARGET_DIR": str(cls.work / "target"),
         }
         words = ["cargo", word, "--release", "--quiet", "--offline"]
-        ran = cls.run_program(
-            *words, cwd=cls.work / "copy/examples/programs/build_system", env=named, seconds=900
-        )
+        folder = cls.work / "copy/examples/programs/build_system"
+        ran = cls.run_program(*words, cwd=folder, env=named)
         if ran.status != 0:
             raise AssertionError(f"cargo {word}: {ran.said()}{ran.errors()}")
 
@@ -84,12 +83,10 @@ class BuildSystem(Cases):
     def file(self, name, text):
         (self.folder / name).write_bytes(text.encode("latin-1"))
 
-    def run_in(self, *words, seconds=60, env=None, **how):
+    def run_in(self, *words, env=None, **how):
         """Runs the program in that folder, with these variables too."""
         named = {**os.environ, **(env or {})}
-        return self.run_program(
-            self.program, *words, cwd=self.folder, seconds=seconds, env=named, **how
-        )
+        return self.run_program(self.program, *words, cwd=self.folder, env=named, **how)
 
     def old(self, day, *names):
         """Gives files a time long ago."""

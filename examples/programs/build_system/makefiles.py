@@ -5,7 +5,7 @@ import re
 import subprocess
 
 from building import BuildSystem, write_graph  # noqa: I001
-from cases import TOP, has
+from cases import LIMIT, TOP, has
 
 
 def lines(*texts):
@@ -205,7 +205,7 @@ class Makefiles(BuildSystem):
                 cwd=self.folder,
                 stdout=out,
                 stderr=out,
-                timeout=60,
+                timeout=LIMIT,
                 check=False,
             )
         same = re.sub("[ab]", "x", both.read_text()).splitlines()
@@ -218,7 +218,7 @@ class Makefiles(BuildSystem):
                 stdout=full,
                 stderr=subprocess.PIPE,
                 text=True,
-                timeout=60,
+                timeout=LIMIT,
                 check=False,
             )
         self.holds("a full disk", ended.returncode != 0)
@@ -268,8 +268,8 @@ class Makefiles(BuildSystem):
         self.expect("a command that is killed", self.run_in("-j4"), 2, "", killed)
         is_left = not (self.folder / "a").exists() and (self.folder / "b").read_text() == "whole\n"
         self.holds("what a killed command leaves", is_left)
-        self.makefile("a:\n\t@sleep 30 & echo $$! > pid\n")
-        ran = self.run_in("-j2", seconds=20)
+        self.makefile(f"a:\n\t@sleep {2 * LIMIT} & echo $$! > pid\n")
+        ran = self.run_in("-j2")
         process = (self.folder / "pid").read_text().strip()
         self.holds(
             "a process that a command leaves behind", ran.status == 0 and process, ran.status

@@ -52,7 +52,7 @@ class Graphs(BuildSystem):
         """Makes the goals in this folder: the status, what was made, and what was printed."""
         folder = self.folder / part
         (folder / "log").unlink(missing_ok=True)
-        ran = self.run_program(*command, cwd=folder, seconds=120)
+        ran = self.run_program(*command, cwd=folder)
         (folder / "log").touch()
         self.assertTrue(is_in_order(folder), f"out of order by {command[0]}")
         printed = [
@@ -131,7 +131,7 @@ class CPrograms(BuildSystem):
     def c_part(self, out, *command):
         """Makes the programs of bindings/c by this command."""
         words = ["-f", C_PROGRAMS, f"PREFIX={self.prefix}", f"OUT={self.work / out}"]
-        return self.run_program(*command, *words, cwd=TOP, seconds=300)
+        return self.run_program(*command, *words, cwd=TOP)
 
     def test_c_programs(self):
         if not self.prefix:

@@ -114,7 +114,7 @@ class ServerCases(Cases):
         }
         manifest = cls.work / "examples/programs/chat_server/Cargo.toml"
         words = ["cargo", word, "--release", "--quiet", "--offline", "--manifest-path", manifest]
-        return cls.run_program(*words, seconds=900, env={**os.environ, **named})
+        return cls.run_program(*words, env={**os.environ, **named})
 
     @classmethod
     def build(cls):
@@ -141,7 +141,7 @@ class ServerCases(Cases):
         words = [*wrapper, self.program, "--listen", listen, "--journal", self.journal, *options]
         self.server = self.start(*words, stdin=stdin)
         wait_until(
-            "the server listens or ends", lambda: self.server.said() or not self.server.runs(), 30
+            "the server listens or ends", lambda: self.server.said() or not self.server.runs()
         )
         listening = re.match(r"listening on ([0-9.:]*) ", self.server.said())
         if listening:
@@ -171,7 +171,7 @@ class ServerCases(Cases):
 
     def loads(self, word):
         """Runs clients, each of whose lines `passed` and `failed` is a case."""
-        ran = self.run_program(self.load, word, self.address, seconds=300)
+        ran = self.run_program(self.load, word, self.address)
         lines = ran.said().splitlines() + ran.errors().splitlines()
         for line in lines:
             if line.startswith(("passed", "failed")):
@@ -188,7 +188,7 @@ class ServerCases(Cases):
 
     def all_end_well(self, name, clients):
         """A case: clients that were started end well."""
-        status = clients.ends(300)
+        status = clients.ends()
         print(f"{name}: {clients.said().strip()}")
         with self.case(name):
             self.assertEqual(status, 0, clients.errors())

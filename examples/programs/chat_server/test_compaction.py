@@ -9,7 +9,7 @@ import time
 
 from server_cases import Client, ServerCases
 
-from cases import has, wait_until  # isort: skip
+from cases import LIMIT, has, wait_until  # isort: skip
 
 # How often the server is killed near the moment in which a file takes another one's place.
 KILLS = 5
@@ -130,7 +130,7 @@ class Compaction(ServerCases):
     def await_compaction(self, clients):
         """Waits until a short file is begun or there. Returns whether one is."""
         before = self.journal.stat().st_ino
-        end = time.monotonic() + 10
+        end = time.monotonic() + LIMIT
         while clients.runs() and time.monotonic() < end:
             if self.beside.exists() or self.journal.stat().st_ino != before:
                 return True
@@ -214,7 +214,7 @@ class Compaction(ServerCases):
         filler.write_bytes(bytes(4096 * (DISK // 4 - used - 8)))
         while not self.server.errors() and (seen / "journal").stat().st_size < 320000:
             ann.ask(text)
-        wait_until("the server goes on", lambda: self.server.errors(), 10)
+        wait_until("the server goes on", lambda: self.server.errors())
         self.said_goes_on("No space left on device")
         filler.unlink()
         self.journal = seen / "journal"

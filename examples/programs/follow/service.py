@@ -103,9 +103,8 @@ class Service(Cases):
     @classmethod
     def make(cls, out, *words):
         """Builds the program, with these words for the compiler too."""
-        return cls.run_program(
-            "make", "-C", FOLDER, f"OUT={cls.work / out}", f"CHECKED={' '.join(words)}", seconds=300
-        )
+        named = f"OUT={cls.work / out}", f"CHECKED={' '.join(words)}"
+        return cls.run_program("make", "-C", FOLDER, *named)
 
     def holds(self, name, condition, *shown):
         with self.case(name):
@@ -113,7 +112,7 @@ class Service(Cases):
         return condition
 
     def wait_for(self, name, condition):
-        """A case: the condition holds within a minute."""
+        """A case: the condition holds in the end."""
         with self.case(name):
             wait_until(name, condition)
             return True
@@ -252,7 +251,7 @@ class Service(Cases):
 
     def refuses(self, name, status, error, *words):
         """A case: the program ends so by these words, with this in an error."""
-        ended = self.run_program(self.program, *words, seconds=20)
+        ended = self.run_program(self.program, *words)
         self.holds(
             name,
             ended.status == status and re.search(error, ended.errors(), re.M),

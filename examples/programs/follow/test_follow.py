@@ -21,7 +21,7 @@ import time
 from service import FOLDER, PLACES, Client, Service  # noqa: I001
 from service import clients_requests, free_port, sealed
 from test_short import Short
-from cases import TOP, has, left_out, main, wait_until
+from cases import LIMIT, TOP, has, left_out, main, wait_until
 
 QUEUES = (1, 2, 3)
 # How many leaders may be replaced unasked, on a machine that is too busy.
@@ -386,7 +386,7 @@ class Follow(Service):
         requests = "put q a\nget q\n" * 10 + "count q\nget q\n"
         words = [self.program, "client", "1", str(self.port + 4)]
         told = subprocess.run(
-            words, input=requests, capture_output=True, text=True, timeout=60, check=False
+            words, input=requests, capture_output=True, text=True, timeout=LIMIT, check=False
         ).stdout
         wanted = "done\nmessage a\n" * 10 + "count 0\nnothing\n"
         first = self.ask_redis("XRANGE", name, "-", "+", "COUNT", 1)

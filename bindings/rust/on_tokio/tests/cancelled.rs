@@ -2,7 +2,7 @@
 
 mod common;
 
-use common::{board, board_of_numbers, ms, on_each_runtime};
+use common::{board, board_of_numbers, ms, on_each_runtime, PATIENCE};
 use seryugo::{Error, Request};
 use tokio::select;
 use tokio::task::{yield_now, JoinSet};
@@ -51,10 +51,10 @@ fn a_timeout_of_each_call() {
         assert_eq!(board.entries(), entries);
         free.multicast(channel, 1).unwrap();
         assert!(free.put(once, 2).unwrap() && free.put(often, 3).unwrap());
-        assert_eq!(timeout(ms(60_000), seat.recv_async(port)).await, Ok(Ok(Some(1))));
-        assert_eq!(timeout(ms(60_000), seat.get_async(once)).await, Ok(Ok(2)));
+        assert_eq!(timeout(PATIENCE, seat.recv_async(port)).await, Ok(Ok(Some(1))));
+        assert_eq!(timeout(PATIENCE, seat.get_async(once)).await, Ok(Ok(2)));
         assert_eq!(seat.swap_async(often, 4).await.unwrap(), 3);
-        assert_eq!(timeout(ms(60_000), seat.take_async(often)).await, Ok(Ok(4)));
+        assert_eq!(timeout(PATIENCE, seat.take_async(often)).await, Ok(Ok(4)));
     });
 }
 

@@ -2,7 +2,7 @@
 
 mod common;
 
-use common::{let_them_wait, within_a_minute, Board, Channel, MVar, Mailbox, Port};
+use common::{let_them_wait, without_a_hang, Board, Channel, MVar, Mailbox, Port};
 use seryugo::{Checker, Error, Journal, Numbers, Object, Room, Sum, Switchboard, WhenFull};
 use std::future::Future;
 use std::io::{self, ErrorKind};
@@ -242,7 +242,7 @@ fn nothing_is_cut_if_the_short_journal_is_not_kept() {
 #[test]
 fn a_sink_follows_each_short_journal_while_threads_call() {
     type Kept = (Vec<u8>, Option<Sum>);
-    within_a_minute(|| {
+    without_a_hang(|| {
         let kept = Arc::new(Mutex::new(Kept::default()));
         let by_sink = kept.clone();
         let board = Board::of_numbers(3).unwrap().when_full(WhenFull::call(move |journal| {
@@ -334,7 +334,7 @@ struct Objects {
 
 #[test]
 fn several_threads_call_while_one_compacts_in_a_loop() {
-    within_a_minute(|| {
+    without_a_hang(|| {
         let (sender, pieces) = channel();
         let sink = WhenFull::give(move |journal| sender.send(journal).map_err(|refused| refused.0));
         let board = Board::of_numbers(7).unwrap().when_full(sink);

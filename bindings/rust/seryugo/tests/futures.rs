@@ -4,7 +4,7 @@
 mod common;
 
 use common::{
-    block_on, let_them_wait, poll_once, seats, within_a_minute, Board, Mailbox, Random, Seat,
+    block_on, let_them_wait, poll_once, seats, without_a_hang, Board, Mailbox, Random, Seat,
 };
 use seryugo::{Error, Switchboard};
 use std::collections::VecDeque;
@@ -94,7 +94,7 @@ fn run_all(tasks: Vec<Task<'_>>) {
 
 #[test]
 fn each_call_is_a_future() {
-    within_a_minute(|| {
+    without_a_hang(|| {
         let board = Switchboard::of_numbers(100).unwrap();
         let (mut seat, mut other) = (board.seat().unwrap(), board.seat().unwrap());
         let mailbox = seat.mailbox().unwrap();
@@ -137,7 +137,7 @@ fn a_future_may_go_to_another_thread() {
         value
     }
 
-    within_a_minute(|| {
+    without_a_hang(|| {
         let board = Switchboard::of_numbers(100).unwrap();
         let (mut seat, mut other) = (board.seat().unwrap(), board.seat().unwrap());
         let mailbox = seat.mailbox().unwrap();
@@ -222,7 +222,7 @@ fn each_task_that_is_due_is_woken() {
 /// aren't polled.
 #[test]
 fn tasks_that_sleep_on_hold_up_no_thread() {
-    within_a_minute(|| {
+    without_a_hang(|| {
         let board = Switchboard::of_numbers(100).unwrap();
         let mut first = board.seat().unwrap();
         let variable = first.ivar().unwrap();
@@ -272,7 +272,7 @@ fn a_dropped_future_does_nothing() {
 /// and to another future.
 #[test]
 fn a_dropped_future_hands_its_turn_on() {
-    within_a_minute(|| {
+    without_a_hang(|| {
         for _ in 0..200 {
             let board = Switchboard::of_numbers(100).unwrap();
             let mut first = board.seat().unwrap();
@@ -308,7 +308,7 @@ fn a_dropped_future_hands_its_turn_on() {
 /// leaves.
 #[test]
 fn a_future_may_be_forgotten() {
-    within_a_minute(|| {
+    without_a_hang(|| {
         let board = Switchboard::of_numbers(100).unwrap();
         let (mut seat, mut other) = (board.seat().unwrap(), board.seat().unwrap());
         let mailbox = seat.mailbox().unwrap();
@@ -347,7 +347,7 @@ impl Wake for Calls<'static> {
 
 #[test]
 fn a_waker_may_make_calls() {
-    within_a_minute(|| {
+    without_a_hang(|| {
         let board: &'static Board = Box::leak(Box::new(Switchboard::of_numbers(100).unwrap()));
         let mut seats = seats(board, 3);
         let mailbox = seats[0].mailbox().unwrap();
@@ -367,7 +367,7 @@ fn a_token_goes_round_tasks_and_threads() {
     const SEATS: usize = 24;
     const ROUNDS: u64 = 200;
 
-    within_a_minute(|| {
+    without_a_hang(|| {
         let board = Switchboard::of_numbers(1 << 32).unwrap();
         let mut first = board.seat().unwrap();
         let mailboxes: Vec<Mailbox> = (0..SEATS).map(|_| first.mailbox().unwrap()).collect();
@@ -442,7 +442,7 @@ fn futures_are_dropped_while_messages_are_sent() {
     const EACH: u64 = 4_000;
     const BLOCKS: u64 = 1_000;
 
-    within_a_minute(|| {
+    without_a_hang(|| {
         let board = &Switchboard::of_numbers(1 << 32).unwrap();
         let mut first = board.seat().unwrap();
         let mailbox = first.mailbox().unwrap();

@@ -3,7 +3,7 @@
 
 mod common;
 
-use common::{let_them_wait, within_a_minute, Board};
+use common::{let_them_wait, without_a_hang, Board, PATIENCE};
 use seryugo::{Error, Mailbox, Numbers, OwnedGuest, OwnedSeat, Switchboard, Who};
 use std::future::Future;
 use std::pin::pin;
@@ -31,7 +31,7 @@ fn seated() -> (Arc<Board>, OwnedSeat<Numbers>, Mailbox<u64>) {
 fn a_seat_that_waits_alone_is_stalled() {
     let (_board, mut seat, mailbox) = seated();
     assert_eq!(seat.recv(mailbox), Err(Error::Stalled));
-    assert_eq!(seat.recv_timeout(mailbox, Duration::from_secs(60)), Err(Error::Stalled));
+    assert_eq!(seat.recv_timeout(mailbox, PATIENCE), Err(Error::Stalled));
     let mut context = Context::from_waker(Waker::noop());
     let stalled = Poll::Ready(Err(Error::Stalled));
     assert_eq!(pin!(seat.recv_async(mailbox)).poll(&mut context), stalled);
@@ -60,7 +60,7 @@ type Wait = Box<dyn FnOnce(OwnedSeat<Numbers>) -> Result<u64, Error> + Send>;
 
 #[test]
 fn once_the_last_guest_goes_all_that_wait_are_stalled() {
-    within_a_minute(|| {
+    without_a_hang(|| {
         let (board, mut seat, mailbox) = seated();
         let (ivar, mvar) = (seat.ivar::<u64>().unwrap(), seat.mvar::<u64>().unwrap());
         let waits: [Wait; 4] = [
@@ -158,7 +158,7 @@ fn lanes_and_feeds_use_up_no_expected_seat() {
 
 #[test]
 fn another_number_of_expected_seats_takes_the_place_of_the_one_before() {
-    within_a_minute(|| {
+    without_a_hang(|| {
         let (board, mut seat, mailbox) = seated();
         board.expect(5).unwrap();
         board.expect(1).unwrap();
@@ -258,7 +258,7 @@ fn who_is_expected_sends_all_before_a_receiver_is_stalled() {
     const ROUNDS: u64 = 1_000;
     const SENDERS: u64 = 3;
     const COUNT: u64 = 5;
-    within_a_minute(|| {
+    without_a_hang(|| {
         for round in 0..ROUNDS {
             let (board, mut seat, mailbox) = seated();
             if round % 2 == 0 {
@@ -285,7 +285,7 @@ fn who_is_expected_sends_all_before_a_receiver_is_stalled() {
 #[test]
 fn a_guest_holds_until_its_thread_has_a_seat() {
     const ROUNDS: u64 = 1_000;
-    within_a_minute(|| {
+    without_a_hang(|| {
         for round in 0..ROUNDS {
             let (board, mut seat, mailbox) = seated();
             for _ in 0..2 {

@@ -2,7 +2,7 @@
 
 mod common;
 
-use common::{block_on, within_a_minute};
+use common::{block_on, without_a_hang, PATIENCE};
 use seryugo::{Error, Kind, Message, Missing, Numbers, Receiver, Sender, Switchboard, WhenFull};
 use std::sync::Arc;
 use std::thread;
@@ -40,7 +40,7 @@ fn messages_come_in_order() {
 #[test]
 fn a_receiver_ends_once_all_senders_are_dropped() {
     const ROUNDS: u64 = 1_000;
-    within_a_minute(|| {
+    without_a_hang(|| {
         for round in 0..ROUNDS {
             let board = Arc::new(Switchboard::of_numbers(100).unwrap());
             let (sender, receiver) = board.unbounded::<u64>().unwrap();
@@ -52,7 +52,7 @@ fn a_receiver_ends_once_all_senders_are_dropped() {
             drop(sender);
             let receiving = thread::spawn(move || other.iter().sum::<u64>());
             let sum = receiver.iter().sum::<u64>();
-            assert_eq!(receiver.recv_timeout(Duration::from_secs(60)), Err(Error::Stalled));
+            assert_eq!(receiver.recv_timeout(PATIENCE), Err(Error::Stalled));
             drop(receiver);
             assert_eq!(sum + receiving.join().unwrap(), 3 * round + 3);
         }

@@ -2,7 +2,7 @@
 
 mod common;
 
-use common::{let_them_wait, seats, within_a_minute, MVar, Mailbox, Random, Seat};
+use common::{let_them_wait, seats, without_a_hang, MVar, Mailbox, Random, Seat};
 use seryugo::{Error, Switchboard};
 use std::sync::atomic::{AtomicU64, Ordering};
 use std::thread;
@@ -62,7 +62,7 @@ fn what_is_there_is_received_whatever_the_limit() {
 /// An answer, a closed port and a stall end a call before its limit, however far that is.
 #[test]
 fn a_call_with_a_limit_is_answered_and_refused_as_any_other() {
-    within_a_minute(|| {
+    without_a_hang(|| {
         for timeout in [Duration::from_secs(3_600), Duration::MAX] {
             let board = Switchboard::of_numbers(100).unwrap();
             let mut first = board.seat().unwrap();
@@ -94,7 +94,7 @@ fn a_call_with_a_limit_is_answered_and_refused_as_any_other() {
 /// gives up although it was due, the other receives the message.
 #[test]
 fn a_seat_that_gives_up_hands_its_turn_on() {
-    within_a_minute(|| {
+    without_a_hang(|| {
         let mut random = Random::new(1);
         let mut timed_out = 0;
         for _ in 0..1_000 {
@@ -157,7 +157,7 @@ fn receive_all(
 fn limits_pass_while_messages_are_sent() {
     const EACH: u64 = 5_000;
 
-    within_a_minute(|| {
+    without_a_hang(|| {
         let board = &Switchboard::of_numbers(1 << 32).unwrap();
         let mut first = board.seat().unwrap();
         let mailbox = first.mailbox().unwrap();
@@ -205,7 +205,7 @@ fn variables_are_locks_with_limits() {
     const THREADS: u64 = 8;
     const TIMES: u64 = 2_000;
 
-    within_a_minute(|| {
+    without_a_hang(|| {
         let board = Switchboard::of_numbers(1 << 32).unwrap();
         // It stays free, since those that give up are to go on.
         let mut first = board.seat().unwrap();
@@ -234,7 +234,7 @@ fn variables_are_locks_with_limits() {
 /// without a limit are answered.
 #[test]
 fn some_of_many_give_up() {
-    within_a_minute(|| {
+    without_a_hang(|| {
         let mut random = Random::new(2);
         for n in 0..300 {
             let board = Switchboard::of_numbers(100).unwrap();
@@ -268,7 +268,7 @@ fn some_of_many_give_up() {
 
 #[test]
 fn iterators_end() {
-    within_a_minute(|| {
+    without_a_hang(|| {
         let board = Switchboard::of_numbers(100).unwrap();
         let (mut seat, mut other) = (board.seat().unwrap(), board.seat().unwrap());
         let channel = seat.channel().unwrap();

@@ -2,7 +2,7 @@
 
 mod common;
 
-use common::{block_on, within_a_minute};
+use common::{block_on, without_a_hang};
 use seryugo::{Mailbox, Message, Seat, Switchboard};
 use std::cell::OnceCell;
 use std::sync::Arc;
@@ -65,7 +65,7 @@ impl Message for Calls {
 /// No lock is held while a value is turned into bytes or back.
 #[test]
 fn a_message_may_make_calls() {
-    within_a_minute(|| {
+    without_a_hang(|| {
         let board = Arc::new(Switchboard::new(100).unwrap());
         BOARD.with(|shared| {
             shared.set(Arc::clone(&board)).unwrap_or_else(|_| panic!("it is set once"));

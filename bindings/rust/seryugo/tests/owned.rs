@@ -5,7 +5,7 @@
 
 mod common;
 
-use common::{let_them_wait, within_a_minute};
+use common::{let_them_wait, without_a_hang, PATIENCE};
 use seryugo::{Bytes, Error, Holds, Mailbox, Numbers, OwnedFeed, OwnedLane, OwnedSeat};
 use seryugo::{Seat, Switchboard, WhenFull};
 use std::future::Future;
@@ -13,7 +13,6 @@ use std::pin::Pin;
 use std::sync::{Arc, Mutex, Weak};
 use std::task::{Context, Poll, Wake, Waker};
 use std::thread;
-use std::time::Duration;
 
 fn board() -> Arc<Switchboard> {
     Arc::new(Switchboard::new(1_000).unwrap())
@@ -85,7 +84,7 @@ fn each_goes_to_another_thread_and_stays_as_long_as_it_likes() {
 #[test]
 fn threads_that_are_spawned_send_and_receive() {
     const ROUNDS: u64 = 1_000;
-    within_a_minute(|| {
+    without_a_hang(|| {
         for round in 0..ROUNDS {
             let board = Arc::new(Switchboard::of_numbers(100).unwrap());
             let (mut sender, mut receiver) =
@@ -145,7 +144,7 @@ fn they_are_dropped_in_any_order() {
 
 #[test]
 fn the_last_seat_waits_while_all_others_go() {
-    within_a_minute(|| {
+    without_a_hang(|| {
         let board = board();
         let (mut waits, leaves) = (board.seat_owned().unwrap(), board.seat_owned().unwrap());
         let mailbox = waits.mailbox::<u64>().unwrap();
@@ -270,7 +269,7 @@ fn a_seat_goes_after_a_future_that_was_forgotten() {
 
 /// Waits for a message on a seat of any holder.
 fn receive(seat: &mut Seat<'_, Bytes, impl Holds<Bytes>>, from: Mailbox<u64>) -> Option<u64> {
-    seat.recv_timeout(from, Duration::from_secs(10)).ok()
+    seat.recv_timeout(from, PATIENCE).ok()
 }
 
 #[test]

@@ -2,7 +2,7 @@
 
 mod common;
 
-use common::{answered, asking, is_waiting, let_them_wait, within_a_minute, Random};
+use common::{answered, asking, is_waiting, let_them_wait, without_a_hang, Random};
 use seryugo::{Checker, Error, Mailbox, Object, Request, Seat, Switchboard, WhenFull};
 use std::sync::{Arc, Mutex};
 use std::thread;
@@ -19,7 +19,7 @@ fn asked(seat: &mut Seat<'_>, doubles: Doubles) -> Vec<u64> {
 /// mailbox, to send, to receive, to answer, to receive the answer.
 #[test]
 fn a_full_journal_refuses_each_call_and_the_error_says_which() {
-    within_a_minute(|| {
+    without_a_hang(|| {
         for limit in [1, 2] {
             let board = Switchboard::new(limit).unwrap();
             let (mut client, mut server) = (board.seat().unwrap(), board.seat().unwrap());
@@ -61,7 +61,7 @@ fn a_full_journal_refuses_each_call_and_the_error_says_which() {
 /// A question of before is answered after, to a mailbox where nobody waits.
 #[test]
 fn questions_and_numbers_go_on_after_a_restart() {
-    within_a_minute(|| {
+    without_a_hang(|| {
         let mut text = Vec::new();
         let board = Switchboard::new(100).unwrap();
         let (mut client, mut server) = (board.seat().unwrap(), board.seat().unwrap());
@@ -144,7 +144,7 @@ fn server(seat: &mut Seat<'_>, doubles: Doubles, seed: u64) {
 
 #[test]
 fn in_a_storm_each_answer_is_to_its_question() {
-    within_a_minute(|| {
+    without_a_hang(|| {
         let text = Arc::new(Mutex::new(Vec::new()));
         let kept = text.clone();
         let sink = WhenFull::call(move |journal| journal.write_to(&mut *kept.lock().unwrap()));

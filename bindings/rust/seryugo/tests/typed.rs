@@ -2,7 +2,7 @@
 
 mod common;
 
-use common::{block_on, let_them_wait, within_a_minute};
+use common::{block_on, let_them_wait, without_a_hang, PATIENCE};
 use seryugo::{
     Bytes, Call, Checker, Error, Kind, Mailbox, Message, Missing, Numbers, Object, Reply, Seat,
     SendError, Switchboard,
@@ -66,7 +66,7 @@ fn each_call_hands_over_what_was_sent() {
     let board = Switchboard::new(100).unwrap();
     let mut seat = board.seat().unwrap();
     let text = |n: u32| format!("{LONG} {n}");
-    let soon = || Instant::now() + Duration::from_secs(60);
+    let soon = || Instant::now() + PATIENCE;
     let mailbox = seat.mailbox::<String>().unwrap();
     (0..5).for_each(|n| seat.send(mailbox, text(n)).unwrap());
     assert_eq!(seat.recv(mailbox), Ok(text(0)));
@@ -345,7 +345,7 @@ fn threads_send_two_types_on_one_switchboard() {
     const CLIENTS: u32 = 4;
     const EACH: u32 = 500;
 
-    within_a_minute(|| {
+    without_a_hang(|| {
         let board = Switchboard::new(1 << 32).unwrap();
         let mut first = board.seat().unwrap();
         let (orders, answers) =
@@ -440,7 +440,7 @@ fn futures_have_types() {
         value
     }
 
-    within_a_minute(|| {
+    without_a_hang(|| {
         let board = Switchboard::new(100).unwrap();
         let (mut seat, mut other) = (board.seat().unwrap(), board.seat().unwrap());
         let mailbox = seat.mailbox::<Order>().unwrap();

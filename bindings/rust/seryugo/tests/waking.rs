@@ -4,7 +4,7 @@
 mod common;
 
 use common::{
-    let_them_wait, seats, within_a_minute, Board, Channel, Feed, Lane, MVar, Mailbox, Port, Random,
+    let_them_wait, seats, without_a_hang, Board, Channel, Feed, Lane, MVar, Mailbox, Port, Random,
     Seat,
 };
 use seryugo::{Error, Switchboard};
@@ -21,7 +21,7 @@ fn a_token_goes_round() {
     const THREADS: usize = 16;
     const ROUNDS: u64 = 1_000;
 
-    within_a_minute(|| {
+    without_a_hang(|| {
         let board = Switchboard::of_numbers(1 << 32).unwrap();
         let mut first = board.seat().unwrap();
         let mailboxes = &mailboxes(&mut first, THREADS);
@@ -58,7 +58,7 @@ fn variables_are_locks() {
     const THREADS: usize = 8;
     const TIMES: usize = 2_000;
 
-    within_a_minute(|| {
+    without_a_hang(|| {
         let board = Switchboard::of_numbers(1 << 32).unwrap();
         let mut first = board.seat().unwrap();
         let variables = &[(); 3].map(|()| first.mvar_init(0).unwrap());
@@ -83,7 +83,7 @@ fn a_channel_has_eight_ports() {
     const PORTS: usize = 8;
     const MESSAGES: u64 = 1_000;
 
-    within_a_minute(|| {
+    without_a_hang(|| {
         let board = Switchboard::of_numbers(1 << 32).unwrap();
         let mut first = board.seat().unwrap();
         let (channel, answers) = (first.channel().unwrap(), first.mailbox().unwrap());
@@ -123,7 +123,7 @@ fn a_channel_has_eight_ports() {
 fn all_that_read_a_variable_are_woken() {
     const THREADS: usize = 8;
 
-    within_a_minute(|| {
+    without_a_hang(|| {
         for n in 0..200 {
             let board = Switchboard::of_numbers(100).unwrap();
             let mut first = board.seat().unwrap();
@@ -194,12 +194,12 @@ fn four_send_and_four_receive(limit: u64) -> u64 {
 
 #[test]
 fn four_send_to_four() {
-    within_a_minute(|| assert_eq!(four_send_and_four_receive(1 << 32), 0));
+    without_a_hang(|| assert_eq!(four_send_and_four_receive(1 << 32), 0));
 }
 
 #[test]
 fn the_journal_is_cut_while_others_wait() {
-    within_a_minute(|| {
+    without_a_hang(|| {
         for limit in [1, 2, 3, 50] {
             assert!(four_send_and_four_receive(limit) > 0);
         }
@@ -227,7 +227,7 @@ const FILLINGS: [Filling; 5] = [
 /// all have failed.
 #[test]
 fn all_that_wait_are_refused_where_the_journal_is_full() {
-    within_a_minute(|| {
+    without_a_hang(|| {
         for fill in FILLINGS.iter().cycle().take(200) {
             let board = Switchboard::of_numbers(6).unwrap();
             let mut first = board.seat().unwrap();
@@ -257,7 +257,7 @@ fn all_that_wait_are_refused_where_the_journal_is_full() {
 /// A pump too may make the journal full.
 #[test]
 fn all_that_wait_are_refused_where_a_pump_fills_the_journal() {
-    within_a_minute(|| {
+    without_a_hang(|| {
         for _ in 0..50 {
             let board = Switchboard::of_numbers(5).unwrap();
             let mut first = board.seat().unwrap();
@@ -296,7 +296,7 @@ const MOVINGS: [Moving; 3] = [
 /// Three receive from a lane what moves at once, and none calls again before all have received.
 #[test]
 fn messages_of_a_lane_wake_all_that_receive_them() {
-    within_a_minute(|| {
+    without_a_hang(|| {
         for moves in MOVINGS.iter().cycle().take(150) {
             let board = Switchboard::of_numbers(100).unwrap();
             let mut first = board.seat().unwrap();
@@ -324,7 +324,7 @@ fn messages_of_a_lane_wake_all_that_receive_them() {
 /// go on leaves.
 #[test]
 fn all_that_wait_are_refused_where_they_are_stalled() {
-    within_a_minute(|| {
+    without_a_hang(|| {
         for _ in 0..200 {
             let board = Switchboard::of_numbers(100).unwrap();
             let mut first = board.seat().unwrap();
@@ -357,7 +357,7 @@ fn all_that_wait_are_refused_where_they_are_stalled() {
 /// A lane holds off the stall. As it is dropped, all that wait are refused.
 #[test]
 fn the_last_lane_leaves_all_stalled() {
-    within_a_minute(|| {
+    without_a_hang(|| {
         for n in 0..200 {
             let board = Switchboard::of_numbers(100).unwrap();
             let mut waiting = seats(&board, 6);
@@ -388,7 +388,7 @@ fn the_last_lane_leaves_all_stalled() {
 /// Who is refused goes on to send, and the other receives that.
 #[test]
 fn who_is_refused_wakes_the_other() {
-    within_a_minute(|| {
+    without_a_hang(|| {
         for _ in 0..500 {
             let board = Switchboard::of_numbers(100).unwrap();
             let mut waiting = seats(&board, 2);
@@ -465,7 +465,7 @@ fn threads_that_call_at_random_end() {
     const THREADS: usize = 8;
     const CALLS: usize = 2_000;
 
-    within_a_minute(|| {
+    without_a_hang(|| {
         for limit in [12, 50, 1 << 32] {
             let shared = &Shared::new(limit);
             thread::scope(|scope| {

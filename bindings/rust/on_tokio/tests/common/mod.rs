@@ -13,14 +13,16 @@ use tokio::time::timeout;
 /// More calls than a test here makes.
 const MANY: u64 = 1_000_000;
 
-/// Runs a scenario on tokio's runtime of one thread, and then on that of four. Fails if one hasn't
-/// ended within a minute.
+/// What takes longer hangs, also on a slow machine.
+pub const PATIENCE: Duration = Duration::from_secs(1_800);
+
+/// Runs a scenario on tokio's runtime of one thread, and then on that of four. Fails if one hangs.
 pub fn on_each_runtime<F: Future<Output = ()>>(scenario: impl Fn() -> F) {
     let mut builders = [Builder::new_current_thread(), Builder::new_multi_thread()];
     builders[1].worker_threads(4);
     for builder in &mut builders {
         let runtime = builder.enable_time().build().unwrap();
-        let ended = runtime.block_on(async { timeout(Duration::from_secs(60), scenario()).await });
+        let ended = runtime.block_on(async { timeout(PATIENCE, scenario()).await });
         ended.expect("a task sleeps though its seat is due");
     }
 }

@@ -4,7 +4,9 @@
 #![allow(dead_code)]
 
 pub mod calls;
+mod patience;
 
+pub use patience::PATIENCE;
 use seryugo::{Numbers, Switchboard};
 use std::future::Future;
 use std::pin::{pin, Pin};
@@ -25,14 +27,14 @@ pub type Port = seryugo::Port<u64>;
 pub type IVar = seryugo::IVar<u64>;
 pub type MVar = seryugo::MVar<u64>;
 
-/// Fails where the test hasn't ended within a minute.
-pub fn within_a_minute(test: impl FnOnce() + Send + 'static) {
+/// Fails where the test hangs.
+pub fn without_a_hang(test: impl FnOnce() + Send + 'static) {
     let (ended, ends) = mpsc::channel();
     let tested = thread::spawn(move || {
         test();
         ended.send(())
     });
-    match ends.recv_timeout(Duration::from_secs(60)) {
+    match ends.recv_timeout(PATIENCE) {
         Err(RecvTimeoutError::Timeout) => panic!("a thread sleeps though its seat is due"),
         _ => tested.join().unwrap().unwrap(),
     }

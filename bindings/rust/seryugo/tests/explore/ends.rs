@@ -1,5 +1,6 @@
 //! Each other end of a run, and what an exploration doesn't know.
 
+use crate::patience::PATIENCE;
 use crate::programs::{seat, Board};
 use seryugo::explore::{self, again, explore, End, Found, Way};
 use seryugo::Error;
@@ -269,11 +270,11 @@ fn a_thread_that_does_not_come_back_is_reported() {
     std::thread::spawn(move || {
         std::io::BufRead::lines(errors).map_while(Result::ok).try_for_each(|line| sender.send(line))
     });
-    let reported = std::iter::from_fn(|| lines.recv_timeout(Duration::from_secs(60)).ok())
+    let reported = std::iter::from_fn(|| lines.recv_timeout(PATIENCE).ok())
         .find(|line| line.starts_with("explore: "));
     child.kill().unwrap();
     child.wait().unwrap();
-    let reported = reported.expect("a report within a minute");
+    let reported = reported.expect("a report");
     assert!(reported.contains(" at send 0. It computes"), "{reported}");
 }
 

@@ -10,6 +10,8 @@ mod first;
 mod futures;
 mod lanes;
 mod locks;
+#[path = "../common/patience.rs"]
+mod patience;
 mod programs;
 mod real_runs;
 mod reruns;

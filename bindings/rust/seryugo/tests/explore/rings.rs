@@ -1,5 +1,6 @@
 //! Lanes and feeds in a rerun.
 
+use crate::patience::PATIENCE;
 use crate::programs::{seat, Board};
 use seryugo::explore::{rerun, Reran, Rerun};
 use seryugo::{Error, Lane, Numbers, Switchboard};
@@ -97,7 +98,7 @@ fn lanes_that_another_thread_drains() {
 fn send_once_there_is_room(lane: &mut Lane<'_, Numbers, u64>, letter: u64) {
     let begun = Instant::now();
     while lane.send(letter).is_err() {
-        assert!(begun.elapsed() < Duration::from_secs(60), "nobody drains the lane");
+        assert!(begun.elapsed() < PATIENCE, "nobody drains the lane");
         thread::yield_now();
     }
 }

@@ -1,6 +1,6 @@
 //! Programs of Go's channels, on mailboxes.
 
-use crate::common::{let_them_wait, within_a_minute};
+use crate::common::{let_them_wait, without_a_hang};
 use crate::{seats, MANY};
 use seryugo::{Error, Mailbox, Message, Seat, Switchboard};
 use std::fmt::Debug;
@@ -17,7 +17,7 @@ fn asynch_fifo() {
 
 #[test]
 fn synch_fifo() {
-    within_a_minute(|| {
+    without_a_hang(|| {
         let board = Switchboard::new(MANY).unwrap();
         let [mut main] = seats(&board);
         let numbers = main.mailbox::<i32>().unwrap();
@@ -40,7 +40,7 @@ fn synch_fifo() {
 
 #[test]
 fn goroutines() {
-    within_a_minute(|| {
+    without_a_hang(|| {
         let board = Switchboard::new(MANY).unwrap();
         let [mut main] = seats(&board);
         let mailboxes: Vec<_> = (0..=100).map(|_| main.mailbox::<i32>().unwrap()).collect();
@@ -82,7 +82,7 @@ fn there_and_back<T: Message + Copy + PartialEq + Debug + Send>(there: T, back: 
 
 #[test]
 fn nonblock() {
-    within_a_minute(|| {
+    without_a_hang(|| {
         there_and_back(123_i32, 234);
         there_and_back(123_456_i64, 234_567);
         there_and_back(true, false);
@@ -108,7 +108,7 @@ fn sieve() {
         2, 3, 5, 7, 11, 13, 17, 19, 23, 29, 31, 37, 41, 43, 47, 53, 59, 61, 67, 71, 73, 79, 83, 89,
         97,
     ];
-    within_a_minute(|| {
+    without_a_hang(|| {
         let board = Switchboard::new(MANY).unwrap();
         let [mut main] = seats(&board);
         let mut numbers = main.mailbox::<i32>().unwrap();
@@ -144,7 +144,7 @@ fn zero_size() {
 
 #[test]
 fn empty_blocks() {
-    within_a_minute(|| {
+    without_a_hang(|| {
         let board = Switchboard::new(MANY).unwrap();
         let [mut main, mut one, mut other] = seats(&board);
         let mailbox = main.mailbox::<i32>().unwrap();
@@ -165,7 +165,7 @@ fn empty_blocks() {
 
 #[test]
 fn a_poll_sees_what_was_sent_before() {
-    within_a_minute(|| {
+    without_a_hang(|| {
         for _ in 0..200 {
             let board = Switchboard::new(MANY).unwrap();
             let [mut main, mut other] = seats(&board);
@@ -183,7 +183,7 @@ fn a_poll_sees_what_was_sent_before() {
 fn multi_consumer() {
     const NUMBERS: [u64; 10] = [2, 3, 7, 11, 13, 17, 19, 23, 27, 31];
     const COUNT: usize = 1_000;
-    within_a_minute(|| {
+    without_a_hang(|| {
         let board = Switchboard::new(MANY).unwrap();
         let [mut main] = seats(&board);
         let (work, done) = (main.mailbox::<u64>().unwrap(), main.mailbox::<u64>().unwrap());
@@ -211,7 +211,7 @@ fn multi_consumer() {
 #[test]
 fn ten_receivers() {
     const COUNT: usize = 1_000;
-    within_a_minute(|| {
+    without_a_hang(|| {
         let board = Switchboard::new(MANY).unwrap();
         let [mut sender] = seats(&board);
         let mailbox = sender.mailbox::<u64>().unwrap();

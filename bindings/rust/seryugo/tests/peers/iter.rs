@@ -1,13 +1,13 @@
 //! Iterators of crossbeam-channel, over a mailbox.
 
-use crate::common::within_a_minute;
+use crate::common::without_a_hang;
 use crate::{seats, MANY};
 use seryugo::{Error, Switchboard};
 use std::thread;
 
 #[test]
 fn nested_recv_iter() {
-    within_a_minute(|| {
+    without_a_hang(|| {
         let board = Switchboard::new(MANY).unwrap();
         let [mut sender, mut receiver] = seats(&board);
         let numbers = sender.mailbox::<i32>().unwrap();
@@ -28,7 +28,7 @@ fn nested_recv_iter() {
 
 #[test]
 fn recv_iter_break() {
-    within_a_minute(|| {
+    without_a_hang(|| {
         let board = Switchboard::new(MANY).unwrap();
         let [mut sender, mut receiver] = seats(&board);
         let numbers = sender.mailbox::<i32>().unwrap();
@@ -55,7 +55,7 @@ fn recv_iter_break() {
 
 #[test]
 fn recv_try_iter() {
-    within_a_minute(|| {
+    without_a_hang(|| {
         let board = Switchboard::new(u64::from(u32::MAX)).unwrap();
         let [mut server, mut client] = seats(&board);
         let requests = server.mailbox::<()>().unwrap();

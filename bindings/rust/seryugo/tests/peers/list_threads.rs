@@ -1,6 +1,6 @@
 //! Unbounded channels of crossbeam-channel: several threads, on mailboxes.
 
-use crate::common::{let_them_wait, within_a_minute};
+use crate::common::{let_them_wait, without_a_hang};
 use crate::{ms, seats, MANY};
 use seryugo::{Error, Object, Switchboard};
 use std::sync::atomic::{AtomicU64, Ordering};
@@ -8,7 +8,7 @@ use std::thread;
 
 #[test]
 fn try_recv() {
-    within_a_minute(|| {
+    without_a_hang(|| {
         let board = Switchboard::new(MANY).unwrap();
         let [mut sender, mut receiver] = seats(&board);
         let mailbox = sender.mailbox::<u64>().unwrap();
@@ -23,7 +23,7 @@ fn try_recv() {
 
 #[test]
 fn recv() {
-    within_a_minute(|| {
+    without_a_hang(|| {
         let board = Switchboard::new(MANY).unwrap();
         let [mut sender, mut receiver] = seats(&board);
         let mailbox = sender.mailbox::<u64>().unwrap();
@@ -44,7 +44,7 @@ fn recv() {
 
 #[test]
 fn recv_timeout() {
-    within_a_minute(|| {
+    without_a_hang(|| {
         let board = Switchboard::new(MANY).unwrap();
         let [mut sender, mut receiver] = seats(&board);
         let mailbox = sender.mailbox::<u64>().unwrap();
@@ -62,7 +62,7 @@ fn recv_timeout() {
 
 #[test]
 fn the_last_sender_wakes_the_receiver() {
-    within_a_minute(|| {
+    without_a_hang(|| {
         let board = Switchboard::new(MANY).unwrap();
         let [sender, mut receiver] = seats(&board);
         let mailbox = receiver.mailbox::<()>().unwrap();
@@ -79,7 +79,7 @@ fn the_last_sender_wakes_the_receiver() {
 #[test]
 fn spsc() {
     const COUNT: u64 = 5_000;
-    within_a_minute(|| {
+    without_a_hang(|| {
         let board = Switchboard::new(MANY).unwrap();
         let [mut sender, mut receiver] = seats(&board);
         let mailbox = sender.mailbox::<u64>().unwrap();
@@ -99,7 +99,7 @@ fn spsc() {
 fn mpmc() {
     const COUNT: u64 = 2_000;
     const THREADS: u64 = 4;
-    within_a_minute(|| {
+    without_a_hang(|| {
         let board = Switchboard::new(MANY).unwrap();
         let (senders, receivers): ([_; THREADS as usize], [_; THREADS as usize]) =
             (seats(&board), seats(&board));
@@ -128,7 +128,7 @@ fn mpmc() {
 
 #[test]
 fn stress_oneshot() {
-    within_a_minute(|| {
+    without_a_hang(|| {
         for _ in 0..100 {
             let board = Switchboard::new(3).unwrap();
             let [mut sender, mut receiver] = seats(&board);
@@ -145,7 +145,7 @@ fn stress_oneshot() {
 #[test]
 fn stress_iter() {
     const COUNT: u64 = 500;
-    within_a_minute(|| {
+    without_a_hang(|| {
         let board = Switchboard::new(u64::from(u32::MAX)).unwrap();
         let [mut server, mut client] = seats(&board);
         let requests = server.mailbox::<()>().unwrap();
@@ -169,7 +169,7 @@ fn stress_iter() {
 #[test]
 fn stress_timeout_two_threads() {
     const COUNT: u64 = 100;
-    within_a_minute(|| {
+    without_a_hang(|| {
         let board = Switchboard::new(MANY).unwrap();
         let [mut sender, mut receiver] = seats(&board);
         let mailbox = sender.mailbox::<u64>().unwrap();
@@ -190,7 +190,7 @@ fn stress_timeout_two_threads() {
 
 #[test]
 fn linearizable() {
-    within_a_minute(|| {
+    without_a_hang(|| {
         let board = Switchboard::new(MANY).unwrap();
         let mailbox = board.seat().unwrap().mailbox::<u64>().unwrap();
         thread::scope(|scope| {
@@ -210,7 +210,7 @@ fn linearizable() {
 #[test]
 fn mailbox_through_mailbox() {
     const COUNT: u64 = 200;
-    within_a_minute(|| {
+    without_a_hang(|| {
         let board = Switchboard::new(MANY).unwrap();
         let [mut sender, mut receiver] = seats(&board);
         let first = sender.mailbox::<u64>().unwrap();

@@ -1,6 +1,6 @@
 //! Channels of std's `mpsc`, on a mailbox.
 
-use crate::common::{let_them_wait, within_a_minute};
+use crate::common::{let_them_wait, without_a_hang};
 use crate::{ms, seats, MANY};
 use seryugo::{Error, Seat, Switchboard};
 use std::thread;
@@ -40,7 +40,7 @@ fn smoke_shared() {
 
 #[test]
 fn smoke_threads() {
-    within_a_minute(|| {
+    without_a_hang(|| {
         let board = Switchboard::new(MANY).unwrap();
         let [mut sender, mut receiver] = seats(&board);
         let mailbox = sender.mailbox::<i32>().unwrap();
@@ -65,7 +65,7 @@ fn a_receiver_that_left_loses_nothing() {
 
 #[test]
 fn a_receiver_that_leaves_loses_nothing() {
-    within_a_minute(|| {
+    without_a_hang(|| {
         let board = Switchboard::new(MANY).unwrap();
         let [mut one, mut other, mut receiver] = seats(&board);
         let mailbox = one.mailbox::<i32>().unwrap();
@@ -102,7 +102,7 @@ fn smoke_chan_gone_shared() {
 
 #[test]
 fn chan_gone_concurrent() {
-    within_a_minute(|| {
+    without_a_hang(|| {
         let board = Switchboard::new(MANY).unwrap();
         let [mut sender, mut receiver] = seats(&board);
         let mailbox = sender.mailbox::<i32>().unwrap();
@@ -117,7 +117,7 @@ fn chan_gone_concurrent() {
 
 #[test]
 fn stress() {
-    within_a_minute(|| {
+    without_a_hang(|| {
         let board = Switchboard::new(MANY).unwrap();
         let [mut sender, mut receiver] = seats(&board);
         let mailbox = sender.mailbox::<i32>().unwrap();
@@ -144,7 +144,7 @@ fn all_send<'scope, 'board: 'scope>(
 
 #[test]
 fn stress_shared() {
-    within_a_minute(|| {
+    without_a_hang(|| {
         let board = Switchboard::new(MANY).unwrap();
         let [mut receiver] = seats(&board);
         let mailbox = receiver.mailbox::<i32>().unwrap();
@@ -158,7 +158,7 @@ fn stress_shared() {
 
 #[test]
 fn shared_chan_stress() {
-    within_a_minute(|| {
+    without_a_hang(|| {
         let board = Switchboard::new(MANY).unwrap();
         let [mut receiver] = seats(&board);
         let mailbox = receiver.mailbox::<i32>().unwrap();
@@ -171,7 +171,7 @@ fn shared_chan_stress() {
 
 #[test]
 fn from_threads_of_any_kind() {
-    within_a_minute(|| {
+    without_a_hang(|| {
         let board = Switchboard::new(MANY).unwrap();
         let [mut one, mut other, mut main] = seats(&board);
         let begun = main.mailbox::<()>().unwrap();
@@ -191,7 +191,7 @@ fn from_threads_of_any_kind() {
 
 #[test]
 fn to_and_fro() {
-    within_a_minute(|| {
+    without_a_hang(|| {
         let board = Switchboard::new(MANY).unwrap();
         let [mut one, mut other] = seats(&board);
         let (there, back) = (one.mailbox::<i32>().unwrap(), one.mailbox::<i32>().unwrap());
@@ -218,7 +218,7 @@ fn recv_timeout_takes_its_time() {
 
 #[test]
 fn very_long_recv_timeout() {
-    within_a_minute(|| {
+    without_a_hang(|| {
         let board = Switchboard::new(MANY).unwrap();
         let [mut sender, mut receiver] = seats(&board);
         let mailbox = sender.mailbox::<i32>().unwrap();
@@ -235,7 +235,7 @@ fn very_long_recv_timeout() {
 
 #[test]
 fn a_time_limit_while_seats_come_and_go() {
-    within_a_minute(|| {
+    without_a_hang(|| {
         let board = Switchboard::new(MANY).unwrap();
         let [sender, mut receiver] = seats(&board);
         let mailbox = receiver.mailbox::<()>().unwrap();
@@ -265,7 +265,7 @@ fn count_within(receiver: &mut Seat<'_>, mailbox: seryugo::Mailbox<i32>, limit: 
 
 #[test]
 fn stress_recv_timeout_two_threads() {
-    within_a_minute(|| {
+    without_a_hang(|| {
         let board = Switchboard::new(MANY).unwrap();
         let [mut sender, mut receiver] = seats(&board);
         let mailbox = sender.mailbox::<i32>().unwrap();
@@ -283,7 +283,7 @@ fn stress_recv_timeout_two_threads() {
 
 #[test]
 fn stress_recv_timeout_shared() {
-    within_a_minute(|| {
+    without_a_hang(|| {
         let board = Switchboard::new(MANY).unwrap();
         let [mut receiver] = seats(&board);
         let mailbox = receiver.mailbox::<i32>().unwrap();
@@ -310,7 +310,7 @@ fn recv_a_lot() {
 
 #[test]
 fn shared_recv_timeout() {
-    within_a_minute(|| {
+    without_a_hang(|| {
         let board = Switchboard::new(MANY).unwrap();
         let [mut receiver, mut last] = seats(&board);
         let mailbox = receiver.mailbox::<i32>().unwrap();

@@ -1,14 +1,14 @@
 //! Iterators and states of std's `mpsc`, on mailboxes. `iter.rs` has what crossbeam-channel tries
 //! of iterators.
 
-use crate::common::{let_them_wait, within_a_minute};
+use crate::common::{let_them_wait, without_a_hang};
 use crate::{seats, MANY};
 use seryugo::{Error, Switchboard};
 use std::thread;
 
 #[test]
 fn try_recv_states() {
-    within_a_minute(|| {
+    without_a_hang(|| {
         let board = Switchboard::new(MANY).unwrap();
         let [mut sender, mut receiver] = seats(&board);
         let numbers = sender.mailbox::<i32>().unwrap();
@@ -32,7 +32,7 @@ fn try_recv_states() {
 
 #[test]
 fn a_receiver_leaves_while_a_sender_stays() {
-    within_a_minute(|| {
+    without_a_hang(|| {
         let board = Switchboard::new(MANY).unwrap();
         let [mut one, other, mut receiver] = seats(&board);
         let (begun, ended) = (one.mailbox::<()>().unwrap(), one.mailbox::<()>().unwrap());
@@ -63,7 +63,7 @@ fn send_before_and_after_the_receiver_leaves() {
 
 #[test]
 fn a_send_doesnt_wait_for_the_receiver() {
-    within_a_minute(|| {
+    without_a_hang(|| {
         for _ in 0..100 {
             let board = Switchboard::new(MANY).unwrap();
             let [mut one, mut other] = seats(&board);

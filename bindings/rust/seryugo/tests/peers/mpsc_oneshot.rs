@@ -1,6 +1,6 @@
 //! Channels of std's `mpsc` that take one message, on an i-variable.
 
-use crate::common::within_a_minute;
+use crate::common::without_a_hang;
 use crate::{ms, seats, MANY};
 use seryugo::{Error, Switchboard};
 use std::thread;
@@ -57,7 +57,7 @@ fn peek() {
 
 #[test]
 fn multi_task_recv_then_send() {
-    within_a_minute(|| {
+    without_a_hang(|| {
         let board = Switchboard::new(MANY).unwrap();
         let [mut sender, mut receiver] = seats(&board);
         let variable = sender.ivar::<i32>().unwrap();
@@ -70,7 +70,7 @@ fn multi_task_recv_then_send() {
 
 #[test]
 fn multi_task_recv_then_close() {
-    within_a_minute(|| {
+    without_a_hang(|| {
         for _ in 0..100 {
             let board = Switchboard::new(MANY).unwrap();
             let [sender, mut receiver] = seats(&board);
@@ -85,7 +85,7 @@ fn multi_task_recv_then_close() {
 
 #[test]
 fn multi_thread_close() {
-    within_a_minute(|| {
+    without_a_hang(|| {
         for _ in 0..100 {
             let board = Switchboard::new(MANY).unwrap();
             let [mut sender, receiver, last] = seats(&board);
@@ -102,7 +102,7 @@ fn multi_thread_close() {
 
 #[test]
 fn multi_thread_send_recv_stress() {
-    within_a_minute(|| {
+    without_a_hang(|| {
         for message in 0..100 {
             let board = Switchboard::new(MANY).unwrap();
             let [mut sender, mut receiver] = seats(&board);
@@ -117,7 +117,7 @@ fn multi_thread_send_recv_stress() {
 
 #[test]
 fn stream_send_recv_stress() {
-    within_a_minute(|| {
+    without_a_hang(|| {
         let board = Switchboard::new(MANY).unwrap();
         let [mut maker] = seats(&board);
         let mailbox = maker.mailbox::<i32>().unwrap();

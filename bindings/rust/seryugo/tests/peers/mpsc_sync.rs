@@ -1,6 +1,6 @@
 //! Bounded channels of std's `mpsc`: a lane to a mailbox is the bound, and its thread drains it.
 
-use crate::common::within_a_minute;
+use crate::common::without_a_hang;
 use crate::{ms, seats, MANY};
 use seryugo::{Error, Mailbox, Numbers, Seat, SendError, Switchboard};
 use std::thread;
@@ -78,7 +78,7 @@ fn recv_timeout() {
 
 #[test]
 fn smoke_threads() {
-    within_a_minute(|| {
+    without_a_hang(|| {
         let board = Switchboard::of_numbers(MANY).unwrap();
         let [mut receiver] = seats(&board);
         let mailbox = receiver.mailbox().unwrap();
@@ -107,7 +107,7 @@ fn chan_gone() {
 
 #[test]
 fn chan_gone_concurrent() {
-    within_a_minute(|| {
+    without_a_hang(|| {
         let board = Switchboard::of_numbers(MANY).unwrap();
         let [mut receiver, free] = seats(&board);
         let mailbox = receiver.mailbox().unwrap();
@@ -124,7 +124,7 @@ fn chan_gone_concurrent() {
 
 #[test]
 fn stress() {
-    within_a_minute(|| {
+    without_a_hang(|| {
         let board = Switchboard::of_numbers(MANY).unwrap();
         let [mut receiver, free] = seats(&board);
         let mailbox = receiver.mailbox().unwrap();
@@ -142,7 +142,7 @@ fn stress() {
 
 #[test]
 fn stress_shared() {
-    within_a_minute(|| {
+    without_a_hang(|| {
         let board = Switchboard::of_numbers(MANY).unwrap();
         let [mut receiver] = seats(&board);
         let mailbox = receiver.mailbox().unwrap();
@@ -171,7 +171,7 @@ fn count_within(receiver: &mut Seat<'_, Numbers>, mailbox: Mailbox<u64>, limit: 
 
 #[test]
 fn stress_recv_timeout() {
-    within_a_minute(|| {
+    without_a_hang(|| {
         let board = Switchboard::of_numbers(MANY).unwrap();
         let [mut receiver] = seats(&board);
         let mailbox = receiver.mailbox().unwrap();

@@ -1,7 +1,7 @@
 //! Bounded channels of std's `mpsc` whose receiver is gone: what was sent on a lane waits in the
 //! mailbox for the next seat.
 
-use crate::common::within_a_minute;
+use crate::common::without_a_hang;
 use crate::mpsc_sync::assert_full;
 use crate::{seats, MANY};
 use seryugo::{Error, Switchboard};
@@ -23,7 +23,7 @@ fn a_receiver_that_left_loses_nothing() {
 
 #[test]
 fn a_receiver_that_leaves_loses_nothing() {
-    within_a_minute(|| {
+    without_a_hang(|| {
         let board = Switchboard::of_numbers(MANY).unwrap();
         let [mut receiver] = seats(&board);
         let mailbox = receiver.mailbox().unwrap();
@@ -42,7 +42,7 @@ fn a_receiver_that_leaves_loses_nothing() {
 
 #[test]
 fn lanes_close_while_a_receiver_leaves() {
-    within_a_minute(|| {
+    without_a_hang(|| {
         for _ in 0..100 {
             let board = Switchboard::of_numbers(MANY).unwrap();
             let [mut receiver, free] = seats(&board);

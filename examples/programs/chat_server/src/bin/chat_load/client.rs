@@ -6,8 +6,8 @@ use std::net::{Shutdown, SocketAddr, TcpStream};
 use std::thread;
 use std::time::{Duration, Instant};
 
-/// How long a client waits for a line, or for a server that listens. No case waits so long on a machine that isn't stuck.
-const PATIENCE: Duration = Duration::from_secs(60);
+/// How long a client waits for a line, or for a server that listens. What takes longer hangs, also on a slow machine.
+const PATIENCE: Duration = Duration::from_secs(600);
 
 /// How long it is quiet at the least, if no line is to come.
 const QUIET: Duration = Duration::from_millis(300);
