@@ -52,7 +52,7 @@ compiles() {
 
 mkdir -p "$work/copy/reach" "$work/noting/bin"
 cp tests/refused_bodies/reach.txt "$work/copy/reach/main.rt"
-{ cat crates.txt && echo 'reach: cml_keeping cml_threads cml_board'; } > "$work/copy/crates.txt"
+{ cat crates.txt && echo 'reach: cml_threads cml_board'; } > "$work/copy/crates.txt"
 ln -s "$kit/toolchain/lib" "$work/noting/lib"
 ln -s "$kit/toolchain/bin/llvm-ar" "$kit/toolchain/bin/rattle-x64" "$work/noting/bin"
 printf '#!/bin/sh\necho > "%s"\nexit 1\n' "$work/handed" | tee "$work/noting/bin/clang" > "$work/noting/bin/ld.lld"

@@ -14,7 +14,7 @@ use Rattle.clap.specs.declared.error.Error.{Error}
 use Rattle.clap.proofs.FaultLemmas.{stopped_fault}
 use Rattle.clap.proofs.OnLiterals.{clap_on_literals}
 use Rattle.clap.proofs.WalkLemmas.{walk_stopped}
-use Rattle.cml_shell.specs.{error_status}
+use Rattle.cml_grammar.specs.{error_status}
 use Rattle.cml.specs.{AsksFor, AsksHelp, HasOrder, Reads, asked_of, faults_of, limit_of, usage, AreUses, FindsBoth, FindsFlag, Flag}
 use Rattle.cml.specs.{form_if, IsLimitOption, Limit, ReadsAs, Use, given_by, state_by, Order}
 use Rattle.cml.specs.declared.asked.Order.TheVariants.{Replay, Run, Explore, Check, Compact}

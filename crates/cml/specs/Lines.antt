@@ -1,5 +1,6 @@
 -- What is written of an ending.
-use Rattle.std.specs.Prelude.{ℕ, zero, suc, ◌==◌, if◌then◌else◌, List, [], ◌∷◌, ◌++◌, length, codes, string_bytes, unwrap_or, Option, Some, None, ⊤}
+use Rattle.std.specs.Prelude.{ℕ, zero, suc, ◌==◌, if◌then◌else◌, List, [], ◌∷◌, ◌++◌, length, codes, string_bytes, unwrap_or, Option}
+use Rattle.std.specs.Prelude.{Some, None, ⊤}
 use Rattle.std.specs.Fmt.{decimal}
 use Rattle.std.specs.Io.KnownBytes.{Appends}
 use Rattle.cml_calls.specs.{Kind}
@@ -8,8 +9,7 @@ use Rattle.cml_board.specs.{Entry, Expected, sent_count, got_count, owed_count, 
 use Rattle.cml_board.specs.{kind_of}
 use Rattle.cml_board.specs.declared.outcome.Refusal.TheVariants.{NoSuch}
 use Rattle.cml_board.specs.declared.expected.Expected.TheVariants as expected
-use Rattle.cml_sums.specs.{Sum, sum_word}
-use Rattle.cml_journal.specs.{reply_text, State as ReaderState, What, due_line}
+use Rattle.cml_journal.specs.{Sum, sum_word, reply_text, State as ReaderState, What, due_line}
 use Rattle.cml_journal.specs.declared.fault.What.TheVariants.{TooLong as TooLongLine}
 use Rattle.cml.specs.declared.check.ending.Ending.{Ending}
 use Rattle.cml.specs.declared.check.ending.Ending.TheVariants.{Lawful, Unlawful, WriteFault, Compacted}

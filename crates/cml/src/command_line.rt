@@ -3,7 +3,7 @@ ghost use Rattle.std.specs.Prelude.{◌≡◌, ◌⊎◌, ◌≤◌, ◌^◌, �
 ghost use Rattle.clap.specs.Words.{app_of, found_of, FailsBy, kind_of, new_app, one_text, rule_of, subcommand_of, with_rule};
 ghost use Rattle.clap.specs.Words.{subcommand_rows_of, with_subcommand};
 ghost use Rattle.clap.specs.declared.builder.command.Command.TheViews.{out-Command as fields_of};
-ghost use Rattle.cml_shell.specs.{error_status};
+ghost use Rattle.cml_grammar.specs.{error_status};
 ghost use Rattle.cml.specs.{usage, faults_of, form_if, limit_of, limit_rule, flag_rule, script_shape, performing, exploring, checking, compacting, AsksFor};
 ghost use Rattle.cml.specs.{AsksHelp, Finds, FindsFlag, FindsLimit, HasOrder, Reads};
 

@@ -20,7 +20,7 @@ pub(crate) enum Ending {
     Checked(check::Ending),
 }
 
-impl cml_shell::Ending for Ending {
+impl cml_grammar::shell::Ending for Ending {
     ghost use Rattle.cml.specs.Endings.{status, is_shown};
 
     ghost status = { status };

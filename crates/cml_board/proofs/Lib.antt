@@ -1,5 +1,5 @@
 pub mod ListLemmas
-pub mod TracesLemmas
+pub mod GhostEntriesLemmas
 pub mod PlacingLemmas
 pub mod LogsLemmas
 pub mod AgreeingLemmas

@@ -16,10 +16,10 @@ mod waiting;
 
 use crate::answer::Answer;
 use crate::call::Name;
+use crate::cut_entries::CutEntries;
 use crate::entry::Entry;
 use crate::message::Message;
 use crate::object::{self, Object, Reading};
-use crate::past::Past;
 use cml_calls::Kind;
 use cml_log::{ChunkLog, Key, MessageLog};
 use objects::{log_at, share_at};
@@ -36,7 +36,7 @@ pub type BoardLog<M> = ChunkLog<M, 4>;
 pub struct Board<M, L: MessageLog<M>> {
     alloc: Global,
     limit: u64,
-    past: Past<Entry<M>>,
+    past: CutEntries<Entry<M>>,
     journal: Vec<Entry<M>>,
     objects: Vec<Object<M, L>>,
 }
@@ -104,7 +104,7 @@ impl<M: Message, L: MessageLog<M>> Board<M, L> {
         Board {
             alloc,
             limit,
-            past: Past::none(),
+            past: CutEntries::none(),
             journal: Vec::new(alloc),
             objects: Vec::new(alloc),
         }

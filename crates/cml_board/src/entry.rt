@@ -2,7 +2,7 @@ ghost use Rattle.std.specs.Prelude.{◌≡◌, ◌↔◌, IsTrue};
 
 use crate::call::{Call, Name};
 use crate::message::Message;
-use cml_messages::{Bytes, Text};
+use cml_calls::{Bytes, Text};
 use std::mem;
 
 /// The maker of a call, by its number: a seat, or a lane or a feed on its thread's behalf.

@@ -6,14 +6,15 @@ mod base_laws;
 mod board;
 mod call;
 mod checking;
+mod cut_entries;
 mod entry;
 mod expected;
+mod ghost_entries;
 mod laws;
 mod message;
 mod object;
 mod outcome;
 mod parts;
-mod past;
 mod restored;
 mod sharing;
 mod want;
@@ -23,10 +24,12 @@ pub use base_laws::{bases_tell_answers, bases_tell_messages, bases_tell_objects}
 pub use board::{Board, BoardLog};
 pub use call::{Call, Name};
 pub use checking::{Checker, check};
-pub use cml_calls::{Ask, Give, Kind, Make, ReplyKind, Shape, Takers};
-pub use cml_messages::{BadText, Bytes, Text, TooLong};
+pub use cml_calls::{
+    Ask, BadText, Bytes, Give, Kind, Make, ReplyKind, Shape, Takers, Text, TooLong,
+};
 pub use entry::{Entry, Reply, Who};
 pub use expected::{Expected, Unlawful};
+pub use ghost_entries::GhostEntries;
 pub use laws::{
     calls_are_their_parts, calls_wait_by_want, lawful_at_every_position, replies_suit_calls,
     reserved_lasts,

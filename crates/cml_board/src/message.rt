@@ -1,6 +1,6 @@
 ghost use Rattle.std.specs.Prelude.{◌≡◌, ◌↔◌, Bool, true, false, IsTrue, IfOk, OnErr};
 
-use cml_messages::{Bytes, Text};
+use cml_calls::{Bytes, Text};
 use std::alloc::{AllocError, Global};
 
 /// A type that mailboxes carry and variables hold. A journal keeps a copy of each message beside the one that is delivered.

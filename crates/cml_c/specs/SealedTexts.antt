@@ -2,8 +2,7 @@
 use Rattle.std.specs.Prelude.{ℕ, ◌≡◌, ◌+◌, ◌<◌, ◌≤◌, ◌^◌, ◌⊎◌, List, length, Bool, true, false, Option, Some, None}
 use Rattle.std.specs.Fmt.{decimal}
 use Rattle.cml_board.specs.{Entry}
-use Rattle.cml_journal.specs.{AreShort, Progress, bytes_text, kept_sum, piece_sum, sealed_piece_lines, text_of}
-use Rattle.cml_sums.specs.{Sum}
+use Rattle.cml_journal.specs.{AreShort, Progress, bytes_text, kept_sum, piece_sum, sealed_piece_lines, text_of, Sum}
 use Rattle.cml_c.specs.declared.code.Code.TheVariants.{Done, NoMemory, Nothing, OutOfBounds}
 use Rattle.cml_c.specs.declared.code.Code.{Code}
 use Rattle.cml_c.specs.declared.kept.Kept.{Kept}

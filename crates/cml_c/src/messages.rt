@@ -8,7 +8,7 @@ use cml_board::Bytes;
 use std::alloc::{AllocError, Global};
 use std::ptr;
 
-/// The most bytes of a message that lie in the struct itself: as many as `cml_messages` keeps in one block. To copy them takes less
+/// The most bytes of a message that lie in the struct itself: as many as `cml_calls` keeps in one block. To copy them takes less
 /// time than to allocate and to free what keeps more.
 pub(crate) const IN_PLACE: usize = 78;
 

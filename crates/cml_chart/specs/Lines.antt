@@ -4,13 +4,12 @@ use Rattle.std.specs.Option.{option_map, option_and_then, option_or}
 use Rattle.std.specs.List.{list_any}
 use Rattle.std.specs.Str.{bytes_eq}
 use Rattle.std.specs.Str.Parse.{digits_value}
-use Rattle.cml_calls.specs.{ReplyKind, Row, given, asked, names_one}
+use Rattle.cml_calls.specs.{ReplyKind, Row, given, asked, names_one, is_text}
 use Rattle.cml_calls.specs.declared.shape.ReplyKind.TheVariants.{Done, Made, Got, Nothing, Put, Closed}
 use Rattle.cml_calls.specs.declared.table.Give.TheVariants.{Send, Cast}
 use Rattle.cml_calls.specs.declared.table.Ask.TheVariants.{Recv}
 use Rattle.cml_grammar.specs.{is_name, is_number, words_of, verb_of, Verb}
 use Rattle.cml_grammar.specs.declared.forms.Verb.TheVariants as verb
-use Rattle.cml_messages.specs.{is_text}
 
 -- the texts of a line, wherever they lie in memory
 abbrev pub Words : Type 0

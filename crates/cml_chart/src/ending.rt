@@ -66,7 +66,7 @@ impl From<cml_grammar::Fault> for Ending {
     }
 }
 
-impl cml_shell::Ending for Ending {
+impl cml_grammar::shell::Ending for Ending {
     ghost status = { status };
 
     ghost is_shown = { is_shown };

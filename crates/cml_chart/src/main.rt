@@ -14,7 +14,7 @@ mod plan;
 mod report;
 mod svg;
 
-use cml_shell::{NoOrder, end, words};
+use cml_grammar::shell::{NoOrder, end, words};
 use command_line::order_of;
 use drawing::{draw, draw_by_script};
 use ending::Ending;

@@ -1,7 +1,7 @@
 -- What the words of a line mean where each suits its place.
 use Rattle.std.proofs.Common.{◌≡◌, ℕ, ◌==◌, true, false, if◌then◌else◌, List, [], ◌∷◌, map, length, slice_get, Option, Some}
 use Rattle.std.proofs.Common.{refl, sym, ap, ◌∙◌, subst, Bor, inl, inr, true≢false, arith}
-use Rattle.cml_messages.specs.{is_text}
+use Rattle.cml_calls.specs.{is_text}
 use Rattle.std.specs.Option.{option_map}
 use Rattle.std.specs.List.{find, zip}
 use Rattle.std.proofs.lemmas.Bool.{ne_eqb}

@@ -3,8 +3,8 @@ use Rattle.std.proofs.Common.{◌≡◌, ◌≢◌, ℕ, suc, ◌^◌, ◌<◌, 
 use Rattle.std.proofs.Common.{◌∷◌, ◌++◌, length, slice_get, position, Option, Some, None, is_some, Result, Ok, Err, refl, sym, ap}
 use Rattle.std.proofs.Common.{◌∙◌, arith, get_or, eq-eqb, if◌then◌else◌, String, string_bytes, true≢false}
 use Rattle.std.proofs.Common.{◌⊎◌, inl, inr, subst}
-use Rattle.cml_messages.specs.{is_text}
-use Rattle.cml_messages.proofs.TextLemmas.{number_is_text}
+use Rattle.cml_calls.specs.{is_text}
+use Rattle.cml_calls.proofs.TextLemmas.{number_is_text}
 use Rattle.std.specs.Fmt.{decimal}
 use Rattle.std.proofs.lemmas.Fmt.{decimal-digits_value, digits_decimal, digits_value-decimal, decimal_nonempty}
 use Rattle.std.proofs.lemmas.Fmt.{first_decimal, decimal_digit}

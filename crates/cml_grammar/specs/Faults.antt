@@ -15,7 +15,7 @@ use Rattle.cml_grammar.specs.declared.fault.What.TheVariants.{NoLineEnd, BadByte
 use Rattle.cml_grammar.specs.declared.fault.What.TheVariants.{UnknownStep, WordCount, BadName, NameTaken, UnknownName, WrongKind, NotYours}
 use Rattle.cml_grammar.specs.declared.fault.What.TheVariants.{BadNumber, BadText, LaneTaken, TooManyThreads, TooLong, Memory}
 use Rattle.cml_grammar.specs.declared.fault.Fault.{Fault}
-use Rattle.cml_messages.specs.{is_text}
+use Rattle.cml_calls.specs.{is_text}
 use Rattle.cml_grammar.specs.Words.{parts_of, words_of, is_bad_byte, is_skipped, has_empty_word}
 use Rattle.cml_grammar.specs.Names.{Given, is_name, is_number, is_capacity, position_of, is_given, named, seat_of, thread_count}
 use Rattle.cml_grammar.specs.Forms.{Form, unknown, declaration, lane, no_step, step, form_of, places_of, rest_of, is_name_place, is_fresh}

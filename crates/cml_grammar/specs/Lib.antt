@@ -12,6 +12,7 @@ pub mod Shown
 pub mod Flaws
 pub mod Suiting
 pub mod Laws
+pub mod Statuses
 -- the names that others import from here
 pub use Input.{IsReadUpTo}
 pub use Words.{has_empty_word, is_bad_byte, is_skipped, parts_of, words_of}
@@ -37,6 +38,7 @@ pub use Flaws.{has_flaw}
 pub use Suiting.{AllSuit, IsSuitedAt, IsUsed, Suits}
 pub use Laws.{FaultlessTextsAreScripts, NumbersArePrinted, NumbersAreTexts, PrintedNumbersAreRead, ScriptsHaveNoFault, TextsAreOneScript}
 pub use Laws.{WordsMakeLines}
+pub use Statuses.{EndsUnordered, IsShowing, error_status}
 pub use declared.fault.Fault.{Fault}
 pub use declared.fault.What.{What}
 pub use declared.forms.Action.{Action}

@@ -1,6 +1,6 @@
 -- Words that suit their places.
 use Rattle.std.specs.Prelude.{ℕ, ◌≡◌, true, false, List, [], ◌∷◌, slice_get, Some, ⊤}
-use Rattle.cml_messages.specs.{is_text}
+use Rattle.cml_calls.specs.{is_text}
 use Rattle.cml_grammar.specs.declared.forms.Place.{Place}
 use Rattle.cml_grammar.specs.declared.forms.Place.TheVariants.{Fresh, Message, Capacity}
 use Rattle.cml_grammar.specs.declared.names.Named.{Named}

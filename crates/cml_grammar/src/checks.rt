@@ -9,7 +9,7 @@ use crate::fault::What;
 use crate::forms::{Form, Place};
 use crate::meaning::ends_by;
 use crate::names::{Named, capacity_in, find_named, is_given, is_name, number_of};
-use cml_messages::is_text;
+use cml_calls::is_text;
 use indexmap::IndexMap;
 
 /// The most threads that a script may declare.

@@ -6,8 +6,7 @@ ghost use Rattle.cml_grammar.specs.{places_of, rest_of, seat_of_form, is_name_pl
 ghost use Rattle.cml_grammar.specs.{is_declaring, is_no_step, declares_thread, texts_of, shown};
 
 use crate::names::{Named, seat_of};
-use cml_calls::{Ask, Give, Kind, Takers};
-use cml_messages::Text;
+use cml_calls::{Ask, Give, Kind, Takers, Text};
 use indexmap::IndexMap;
 
 /// The places after `lane`.

@@ -12,6 +12,7 @@ mod output;
 mod read;
 mod reading;
 mod script;
+pub mod shell;
 mod words;
 
 pub use fault::{Fault, What};

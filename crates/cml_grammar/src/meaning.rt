@@ -2,7 +2,7 @@
 ghost use Rattle.std.specs.Prelude.{◌≡◌, ◌+◌, ◌^◌, ◌<◌, [], ◌∷◌, length, map, Some, true, is_some, All, IfOk};
 ghost use Rattle.std.specs.Option.{option_map};
 ghost use Rattle.std.specs.Str.Parse.{digits_value};
-ghost use Rattle.cml_messages.specs.{is_text};
+ghost use Rattle.cml_calls.specs.{is_text};
 ghost use Rattle.cml_grammar.specs.{is_capacity, is_given, position_of, seat_of, thread_count, declared_places, lane_places, step_places};
 ghost use Rattle.cml_grammar.specs.{fresh_word, owner_of, named_by, ends_by, feed_by, makes_by, action_by, lane_by, texts_of, UsesWell};
 ghost use Rattle.cml_grammar.specs.{IsMadeWell, IsSeatedWithin, threads_by, AllSuit};
@@ -10,7 +10,7 @@ ghost use Rattle.cml_grammar.specs.{IsMadeWell, IsSeatedWithin, threads_by, AllS
 use crate::forms::{Action, Declares, FeedMaking, Makes, Verb, fresh_word};
 use crate::names::{Named, Users, capacity_in, position_of, seat_of};
 use crate::script::{Lane, Line};
-use cml_messages::Text;
+use cml_calls::Text;
 use indexmap::IndexMap;
 use std::alloc::{AllocError, Global};
 

@@ -16,9 +16,8 @@ use crate::sinks::{Counted, Counting, PIECE, Pieces, raise_by_four, settle_piece
 use crate::stream::tell_to_three;
 use crate::threads::{Shared, counted, settle, settled};
 use cml_board::{BoardLog, Refusal};
-use cml_keeping::Start;
 use cml_log::MessageLog;
-use cml_threads::Count;
+use cml_threads::{Count, Start};
 use std::alloc::Global;
 use std::sync::Wait;
 use std::sync::ledger::{Blank, Ledger};

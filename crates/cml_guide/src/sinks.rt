@@ -4,10 +4,9 @@ ghost use Rattle.std.specs.Prelude.{◌≡◌, []};
 use crate::calls::{Trouble, message_of, name_of, nothing_of};
 use crate::examples::count_in_pieces;
 use crate::threads::{Came, Ended, settle};
-use cml_board::{BoardLog, Call, Entry, Name};
-use cml_keeping::{Failure, Keeping, Sink, Start, Traces};
+use cml_board::{BoardLog, Call, Entry, GhostEntries, Name};
 use cml_log::MessageLog;
-use cml_threads::{Count, Left, PARTS, Seat};
+use cml_threads::{Count, Failure, Keeping, Left, PARTS, Seat, Sink, Start};
 use std::alloc::Global;
 use std::marker::Brand;
 use std::sync::Wait;
@@ -28,7 +27,7 @@ const ROUNDS: u64 = 125;
 pub struct Counting {
     pieces: u64,
     entries: u64,
-    dropped: Traces<Entry<u64>>,
+    dropped: GhostEntries<Entry<u64>>,
 }
 
 impl Counting {
@@ -38,7 +37,7 @@ impl Counting {
         Counting {
             pieces: 0,
             entries: 0,
-            dropped: Traces::none(),
+            dropped: GhostEntries::none(),
         }
     }
 }

@@ -10,15 +10,11 @@ use Rattle.std.proofs.lemmas.Bool.{lt-ltb, le-leb, ltb-true, ne_eqb, false≢tru
 use Rattle.std.proofs.lemmas.Option.{none-some, same_Some}
 use Rattle.cml_board.specs.{Entry, Who}
 use Rattle.cml_board.specs.declared.entry.Who.TheVariants.{Seat, Lane, Feed}
-use Rattle.cml_sums.specs.{Sum, Summed, sum_by, sum_word}
-use Rattle.cml_journal.specs.{What, Form, Link, Stage, number_of, IsWritten, who_word, who_number, call_text, reply_text, line_of, HasLine}
-use Rattle.cml_journal.specs.{◌>>=◌, numbered_line, with_line_end, sealed_header}
-use Rattle.cml_journal.specs.{sealed_end}
-use Rattle.cml_journal.specs.{State}
-use Rattle.cml_journal.specs.{numbered, number_before, tailed, Step, headed, headed_by, header_fault, plain_headed, sealed_headed, begun, entered}
-use Rattle.cml_journal.specs.{ended_by}
-use Rattle.cml_journal.specs.{closed_by, sealed_by, inside, from_by, behind_header, line_step, line_read, sums_line, most, held_all}
-use Rattle.cml_journal.specs.{turned, behind, reading, MaybeSum}
+use Rattle.cml_journal.specs.{Sum, Summed, sum_by, sum_word, What, Form, Link, Stage, number_of, IsWritten, who_word, who_number}
+use Rattle.cml_journal.specs.{call_text, reply_text, line_of, HasLine, ◌>>=◌, numbered_line, with_line_end, sealed_header, sealed_end}
+use Rattle.cml_journal.specs.{State, numbered, number_before, tailed, Step, headed, headed_by, header_fault, plain_headed, sealed_headed}
+use Rattle.cml_journal.specs.{begun, entered, ended_by, closed_by, sealed_by, inside, from_by, behind_header, line_step, line_read}
+use Rattle.cml_journal.specs.{sums_line, most, held_all, turned, behind, reading, MaybeSum}
 use Rattle.cml_journal.specs.declared.fault.What.TheVariants.{BadNumber, BadBytes, Gap, WrongEnd, WrongSum, TooMany, TooLong}
 use Rattle.cml_journal.specs.declared.reader.Form.TheVariants.{Plain, Sealed}
 use Rattle.cml_journal.specs.declared.reader.Link.TheVariants.{Any, First, Unsealed, Behind}
@@ -31,7 +27,7 @@ use Rattle.cml_journal.proofs.CleanLemmas.{is_dirty, clean_no_end}
 use Rattle.cml_journal.proofs.FeedLemmas.{on, reading-append, taken_line}
 use Rattle.cml_journal.proofs.StreamLemmas.{Allows, AllowsPlain, closing, link_behind}
 use Rattle.cml_journal.proofs.WordLemmas.{number_no_space}
-use Rattle.cml_sums.proofs.WordsLemmas.{word_again}
+use Rattle.cml_journal.proofs.SumWordsLemmas.{word_again}
 
 abbrev pub after_cut : List ℕ → Option (List ℕ × List ℕ) → Option ℕ
 after_cut word o = option_and_then (λ (parts : List ℕ × List ℕ). if bytes_eq parts.0 word then number_of parts.1 else None) o

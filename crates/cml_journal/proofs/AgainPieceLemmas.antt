@@ -10,13 +10,9 @@ use Rattle.std.proofs.lemmas.Bool.{eqb-true}
 use Rattle.std.proofs.lemmas.List.{append-nil}
 use Rattle.std.proofs.lemmas.Fmt.{length-decimal-le}
 use Rattle.cml_board.specs.{Entry}
-use Rattle.cml_sums.specs.{Sum, Summed, nothing_summed, sum_by, sum_word, IsSum}
-use Rattle.cml_journal.specs.{What, Form, Link, Stage, IsWritten, line_of}
-use Rattle.cml_journal.specs.{◌>>=◌, numbered_line, with_line_end, text_of, from_lines, piece_lines}
-use Rattle.cml_journal.specs.{State}
-use Rattle.cml_journal.specs.{numbered, Step}
-use Rattle.cml_journal.specs.{line_step, line_read, sums, most}
-use Rattle.cml_journal.specs.{turned, behind, reading, IsReadable}
+use Rattle.cml_journal.specs.{Sum, Summed, nothing_summed, sum_by, sum_word, IsSum, What, Form, Link, Stage, IsWritten, line_of, ◌>>=◌}
+use Rattle.cml_journal.specs.{numbered_line, with_line_end, text_of, from_lines, piece_lines, State, numbered, Step, line_step, line_read}
+use Rattle.cml_journal.specs.{sums, most, turned, behind, reading, IsReadable}
 use Rattle.cml_journal.specs.declared.fault.What.TheVariants.{BadBytes}
 use Rattle.cml_journal.specs.declared.reader.Form.TheVariants.{Plain, Sealed}
 use Rattle.cml_journal.specs.declared.reader.Link.TheVariants.{Unsealed}
@@ -25,7 +21,7 @@ use Rattle.cml_journal.proofs.CleanLemmas.{is_dirty, both_clean, printed_clean, 
 use Rattle.cml_journal.proofs.FeedLemmas.{turning, reading-line}
 use Rattle.cml_journal.proofs.PieceLemmas.{piece_text}
 use Rattle.cml_journal.proofs.StreamLemmas.{AllowsPlain, closing, link_behind, sums_both, sums_none}
-use Rattle.cml_sums.proofs.WordsLemmas.{word_printed, word_length, has_sum}
+use Rattle.cml_journal.proofs.SumWordsLemmas.{word_printed, word_length, has_sum}
 use Rattle.cml_journal.proofs.AgainLemmas.{numbered_other, at, entry_no_from, Reads, reads_then, held_whole, turning_to, line_reads}
 use Rattle.cml_journal.proofs.AgainLemmas.{inside_entry, inside_end, headed_line, MayBegin, from_step, first_step}
 

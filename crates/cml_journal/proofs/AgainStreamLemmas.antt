@@ -6,20 +6,16 @@ use Rattle.std.specs.Prelude.{codes}
 use Rattle.std.specs.List.{flat_map, AllByRecursion}
 use Rattle.std.proofs.lemmas.List.Concat.{flat_map-append}
 use Rattle.cml_board.specs.{Entry}
-use Rattle.cml_sums.specs.{Sum, nothing_summed, IsSum}
-use Rattle.cml_journal.specs.{What, Link, Stage, IsWritten}
-use Rattle.cml_journal.specs.{numbered_line, with_line_end, text_of, from_lines, piece_lines, stream_lines, sealed_header}
-use Rattle.cml_journal.specs.{sealed_end}
-use Rattle.cml_journal.specs.{piece_sum, sealed_piece_lines, sealed_stream_lines, stream_sum, State, fresh, end_of}
-use Rattle.cml_journal.specs.{sums, most}
-use Rattle.cml_journal.specs.{reading, IsSealedRead, MaybeSum}
+use Rattle.cml_journal.specs.{Sum, nothing_summed, IsSum, What, Link, Stage, IsWritten, numbered_line, with_line_end, text_of, from_lines}
+use Rattle.cml_journal.specs.{piece_lines, stream_lines, sealed_header, sealed_end, piece_sum, sealed_piece_lines, sealed_stream_lines}
+use Rattle.cml_journal.specs.{stream_sum, State, fresh, end_of, sums, most, reading, IsSealedRead, MaybeSum}
 use Rattle.cml_journal.specs.declared.reader.Form.TheVariants.{Sealed}
 use Rattle.cml_journal.specs.declared.reader.Link.TheVariants.{Any, Unsealed, Behind}
 use Rattle.cml_journal.specs.declared.reader.Stage.TheVariants.{Waiting, Headed}
 use Rattle.cml_journal.proofs.CleanLemmas.{is_dirty, numbered_clean}
 use Rattle.cml_journal.proofs.PieceLemmas.{sealed_piece_text}
 use Rattle.cml_journal.proofs.StreamLemmas.{Allows, piece_summed}
-use Rattle.cml_sums.proofs.WordsLemmas.{text_has_sum}
+use Rattle.cml_journal.proofs.SumWordsLemmas.{text_has_sum}
 use Rattle.cml_journal.proofs.AgainLemmas.{at, Reads, reads_then, line_reads, sealed_line, MayBegin}
 use Rattle.cml_journal.proofs.AgainPieceLemmas.{entry_text, AreReadable, short_numbered, short_is_short, tail_clean, tail_short, opened}
 use Rattle.cml_journal.proofs.AgainPieceLemmas.{left_behind, behind_head, piece_reads}

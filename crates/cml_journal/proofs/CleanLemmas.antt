@@ -9,7 +9,7 @@ use Rattle.std.proofs.lemmas.List.Folds.{list_any-append}
 use Rattle.cml_board.specs.{Name, Call, Entry, Who, Reply, object_in, message_of, row_of}
 use Rattle.cml_board.specs.declared.entry.Who.TheVariants.{Seat, Lane, Feed}
 use Rattle.cml_board.specs.declared.entry.Reply.TheVariants.{Done, Made, Got, Nothing, Put, Closed}
-use Rattle.cml_messages.specs.{is_text_byte}
+use Rattle.cml_calls.specs.{is_text_byte}
 use Rattle.cml_grammar.specs.{is_bad_byte}
 use Rattle.cml_journal.specs.NumberLaws.{number_printed}
 use Rattle.cml_journal.specs.{IsWritten, who_word, who_number, who_text, field, call_text, reply_text, line_of, ReplyFits, HasLine}

@@ -6,7 +6,7 @@ use Rattle.std.specs.Option.{option_map, MatchOption}
 use Rattle.std.proofs.lemmas.Bool.{and_parts, or_parts, leb-true, eqb-true, ne_eqb}
 use Rattle.std.proofs.lemmas.Option.{none-some, same_Some}
 use denote.Ref.{Bor}
-use Rattle.cml_messages.specs.{is_text_byte}
+use Rattle.cml_calls.specs.{is_text_byte}
 use Rattle.cml_grammar.proofs.ListLemmas.{mapped_some}
 use Rattle.cml_journal.specs.{cut, without_colon}
 

@@ -1,3 +1,6 @@
+pub mod DigitsLemmas
+pub mod SumsLemmas
+pub mod SumWordsLemmas
 pub mod CutWordsLemmas
 pub mod EscapeStepsLemmas
 pub mod WordLemmas

@@ -11,21 +11,19 @@ use Rattle.std.proofs.lemmas.List.{append-nil, nil_from_length}
 use Rattle.std.proofs.lemmas.Option.{none-some}
 use Rattle.cml_board.specs.{Entry}
 use Rattle.cml_grammar.specs.{is_bad_byte}
-use Rattle.cml_sums.specs.{Sum, Summed, nothing_summed, sum_by, sum_word, sum_in}
-use Rattle.cml_journal.specs.{What, Form, Link, Stage, IsWritten, ◌>>=◌, entry_in, numbered_line, with_line_end}
-use Rattle.cml_journal.specs.{text_of, IsTextOf, from_lines, sealed_header, sealed_end}
-use Rattle.cml_journal.specs.{State, fresh, end_by, end_of, numbered, tailed, headed}
-use Rattle.cml_journal.specs.{headed_by, header_fault, plain_headed, sealed_headed, begun, entered, ended_by, closed_by, sealed_by, inside, from_by}
-use Rattle.cml_journal.specs.{behind_header, line_step, line_read, sums, sums_line, most, held, turned, no_entry, byte_read, behind}
-use Rattle.cml_journal.specs.{reading}
+use Rattle.cml_journal.specs.{Sum, Summed, nothing_summed, sum_by, sum_word, sum_in, What, Form, Link, Stage, IsWritten, ◌>>=◌, entry_in}
+use Rattle.cml_journal.specs.{numbered_line, with_line_end, text_of, IsTextOf, from_lines, sealed_header, sealed_end, State, fresh}
+use Rattle.cml_journal.specs.{end_by, end_of, numbered, tailed, headed, headed_by, header_fault, plain_headed, sealed_headed, begun}
+use Rattle.cml_journal.specs.{entered, ended_by, closed_by, sealed_by, inside, from_by, behind_header, line_step, line_read, sums}
+use Rattle.cml_journal.specs.{sums_line, most, held, turned, no_entry, byte_read, behind, reading, IsJournalOf, waiting_at}
+use Rattle.cml_journal.specs.{sealed_stream_lines, stream_lines}
 use Rattle.cml_journal.specs.declared.fault.What.TheVariants.{BadNumber, BadBytes, NoHeader, Gap, WrongEnd, WrongSum, TooMany, TooLong}
 use Rattle.cml_journal.specs.declared.reader.Form.TheVariants.{Plain, Sealed}
 use Rattle.cml_journal.specs.declared.reader.Link.TheVariants.{Any, First, Unsealed, Behind}
 use Rattle.cml_journal.specs.declared.reader.Stage.TheVariants.{Waiting, Headed, Inside}
 use Rattle.cml_journal.proofs.WordLemmas.{bind_ok, ok_is, chosen, passed, not_failed, same_bytes}
 use Rattle.cml_journal.proofs.EntryLemmas.{entry_takes}
-use Rattle.cml_sums.proofs.WordsLemmas.{word_takes}
-use Rattle.cml_journal.specs.{IsJournalOf, waiting_at, sealed_stream_lines, stream_lines}
+use Rattle.cml_journal.proofs.SumWordsLemmas.{word_takes}
 use Rattle.cml_journal.proofs.StreamLemmas.{numbered_takes, tailed_takes, StartsAt, Allows, AllowsPlain, IsText, Whole, sums_none, Rest}
 use Rattle.cml_journal.proofs.StreamLemmas.{Opened, Claim, Ready, header_adds, sealed_adds, end_adds, entry_adds}
 

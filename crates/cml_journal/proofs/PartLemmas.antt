@@ -8,9 +8,8 @@ use Rattle.std.proofs.lemmas.List.{append-nil, take_more}
 use Rattle.std.proofs.lemmas.List.Concat.{flat_map-append}
 use Rattle.std.proofs.lemmas.Bool.{false≢true}
 use Rattle.std.specs.Option.{option_map}
-use Rattle.cml_sums.specs.{Summed, and_bytes}
-use Rattle.cml_sums.proofs.SumsLemmas.{nothing_more, parts_summed}
-use Rattle.cml_journal.specs.{WritesSummed}
+use Rattle.cml_journal.specs.{Summed, and_bytes, WritesSummed}
+use Rattle.cml_journal.proofs.SumsLemmas.{nothing_more, parts_summed}
 
 pub on_ok : {A E P Q : Type 0} (r : Result A E) → (P → Q) → OnOk r P → OnOk r Q
 on_ok (Ok x) f p = f p

@@ -5,8 +5,7 @@ use Rattle.std.specs.List.{flat_map}
 use Rattle.std.proofs.lemmas.List.{append-nil}
 use Rattle.std.proofs.lemmas.List.Concat.{flat_map-append}
 use Rattle.cml_board.specs.{Entry}
-use Rattle.cml_sums.specs.{Sum}
-use Rattle.cml_journal.specs.{line_of, numbered_line, with_line_end, text_of, from_lines, head_lines, piece_lines, sealed_header}
+use Rattle.cml_journal.specs.{Sum, line_of, numbered_line, with_line_end, text_of, from_lines, head_lines, piece_lines, sealed_header}
 use Rattle.cml_journal.specs.{sealed_lines, sealed_end, sealed_piece_lines, piece_sum}
 
 pub flat_map-map : {X Y Z : Type 0} (f : Y → List Z) (g : X → Y) (xs : List X) → flat_map f (map g xs) ≡ flat_map (λ x. f (g x)) xs

@@ -9,11 +9,10 @@ use Rattle.std.proofs.lemmas.Bool.{eqb-true, ltb-true}
 use Rattle.std.proofs.lemmas.Option.{none-some, same_Some}
 use Rattle.cml_board.specs.{Entry}
 use Rattle.cml_grammar.specs.{is_bad_byte}
-use Rattle.cml_sums.specs.{Sum, Summed, sum_by, sum_word, sum_in}
-use Rattle.cml_journal.specs.{What, Form, Link, Stage, ◌>>=◌, entry_in, State, Step, waiting_at, end_of, end_by, numbered, tailed, headed}
-use Rattle.cml_journal.specs.{headed_by, header_fault, plain_headed, sealed_headed, sealed_where, begun, entered, ended_by, closed_by, sealed_by, inside}
-use Rattle.cml_journal.specs.{from_by, behind_header, line_step, line_read, sums_line, held, turned, no_entry, byte_read, Read}
-use Rattle.cml_journal.specs.{behind, reading}
+use Rattle.cml_journal.specs.{Sum, Summed, sum_by, sum_word, sum_in, What, Form, Link, Stage, ◌>>=◌, entry_in, State, Step, waiting_at}
+use Rattle.cml_journal.specs.{end_of, end_by, numbered, tailed, headed, headed_by, header_fault, plain_headed, sealed_headed}
+use Rattle.cml_journal.specs.{sealed_where, begun, entered, ended_by, closed_by, sealed_by, inside, from_by, behind_header, line_step}
+use Rattle.cml_journal.specs.{line_read, sums_line, held, turned, no_entry, byte_read, Read, behind, reading}
 use Rattle.cml_journal.specs.declared.fault.What.TheVariants.{BadNumber, BadBytes, Gap, WrongEnd, WrongSum, TooMany, TooLong}
 use Rattle.cml_journal.specs.declared.reader.Form.TheVariants.{Plain, Sealed}
 use Rattle.cml_journal.specs.declared.reader.Link.TheVariants.{Any, First, Unsealed, Behind}

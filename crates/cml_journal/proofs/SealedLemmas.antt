@@ -2,9 +2,8 @@
 use Rattle.std.proofs.Common.{◌≡◌, ℕ, ◌≤◌, List, [], ◌∷◌, ◌++◌, length, drop, Option, refl, sym, ap, ◌∙◌, arith, append_assoc}
 use Rattle.std.proofs.Common.{length-append}
 use Rattle.cml_board.specs.{Entry}
-use Rattle.cml_sums.specs.{Sum, Summed, nothing_summed, and_bytes, sum_by, sum_of}
-use Rattle.cml_sums.proofs.SumsLemmas.{parts_summed, whole_sum}
-use Rattle.cml_journal.specs.{text_of, piece_sum}
+use Rattle.cml_journal.specs.{Sum, Summed, nothing_summed, and_bytes, sum_by, sum_of, text_of, piece_sum}
+use Rattle.cml_journal.proofs.SumsLemmas.{parts_summed, whole_sum}
 use Rattle.cml_journal.proofs.PieceLemmas.{sealed_head, sealed_front}
 use Rattle.cml_journal.proofs.StreamLemmas.{entry_lines}
 

@@ -9,12 +9,9 @@ use Rattle.std.proofs.lemmas.List.Concat.{flat_map-append}
 use Rattle.std.proofs.lemmas.Option.{none-some, same_Some}
 use Rattle.cml_board.specs.{Entry}
 use Rattle.std.specs.Fmt.{decimal}
-use Rattle.cml_sums.specs.{Sum, Summed, nothing_summed, and_bytes, sum_by, sum_of}
-use Rattle.cml_journal.specs.{Form, Link, Stage, number_of, line_of, cut, numbered_line, with_line_end}
-use Rattle.cml_journal.specs.{text_of, from_lines, piece_lines, stream_lines, sealed_header, sealed_end, sealed_piece_lines}
-use Rattle.cml_journal.specs.{piece_sum}
-use Rattle.cml_journal.specs.{sealed_stream_lines, numbered, number_before, tailed}
-use Rattle.cml_journal.specs.{sums}
+use Rattle.cml_journal.specs.{Sum, Summed, nothing_summed, and_bytes, sum_by, sum_of, Form, Link, Stage, number_of, line_of, cut}
+use Rattle.cml_journal.specs.{numbered_line, with_line_end, text_of, from_lines, piece_lines, stream_lines, sealed_header, sealed_end}
+use Rattle.cml_journal.specs.{sealed_piece_lines, piece_sum, sealed_stream_lines, numbered, number_before, tailed, sums}
 use Rattle.cml_journal.specs.declared.reader.Form.TheVariants.{Plain, Sealed}
 use Rattle.cml_journal.specs.declared.reader.Link.TheVariants.{Any, First, Unsealed, Behind}
 use Rattle.cml_journal.specs.declared.reader.Stage.TheVariants.{Waiting, Headed, Inside}
@@ -22,7 +19,7 @@ use Rattle.cml_journal.specs.NumberLaws.{number_only}
 use Rattle.cml_journal.proofs.CutWordsLemmas.{cut_takes}
 use Rattle.cml_journal.proofs.WordLemmas.{chosen, same_bytes}
 use Rattle.cml_journal.proofs.PieceLemmas.{piece_text, sealed_piece_text, sealed_front}
-use Rattle.cml_sums.proofs.SumsLemmas.{parts_summed, nothing_more, whole_sum}
+use Rattle.cml_journal.proofs.SumsLemmas.{parts_summed, nothing_more, whole_sum}
 
 pub numbered_takes : (word line : List ℕ) (n : ℕ) → numbered word line ≡ Some n → line ≡ numbered_line word n
 numbered_takes word line n e = by (cut line) refl e

@@ -1,7 +1,7 @@
 -- What the next line of a journal may be, and what of it was found, as a person reads that.
 use Rattle.std.specs.Prelude.{ℕ, ◌+◌, ◌^◌, ◌==◌, nat_lt, if◌then◌else◌, List, [], ◌++◌, length, map, take, Some, None, codes}
 use Rattle.cml_grammar.specs.{is_bad_byte}
-use Rattle.cml_sums.specs.{Summed, sum_by}
+use Rattle.cml_journal.specs.Sums.{Summed, sum_by}
 use Rattle.cml_journal.specs.declared.fault.What.{What}
 use Rattle.cml_journal.specs.declared.fault.What.TheVariants.{TooLong}
 use Rattle.cml_journal.specs.declared.reader.Form.{Form}

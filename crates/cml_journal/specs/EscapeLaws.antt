@@ -7,7 +7,7 @@ use Rattle.std.specs.Option.{option_map, option_and_then}
 use Rattle.std.proofs.lemmas.Bool.{and_parts, and_from, leb-true, ltb-true, lt-ltb, eqb-true}
 use Rattle.std.proofs.lemmas.Bool.Decides.{nat_tests}
 use Rattle.std.proofs.lemmas.Option.{none-some, same_Some, cond_some}
-use Rattle.cml_messages.specs.{is_text_byte}
+use Rattle.cml_calls.specs.{is_text_byte}
 use Rattle.cml_journal.specs.Written.{IsWritten}
 use Rattle.cml_journal.specs.Escapes.{is_plain, byte_text, bytes_text, are_bytes, is_message, digit_in, unless_plain, escaped}
 use Rattle.cml_journal.specs.Escapes.{before, plain, bytes_in, if_short, message_of_word}

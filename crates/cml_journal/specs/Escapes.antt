@@ -4,7 +4,7 @@ use Rattle.std.specs.Prelude.{List, [], ◌∷◌, length, Option, Some, None}
 use Rattle.std.specs.Fmt.{digit_glyph}
 use Rattle.std.specs.List.{flat_map, list_all}
 use Rattle.std.specs.Option.{option_map, option_and_then}
-use Rattle.cml_messages.specs.{is_text_byte}
+use Rattle.cml_calls.specs.{is_text_byte}
 
 -- a byte that is written as it is: printed, no space and no `%`
 abbrev pub is_plain : ℕ → Bool

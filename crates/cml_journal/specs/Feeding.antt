@@ -7,7 +7,9 @@ use Rattle.std.specs.List.{list_any, flat_map}
 use Rattle.std.specs.Str.{bytes_eq}
 use Rattle.cml_board.specs.{Entry}
 use Rattle.cml_grammar.specs.{is_bad_byte}
-use Rattle.cml_sums.specs.{Summed, nothing_summed, and_bytes, sum_by, Sum, IsSum, sum_word, sum_in}
+use Rattle.cml_journal.specs.declared.sum.Sum.{Sum}
+use Rattle.cml_journal.specs.Sums.{Summed, nothing_summed, and_bytes, sum_by}
+use Rattle.cml_journal.specs.SumWords.{IsSum, sum_word, sum_in}
 use Rattle.cml_journal.specs.declared.fault.What.{What}
 use Rattle.cml_journal.specs.declared.fault.What.TheVariants.{BadNumber, BadBytes, NoHeader, OtherVersion, OtherType, Gap, WrongEnd}
 use Rattle.cml_journal.specs.declared.fault.What.TheVariants.{WrongSum, TooMany, TooLong}

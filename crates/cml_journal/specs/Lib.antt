@@ -12,6 +12,8 @@ pub mod Lengths
 pub mod Faults
 pub mod Due
 pub mod Checks
+pub mod Sums
+pub mod SumWords
 -- the names that others import from here
 pub use Lines.{HasLine, ReplyFits, call_text, field, line_of, reply_text, who_number, who_text, who_word}
 pub use Reading.{Fails, Gives, call_by, called_by, cut, ok_or, told_by, without_colon, ◌>>=◌}
@@ -35,6 +37,9 @@ pub use Faults.{HasFault, HasFront, Leaves, Meets}
 pub use Due.{due_inside, due_line, end_due, first_due, from_due, headers_due, quoted, shown_byte, shown_front, shown_line, stage_due}
 pub use Checks.{Goes, HaltTells, HaltsIn, IsFaultyJournal, IsLawfulJournal, IsRestored, IsSoFar, IsSpent, IsTold, IsUnlawfulJournal}
 pub use Checks.{MayHaltAt, Progress, ShowsFault, ShowsFront, ShowsUnlawful, StopsIn, halt_of, is_whole, line_of_last}
+pub use Sums.{Summed, nothing_summed, and_byte, sum_by, sum_of}
+unfoldable pub use Sums.{and_bytes}
+pub use SumWords.{sum_word, sum_in, IsSum}
 pub use declared.fault.Unread.{Unread}
 pub use declared.fault.Unwritten.{Unwritten}
 pub use declared.fault.What.{What}
@@ -43,3 +48,4 @@ pub use declared.reader.Link.{Link}
 pub use declared.reader.Stage.{Stage}
 pub use declared.stop.Halt.{Halt}
 pub use declared.stop.Stop.{Stop}
+pub use declared.sum.Sum.{Sum}

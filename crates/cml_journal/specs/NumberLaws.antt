@@ -10,8 +10,8 @@ use Rattle.std.proofs.lemmas.Fmt.{decimal-digits_value, digits_decimal, digits_v
 use Rattle.std.proofs.lemmas.Fmt.{first_decimal, decimal_digit}
 use Rattle.std.proofs.lemmas.Option.{cond_some}
 use Rattle.std.proofs.lemmas.Str.Parse.{numerals_by_value, tells_all_ascii_digits}
-use Rattle.cml_messages.specs.{is_text_byte}
-use Rattle.cml_messages.proofs.TextLemmas.{number_is_text}
+use Rattle.cml_calls.specs.{is_text_byte}
+use Rattle.cml_calls.proofs.TextLemmas.{number_is_text}
 use Rattle.cml_grammar.specs.{is_number}
 use Rattle.cml_journal.specs.Numbers.{is_small, number_of}
 use Rattle.cml_journal.specs.Written.{IsWritten}

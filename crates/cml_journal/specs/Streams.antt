@@ -5,7 +5,9 @@ use Rattle.std.specs.List.{flat_map}
 use Rattle.std.specs.Option.{option_map}
 use Rattle.std.specs.Io.KnownBytes.{Appends}
 use Rattle.cml_board.specs.{Entry}
-use Rattle.cml_sums.specs.{Sum, Summed, and_bytes, sum_of, sum_word}
+use Rattle.cml_journal.specs.declared.sum.Sum.{Sum}
+use Rattle.cml_journal.specs.Sums.{Summed, and_bytes, sum_of}
+use Rattle.cml_journal.specs.SumWords.{sum_word}
 use Rattle.cml_journal.specs.Lines.{line_of}
 
 -- a word and a number

@@ -1,7 +1,7 @@
 -- How messages are words of a line.
 use Rattle.std.specs.Prelude.{◌≡◌, ℕ, Bool, true, List, Option, Some, None, codes}
 use Rattle.std.specs.List.{list_all}
-use Rattle.cml_messages.specs.{is_text_byte}
+use Rattle.cml_calls.specs.{is_text_byte}
 
 -- `text` writes the messages that `fits`, and `read` reads them.
 pub record IsWritten {M : Type 0} (text : M → List ℕ) (fits : M → Bool) (read : List ℕ → Option M) : Type 0 where

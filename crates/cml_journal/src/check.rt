@@ -2,17 +2,17 @@
 ghost use Rattle.std.specs.Prelude.{◌≡◌, ◌≤◌, ◌-◌, ◌^◌, ◌∷◌, ◌++◌, ℕ, List, [], Ok, None, Some, length, IfOk, IfErr, IfSome, IsNone};
 ghost use Rattle.std.specs.Prelude.{OnOk, OnErr, OnSome, IsErr, IsTrue, is_none, not, ◌&&◌, ◌==◌, option_map, string_bytes};
 ghost use Rattle.cml_board.specs.{Feeds, count_of, expected_of};
-ghost use Rattle.cml_journal.specs.{Halt, State, end_of, IsSoFar, Goes, HaltsIn, StopsIn, MayHaltAt, IsTold, IsSpent, is_whole};
-ghost use Rattle.cml_journal.specs.{due_line, line_of_last, kept_sum, last_sum, shown_line, IsLawfulJournal, IsRestored};
+ghost use Rattle.cml_journal.specs.{Halt, State, end_of, IsSoFar, Goes, HaltsIn, StopsIn, MayHaltAt, IsTold, IsSpent, is_whole, due_line};
+ghost use Rattle.cml_journal.specs.{line_of_last, kept_sum, last_sum, shown_line, IsLawfulJournal, IsRestored};
 
 use crate::fault::What;
 use crate::reader::Reader;
 use crate::stop::{Halt, Stop};
+use crate::sum::Sum;
 use crate::writing::write_entry;
 use crate::written::Written;
 use cml_board::{BoardLog, Checker, Entry, Expected, Message, Restored};
 use cml_log::MessageLog;
-use cml_sums::Sum;
 use std::alloc::{AllocError, Global};
 use std::marker::Model;
 

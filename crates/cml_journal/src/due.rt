@@ -1,11 +1,12 @@
 //! What the next line of a journal may be, and what of it was found, in words for a person.
 ghost use Rattle.std.specs.Prelude.{◌≡◌, ◌+◌, ◌++◌, ◌==◌, ◌<◌, if◌then◌else◌, OnOk, Some, string_bytes, map, take};
-ghost use Rattle.cml_journal.specs.{due_inside, end_due, first_due, from_due, headers_due, named_line, quoted, sealed_header};
-ghost use Rattle.cml_journal.specs.{shown_byte, shown_front, shown_line, stage_due};
+ghost use Rattle.cml_journal.specs.{due_inside, end_due, first_due, from_due, headers_due, named_line, quoted, sealed_header, shown_byte};
+ghost use Rattle.cml_journal.specs.{shown_front, shown_line, stage_due};
 
 use crate::reader::{Form, Link, Stage};
+use crate::sum::Sum;
+use crate::summing::Summing;
 use crate::written::Written;
-use cml_sums::{Sum, Summing};
 use std::alloc::AllocError;
 
 /// The most bytes of a line that are shown.

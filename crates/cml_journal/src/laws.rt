@@ -3,8 +3,7 @@ ghost use Rattle.std.specs.Prelude.{◌≡◌, ℕ, ◌+◌, ◌^◌, ◌<◌, �
 ghost use Rattle.std.specs.List.{flat_map, AllByRecursion};
 ghost use Rattle.cml_board.specs.{Entry};
 ghost use Rattle.cml_journal.specs.{line_of, HasLine, entry_in, text_of, stream_lines, What, State, fresh, end_of, behind, reading};
-ghost use Rattle.cml_journal.specs.{IsReadable, IsJournalOf, IsTextOf, IsSealedRead, MaybeSum, waiting_at};
-ghost use Rattle.cml_sums.specs.{Sum};
+ghost use Rattle.cml_journal.specs.{IsReadable, IsJournalOf, IsTextOf, IsSealedRead, MaybeSum, waiting_at, Sum};
 
 use crate::written::Written;
 

@@ -1,4 +1,4 @@
-//! Journals as text: how an entry is written on a line, and read back.
+//! Journals as text: how an entry is written on a line and read back, and the sum of a text.
 #![tactic(auto)]
 
 mod bytes;
@@ -12,12 +12,13 @@ mod reading;
 mod sealed;
 mod spelling;
 mod stop;
+mod sum;
+mod summing;
 mod words;
 mod writing;
 mod written;
 
 pub use check::Check;
-pub use cml_sums::Sum;
 pub use fault::{TooLong, Unread, Unwritten, What};
 pub use laws::{
     journals_are_pieces, lines_are_entries, pieces_are_read, sealed_pieces_are_read,
@@ -29,5 +30,7 @@ pub use reading::read_entry;
 pub use sealed::{add_sealed_piece, write_sealed_piece};
 pub use spelling::{ScriptWords, Spelling};
 pub use stop::{Halt, Stop};
+pub use sum::Sum;
+pub use summing::Summing;
 pub use writing::{write_entry, write_reply};
 pub use written::Written;

@@ -4,18 +4,17 @@ ghost use Rattle.std.specs.Prelude.{MatchBool, MatchOption, string_bytes, length
 ghost use Rattle.std.specs.Io.KnownBytes.{Appends};
 ghost use Rattle.std.specs.List.{flat_map};
 ghost use Rattle.std.specs.Option.{option_map};
-ghost use Rattle.cml_sums.specs.{Summed, and_bytes};
-ghost use Rattle.cml_journal.specs.{line_of, numbered_line, with_line_end, text_of, from_lines, head_lines, piece_lines, WritesSummed};
-ghost use Rattle.cml_journal.specs.{most, IsShort, AreShort, IsTooLong, MayBeTooLong};
+ghost use Rattle.cml_journal.specs.{Summed, and_bytes, line_of, numbered_line, with_line_end, text_of, from_lines, head_lines};
+ghost use Rattle.cml_journal.specs.{piece_lines, WritesSummed, most, IsShort, AreShort, IsTooLong, MayBeTooLong};
 
 use crate::fault::{TooLong, Unwritten};
 use crate::reader::MOST;
 use crate::spelling::{OwnWords, Spelling};
+use crate::summing::Summing;
 use crate::writing::{write_entry, write_entry_in};
 use crate::written::Written;
 use cml_board::Entry;
 use cml_grammar::write_whole;
-use cml_sums::Summing;
 use std::alloc::{AllocError, Global};
 use std::io::{self, Write};
 

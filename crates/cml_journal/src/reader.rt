@@ -2,21 +2,22 @@
 ghost use Rattle.std.specs.Prelude.{◌≡◌, ◌≤◌, ◌-◌, ◌+◌, ◌==◌, ◌++◌, ◌∷◌, [], ℕ, List, Ok, false, length, position, IfOk, IfErr};
 ghost use Rattle.std.specs.Prelude.{OnOk, OnErr, OnSome, MatchOption, string_bytes};
 ghost use Rattle.std.specs.Option.{option_map, option_to_list};
-ghost use Rattle.cml_sums.specs.{nothing_summed};
-ghost use Rattle.cml_journal.specs.{Gives, Meets, State, fresh, waiting_at, numbered, tailed, headed, begun, entered};
+ghost use Rattle.cml_journal.specs.{nothing_summed, Gives, Meets, State, fresh, waiting_at, numbered, tailed, headed, begun, entered};
 ghost use Rattle.cml_journal.specs.{plain_headed, sealed_where, sealed_headed, headed_by, sealed_by, closed_by, ended_by, inside_by};
 ghost use Rattle.cml_journal.specs.{inside, from_by, behind_header, line_step, line_read, sums, sums_line, has_line_end, held_all, most};
-ghost use Rattle.cml_journal.specs.{turned, reading, end_of, kept_sum, last_sum, with_line_end, header_fault, Leaves, due_line, shown_line};
+ghost use Rattle.cml_journal.specs.{turned, reading, end_of, kept_sum, last_sum, with_line_end, header_fault, Leaves, due_line};
+ghost use Rattle.cml_journal.specs.{shown_line};
 ghost use Rattle.cml_journal.specs.declared.reader.Form.TheVariants.{Plain, Sealed};
 
 use crate::due::{write_due, write_found};
 use crate::fault::{Unread, What};
 use crate::reading::read_entry;
+use crate::sum::Sum;
+use crate::summing::Summing;
 use crate::words::{numbered, tailed};
 use crate::written::Written;
 use cml_board::Entry;
 use cml_grammar::has_bad_byte;
-use cml_sums::{Sum, Summing};
 use std::alloc::{AllocError, Global};
 use std::marker::Model;
 

@@ -2,16 +2,16 @@
 ghost use Rattle.std.specs.Prelude.{◌≡◌, ◌<◌, ◌≤◌, ◌+◌, drop, ◌^◌, ◌++◌, ◌∷◌, IfSome, IfOk, IfErr, OnOk, OnErr, string_bytes, length};
 ghost use Rattle.std.specs.Io.KnownBytes.{Appends};
 ghost use Rattle.cml_journal.specs.{named_line, with_line_end, text_of, from_lines, sealed_header, piece_sum, sealed_piece_lines};
-ghost use Rattle.cml_journal.specs.{AreShort, IsTooLong, MayBeTooLong};
-ghost use Rattle.cml_sums.specs.{and_bytes, sum_by, sum_of};
+ghost use Rattle.cml_journal.specs.{AreShort, IsTooLong, MayBeTooLong, and_bytes, sum_by, sum_of};
 
 use crate::fault::{TooLong, Unwritten};
 use crate::pieces::{too_long, write_entries, write_from, write_lines};
 use crate::spelling::OwnWords;
+use crate::sum::Sum;
+use crate::summing::Summing;
 use crate::written::Written;
 use cml_board::Entry;
 use cml_grammar::write_whole;
-use cml_sums::{Sum, Summing};
 use std::alloc::{AllocError, Global};
 use std::io::{self, Write};
 

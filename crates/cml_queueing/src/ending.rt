@@ -47,7 +47,7 @@ impl From<Refusal> for Ending {
     }
 }
 
-impl cml_shell::Ending for Ending {
+impl cml_grammar::shell::Ending for Ending {
     ghost use Rattle.cml_queueing.specs.Endings.{status, is_shown};
 
     ghost status = { status };

@@ -16,7 +16,7 @@ mod simulation;
 mod station;
 
 use asked::asked_by;
-use cml_shell::{NoOrder, end, words};
+use cml_grammar::shell::{NoOrder, end, words};
 use ending::Ending;
 use performing::perform;
 use std::process::ExitCode;

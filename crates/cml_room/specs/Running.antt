@@ -102,7 +102,7 @@ module _ {M : Type 0} where
   NobodyForgotten calls room = (seat : ℕ) (on : Want) → state_of room seat ≡ Some (Parked on)
       → (is_returned calls seat ≡ true) ⊎ MaySleep calls room on
 
-  -- a seat waits that was returned in the run, and has not asked since: its thread was woken, and asks next
+  -- a seat waits that was returned in the run, and has not asked since: it asks next
   abbrev pub AnotherAsksNext : List RoomCall → RoomShown M → Type 0
   AnotherAsksNext calls room = (on : Want) × HasReturned calls room on
 

@@ -33,8 +33,8 @@ pub fn asked_is_not_due<M>()
 {}
 
 /// Shows that nobody is left asleep. Take any run of calls since the room was made or restored, and then a `next_due` that
-/// returned none. Then each seat that waits was returned by a `next_due`, and has not asked since: its thread was woken, and
-/// asks next. Or it may sleep: what it waits for isn't there, and the journal has room, or another seat that waits for the
+/// returned none. Then each seat that waits was returned by a `next_due`, and has not asked since: it asks
+/// next. Or it may sleep: what it waits for isn't there, and the journal has room, or another seat that waits for the
 /// very same was returned, and has not asked since; and there is no stall.
 ///
 /// It doesn't say that the thread of a seat which was returned does ask. That is for the caller.

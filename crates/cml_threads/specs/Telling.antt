@@ -44,11 +44,11 @@ module _ {M : Type 0} where
   suits call reply = may_have (row_of call) reply
 
   -- the call is answered, in a form that it has, and counted for its seat; or it is returned, and not counted
-  abbrev pub Tells : Sitting → Sitting → Call M → Outcome M → Type 0
-  Tells before after call (outcome.Answered answer) =
+  abbrev pub Returns : Sitting → Sitting → Call M → Outcome M → Type 0
+  Returns before after call (outcome.Answered answer) =
       (answer.call ≡ call) × (suits call answer.reply ≡ true) × (after ≡ raised before)
-  Tells before after call (outcome.WouldWait back) = (back ≡ call) × (after ≡ before)
-  Tells before after call (outcome.Refused refusal back) = MayRefuse (want_in call) refusal × (back ≡ call) × (after ≡ before)
+  Returns before after call (outcome.WouldWait back) = (back ≡ call) × (after ≡ before)
+  Returns before after call (outcome.Refused refusal back) = MayRefuse (want_in call) refusal × (back ≡ call) × (after ≡ before)
 
   -- the same of a call whose reply alone is returned
   abbrev pub Responds : Sitting → Sitting → Call M → Response M → Type 0

@@ -1,11 +1,11 @@
-//! A hall under its lock. A thread that has locked it lets go of it in one way alone: it takes the seat that is due next, unlocks
-//! the hall, and unparks that seat's thread.
+//! A hall under its lock. A thread that has locked it can release it only by `unlock` and `unlock_after`: they take the seat
+//! that is due next, unlock the hall, and unpark that seat's thread.
 ghost use Rattle.cml_threads.specs.{UnparksNext};
 
 use crate::backoff::{LOCK_LOOKS, pause_for_lock};
 use crate::hall::Hall;
 use crate::parker::{Parkers, Unparked};
-use crate::turn::{Turn, unlock};
+use crate::turn::{Turn, end_turn};
 use crate::yields::Yields;
 use cml_board::Message;
 use cml_log::MessageLog;
@@ -62,20 +62,20 @@ impl<M: Message, L: MessageLog<M>, Led: Ledger> Locked<M, L, Led> {
 
     /// Takes the seat that is due next, if there is one that was not woken, and unlocks the hall. Then it unparks that seat's thread.
     /// That thread locks the hall next, makes its call, and then does the same.
-    pub fn let_go(&self, turn: Turn<'_, M, L, Led>) -> Option<Unparked>
+    pub fn unlock(&self, turn: Turn<'_, M, L, Led>) -> Option<Unparked>
         ensures { UnparksNext turn.entry result }
     {
-        let due = unlock(turn)?;
+        let due = end_turn(turn)?;
         // `by` is the seat itself, so its parker never takes this wake for an answer.
         let seat = due.seat();
         Some(self.parkers.unpark(due, seat))
     }
 
-    /// Does what `let_go` does, after a seat's call whose thread waits next, maybe for what the woken one does.
-    pub fn let_go_by(&self, turn: Turn<'_, M, L, Led>, seat: u64) -> Option<Unparked>
+    /// Does what `unlock` does, after a seat's call whose thread waits next, maybe for what the woken one does.
+    pub fn unlock_after(&self, turn: Turn<'_, M, L, Led>, seat: u64) -> Option<Unparked>
         ensures { UnparksNext turn.entry result }
     {
-        let due = unlock(turn)?;
+        let due = end_turn(turn)?;
         let unparked = self.parkers.unpark(due, seat);
         self.parkers.note_unparked(seat, &unparked);
         Some(unparked)

@@ -1,7 +1,7 @@
 ghost use Rattle.std.specs.Prelude.{◌≡◌, ◌+◌, ◌^◌, ◌≤◌, true, IfOk, IfErr, OnOk};
 ghost use Rattle.cml_board.specs.declared.outcome.Refusal.TheVariants.{Busy, NoMemory};
 ghost use Rattle.cml_board.specs.{want_in, entries_in, rings_in};
-ghost use Rattle.cml_threads.specs.{HaveLeft, raised, answers_in, suits, MayRefuse, Tells};
+ghost use Rattle.cml_threads.specs.{HaveLeft, raised, answers_in, suits, MayRefuse, Returns};
 
 mod channels;
 mod compacting;
@@ -97,7 +97,7 @@ impl<M: Message, L: MessageLog<M>, Led: Ledger> Switchboard<M, L, Led> {
     {
         let mut turn = self.locked.lock(rt);
         let made = self.make_seat(rt, turn.hall());
-        self.locked.let_go(turn);
+        self.locked.unlock(turn);
         made
     }
 
@@ -119,7 +119,7 @@ impl<M: Message, L: MessageLog<M>, Led: Ledger> Switchboard<M, L, Led> {
     {
         let mut turn = self.locked.lock(rt);
         let told = turn.hall().reserve(n);
-        self.locked.let_go(turn);
+        self.locked.unlock(turn);
         told
     }
 
@@ -131,7 +131,7 @@ impl<M: Message, L: MessageLog<M>, Led: Ledger> Switchboard<M, L, Led> {
     {
         let mut turn = self.locked.lock(rt);
         let told = turn.hall().cut();
-        self.locked.let_go(turn);
+        self.locked.unlock(turn);
         told
     }
 
@@ -142,7 +142,7 @@ impl<M: Message, L: MessageLog<M>, Led: Ledger> Switchboard<M, L, Led> {
     {
         let mut turn = self.locked.lock(rt);
         let told = turn.hall().take_journal();
-        self.locked.let_go(turn);
+        self.locked.unlock(turn);
         told
     }
 
@@ -152,7 +152,7 @@ impl<M: Message, L: MessageLog<M>, Led: Ledger> Switchboard<M, L, Led> {
     pub fn cut_open<R: Wait>(&self, rt: &R) {
         let mut turn = self.locked.lock(rt);
         turn.hall().cut_open();
-        self.locked.let_go(turn);
+        self.locked.unlock(turn);
     }
 
     /// Cuts the journal as `cut_open` does, and returns the entries that it had, oldest first. If nothing else cuts the journal,
@@ -160,7 +160,7 @@ impl<M: Message, L: MessageLog<M>, Led: Ledger> Switchboard<M, L, Led> {
     pub fn take_journal_open<R: Wait>(&self, rt: &R) -> Vec<Entry<M>> {
         let mut turn = self.locked.lock(rt);
         let taken = turn.hall().take_journal_open();
-        self.locked.let_go(turn);
+        self.locked.unlock(turn);
         taken
     }
 
@@ -204,7 +204,7 @@ impl<M: Message, L: MessageLog<M>, Led: Ledger> Switchboard<M, L, Led> {
     {
         let mut turn = self.locked.lock(rt);
         let _ = turn.hall().leave(&seat);
-        self.locked.let_go(turn);
+        self.locked.unlock(turn);
         seat.into_left()
     }
 
@@ -239,21 +239,21 @@ impl<M: Message, L: MessageLog<M>, Led: Ledger> Switchboard<M, L, Led> {
     /// Makes the seat's call, and wakes a seat that is due. If the seat is parked, its thread parks next. What comes for it from
     /// now on unparks it, and that is kept.
     fn ask<R: Wait>(&self, rt: &R, seat: &mut Seat<Led>, call: Call<M>) -> Outcome<M>
-        ensures { Tells seat.old seat.new call result }
+        ensures { Returns seat.old seat.new call result }
     {
         let mut turn = self.locked.lock(rt);
         let outcome = ask(turn.hall(), seat, call);
-        self.locked.let_go_by(turn, seat.number());
+        self.locked.unlock_after(turn, seat.number());
         outcome
     }
 
     /// Makes the call of a parked seat again, as `ask` makes one.
     fn ask_again<R: Wait>(&self, rt: &R, seat: &mut Seat<Led>, call: Call<M>) -> Outcome<M>
-        ensures { Tells seat.old seat.new call result }
+        ensures { Returns seat.old seat.new call result }
     {
         let mut turn = self.locked.lock(rt);
         let outcome = ask_again(turn.hall(), seat, call);
-        self.locked.let_go_by(turn, seat.number());
+        self.locked.unlock_after(turn, seat.number());
         outcome
     }
 }
@@ -264,7 +264,7 @@ fn ask<M: Message, L: MessageLog<M>, Led: Ledger>(
     seat: &mut Seat<Led>,
     call: Call<M>,
 ) -> Outcome<M>
-    ensures { Tells seat.old seat.new call result }
+    ensures { Returns seat.old seat.new call result }
 {
     hall.ask(seat, call)
 }
@@ -275,7 +275,7 @@ fn ask_again<M: Message, L: MessageLog<M>, Led: Ledger>(
     seat: &mut Seat<Led>,
     call: Call<M>,
 ) -> Outcome<M>
-    ensures { Tells seat.old seat.new call result }
+    ensures { Returns seat.old seat.new call result }
 {
     hall.ask_again(seat, call)
 }

@@ -14,7 +14,7 @@ use std::marker::Model;
 use std::sync::MutexGuard;
 use std::sync::ledger::Ledger;
 
-/// The hall, while this thread has the lock. It can't be dropped: only `unlock` takes it. So the compiler refuses a call that
+/// The hall, while this thread has the lock. It can't be dropped: only `end_turn` takes it. So the compiler refuses a call that
 /// unlocks the hall and takes no seat that is due.
 pub struct Turn<'a, M, L: MessageLog<M>, Led: Ledger> {
     hall: MutexGuard<'a, CachePadded<Hall<M, L, Led>>>,
@@ -47,7 +47,7 @@ impl<'a, M: Message, L: MessageLog<M>, Led: Ledger> Turn<'a, M, L, Led> {
 }
 
 /// Takes the seat that is due next, and unlocks the hall.
-pub fn unlock<M: Message, L: MessageLog<M>, Led: Ledger>(turn: Turn<'_, M, L, Led>) -> Option<Due>
+pub fn end_turn<M: Message, L: MessageLog<M>, Led: Ledger>(turn: Turn<'_, M, L, Led>) -> Option<Due>
     ensures { UnparksNext turn.entry result }
 {
     let Turn { hall } = turn;

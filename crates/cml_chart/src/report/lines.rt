@@ -7,9 +7,8 @@ ghost use Rattle.cml_chart.specs.{is_closing, thing_of, may_leave, ended_of, lin
 ghost use Rattle.cml_chart.specs.{shown_actor, shown_act, shown_object, shown_end, shown_line};
 
 use crate::report::{Act, Actor, End, Line, Object};
-use cml_calls::{Ask, Give, ReplyKind};
+use cml_calls::{Ask, Give, ReplyKind, is_text};
 use cml_grammar::{Verb, is_name, number_of};
-use cml_messages::is_text;
 
 /// Finds the line that these words are after `count` lines of the first part: the last line, a line of the second part, or
 /// a line of the first, in this order.

@@ -23,7 +23,7 @@ impl<M: Message, L: MessageLog<M>, Led: Ledger> Switchboard<M, L, Led> {
     {
         let mut turn = self.locked.lock(rt);
         let told = turn.hall().compact(limit);
-        self.locked.let_go(turn);
+        self.locked.unlock(turn);
         told
     }
 
@@ -37,7 +37,7 @@ impl<M: Message, L: MessageLog<M>, Led: Ledger> Switchboard<M, L, Led> {
     {
         let mut turn = self.locked.lock(rt);
         let told = turn.hall().compact_and_cut(limit);
-        self.locked.let_go(turn);
+        self.locked.unlock(turn);
         told
     }
 }

@@ -27,7 +27,7 @@ impl<M: Message, L: MessageLog<M>, Led: Ledger> Switchboard<M, L, Led> {
     {
         let mut turn = self.locked.lock(rt);
         let told = turn.hall().open_feed(channel, capacity);
-        self.locked.let_go(turn);
+        self.locked.unlock(turn);
         told
     }
 
@@ -39,7 +39,7 @@ impl<M: Message, L: MessageLog<M>, Led: Ledger> Switchboard<M, L, Led> {
     {
         let mut turn = self.locked.lock(rt);
         let told = turn.hall().pump(feed);
-        self.locked.let_go(turn);
+        self.locked.unlock(turn);
         told
     }
 
@@ -52,7 +52,7 @@ impl<M: Message, L: MessageLog<M>, Led: Ledger> Switchboard<M, L, Led> {
     {
         let mut turn = self.locked.lock(rt);
         let told = turn.hall().end_feed(feed);
-        self.locked.let_go(turn);
+        self.locked.unlock(turn);
         told
     }
 }

@@ -27,7 +27,7 @@ impl<M: Message, L: MessageLog<M>, Led: Ledger> Switchboard<M, L, Led> {
     {
         let mut turn = self.locked.lock(rt);
         let told = turn.hall().open_lane(target, capacity);
-        self.locked.let_go(turn);
+        self.locked.unlock(turn);
         told
     }
 
@@ -39,7 +39,7 @@ impl<M: Message, L: MessageLog<M>, Led: Ledger> Switchboard<M, L, Led> {
     {
         let mut turn = self.locked.lock(rt);
         let told = turn.hall().drain(lane);
-        self.locked.let_go(turn);
+        self.locked.unlock(turn);
         told
     }
 
@@ -51,7 +51,7 @@ impl<M: Message, L: MessageLog<M>, Led: Ledger> Switchboard<M, L, Led> {
     {
         let mut turn = self.locked.lock(rt);
         let told = turn.hall().close_counted(end);
-        self.locked.let_go(turn);
+        self.locked.unlock(turn);
         told
     }
 
@@ -63,7 +63,7 @@ impl<M: Message, L: MessageLog<M>, Led: Ledger> Switchboard<M, L, Led> {
     {
         let mut turn = self.locked.lock(rt);
         let told = turn.hall().drop_lane(lane);
-        self.locked.let_go(turn);
+        self.locked.unlock(turn);
         told
     }
 
@@ -74,7 +74,7 @@ impl<M: Message, L: MessageLog<M>, Led: Ledger> Switchboard<M, L, Led> {
     {
         let mut turn = self.locked.lock(rt);
         let told = turn.hall().abandon_lane(lane);
-        self.locked.let_go(turn);
+        self.locked.unlock(turn);
         told
     }
 }

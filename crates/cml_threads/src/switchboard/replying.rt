@@ -42,7 +42,7 @@ impl<M: Message, L: MessageLog<M>, Led: Ledger> Switchboard<M, L, Led> {
     {
         let mut turn = self.locked.lock(rt);
         let response = call_once(turn.hall(), seat, call);
-        self.locked.let_go_by(turn, seat.number());
+        self.locked.unlock_after(turn, seat.number());
         response
     }
 
@@ -53,7 +53,7 @@ impl<M: Message, L: MessageLog<M>, Led: Ledger> Switchboard<M, L, Led> {
     {
         let mut turn = self.locked.lock(rt);
         let response = call_again(turn.hall(), seat, call);
-        self.locked.let_go_by(turn, seat.number());
+        self.locked.unlock_after(turn, seat.number());
         response
     }
 }

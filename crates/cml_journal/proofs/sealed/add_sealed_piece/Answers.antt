@@ -1,6 +1,5 @@
 use Rattle.std.proofs.Common.{◌≡◌, ℕ, ◌+◌, ◌≤◌, List, ◌++◌, length, string_bytes, sym, ap, subst, ◌∙◌}
-use Rattle.cml_sums.specs.{Sum}
-use Rattle.cml_journal.specs.{with_line_end, text_of, sealed_end, piece_sum}
+use Rattle.cml_journal.specs.{Sum, with_line_end, text_of, sealed_end, piece_sum}
 use Rattle.cml_journal.proofs.PieceLemmas.{sealed_head, sealed_piece_text}
 use Rattle.cml_journal.proofs.SealedLemmas.{piece_behind, front_is_shorter}
 use Rattle.cml_journal.proofs.StreamLemmas.{entry_lines}

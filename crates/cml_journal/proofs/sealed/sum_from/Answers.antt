@@ -1,8 +1,8 @@
 use Rattle.std.proofs.Common.{◌≡◌, drop, ap, ◌∙◌}
 use Rattle.std.proofs.lemmas.List.{take_rest}
 use Rattle.std.proofs.lemmas.Result.{IfOk-weaker}
-use Rattle.cml_sums.specs.{Summed, and_bytes, sum_by, sum_of}
-use Rattle.cml_sums.proofs.SumsLemmas.{whole_sum}
+use Rattle.cml_journal.specs.{Summed, and_bytes, sum_by, sum_of}
+use Rattle.cml_journal.proofs.SumsLemmas.{whole_sum}
 use Rattle.cml_journal.proofs.sealed.sum_from.Goals as goal
 
 pub returns : goal.returns

@@ -1,8 +1,7 @@
 use Rattle.std.proofs.Common.{◌≡◌, ℕ, ◌+◌, List, [], ◌++◌, length, Option, Some, string_bytes, sym, ap, subst, ◌∙◌}
 use Rattle.std.specs.Prelude.{IfSome}
 use Rattle.std.specs.Io.KnownBytes.{Appends}
-use Rattle.cml_sums.specs.{Sum, Summed, and_bytes, sum_by}
-use Rattle.cml_journal.specs.{with_line_end, text_of, sealed_end, piece_sum}
+use Rattle.cml_journal.specs.{Sum, Summed, and_bytes, sum_by, with_line_end, text_of, sealed_end, piece_sum}
 use Rattle.cml_journal.proofs.PieceLemmas.{sealed_head, sealed_piece_text}
 use Rattle.cml_journal.proofs.PartLemmas.{writes_end}
 use Rattle.cml_journal.proofs.SealedLemmas.{piece_in_parts}

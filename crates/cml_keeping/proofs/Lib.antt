@@ -1,2 +1,0 @@
-pub mod GrowingLemmas
-pub mod TracesLemmas

@@ -1,3 +1,0 @@
-pub mod DigitsLemmas
-pub mod SumsLemmas
-pub mod WordsLemmas

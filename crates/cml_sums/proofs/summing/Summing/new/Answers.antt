@@ -1,7 +1,0 @@
-use Rattle.std.proofs.Common.{[], ◌∙◌}
-use Rattle.cml_sums.specs.{nothing_summed}
-use Rattle.cml_sums.proofs.SumsLemmas.{hasher_at, nothing_more}
-use Rattle.cml_sums.proofs.summing.Summing.new.Goals as goal
-
-pub returns : goal.returns
-returns c = hasher_at c.new.result [] c.new.ensures ∙ nothing_more nothing_summed
