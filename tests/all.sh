@@ -17,16 +17,17 @@ step() {
     cml=crates/cml/out/cml
     chart=crates/cml_chart/out/cml_chart
     case $1 in
-        libraries) sh tests/archives.sh && sh tests/libraries.sh ;;
-        refused) sh tests/refused.sh crates/cml_guide/out/cml_guide "$rows" "$cml" "$chart" ;;
-        program) sh tests/program.sh "$cml" ;;
-        chart) sh tests/chart.sh "$chart" ;;
-        journals | compact | explore) sh "tests/$1.sh" "$cml" ;;
-        calls | cuts) sh "tests/$1.sh" "$rows" ;;
-        memory) sh tests/memory.sh "$bench" ;;
-        waiting) sh tests/waiting.sh "$bench" "$cml" ;;
-        guide | html | links | speed | refused_bodies) sh "tests/$1.sh" ;;
-        queueing) sh tests/queueing.sh crates/cml_queueing/out/cml_queueing "$cml" "$chart" ;;
+        libraries) sh tests/libraries/archives.sh && sh tests/libraries/libraries.sh ;;
+        refused) sh tests/stress/refused.sh crates/cml_guide/out/cml_guide "$rows" "$cml" "$chart" ;;
+        program) sh tests/cml/program.sh "$cml" ;;
+        chart) sh tests/cml/chart.sh "$chart" ;;
+        journals | compact | explore) sh "tests/cml/$1.sh" "$cml" ;;
+        calls | cuts) sh "tests/cml/$1.sh" "$rows" ;;
+        memory) sh tests/stress/memory.sh "$bench" ;;
+        waiting) sh tests/stress/waiting.sh "$bench" "$cml" ;;
+        guide | html | links | speed) sh "tests/docs/$1.sh" ;;
+        refused_bodies) sh tests/libraries/refused_bodies.sh ;;
+        queueing) sh tests/cml/queueing.sh crates/cml_queueing/out/cml_queueing "$cml" "$chart" ;;
     esac
 }
 

@@ -6,8 +6,9 @@
 #
 # `rt must-fail` tries them on a copy of the crates, in which they are in must-fail/. It proves the crate once more before its
 # first edit, and the libraries below that no check of yours has proved in their folders. The last line is `N passed, M failed`.
-. "$(dirname "$0")/lib/cases.sh"
-cd "$(dirname "$0")/.." || exit 1
+top=$(cd "$(dirname "$0")/.." && pwd) || exit 1
+. "$top/tests/lib/cases.sh"
+cd "$top" || exit 1
 . tests/lib/edits.sh
 
 # stop WHY: ends the test, which tries nothing.

@@ -3,9 +3,9 @@
 # here, even where it breaks a contract; `rt ci` refuses that.
 #
 # It compiles the programs and the crate of tests as `rt try` does (tests/lib/tried.sh). It runs each test function, the tables of
-# calls, those with cuts too, the guide, each example with its report, its endings and its chart, each fault, the page of figures without
-# measuring any, the bodies that the compiler refuses, and the library from C. As many steps run at once as there are processors.
-# `sh tests/quick.sh NAME..` runs some steps alone. The last line is `N passed, M failed`.
+# calls, those with cuts too, the guide, each example with its report, its endings and its chart, each fault, the page of figures
+# without measuring any, the bodies that the compiler refuses, and the library from C. As many steps run at once as there are
+# processors. `sh tests/quick.sh NAME..` runs some steps alone. The last line is `N passed, M failed`.
 top=$(cd "$(dirname "$0")/.." && pwd) || exit 1
 cd "$top" || exit 1
 kit=$(dirname "$(rt doc)")
@@ -32,23 +32,24 @@ step() {
     case $1 in
         cml)
             build_once cml || return
-            sh tests/program.sh "$program" few && sh tests/journals.sh "$program" few && sh tests/compact.sh "$program"
+            sh tests/cml/program.sh "$program" few && sh tests/cml/journals.sh "$program" few && sh tests/cml/compact.sh "$program"
             ;;
         explore)
             build_once cml || return
-            sh tests/explore.sh "$program" few
+            sh tests/cml/explore.sh "$program" few
             ;;
-        cml_chart) build_once cml_chart && sh tests/chart.sh "$program" ;;
+        cml_chart) build_once cml_chart && sh tests/cml/chart.sh "$program" ;;
         cml_rows)
             build cml_rows crates/cml_rows/src/main.rt || return
             prints cml_rows
-            sh tests/calls.sh "$program" && sh tests/cuts.sh "$program"
+            sh tests/cml/calls.sh "$program" && sh tests/cml/cuts.sh "$program"
             ;;
         cml_queueing) simulates ;;
         cml_c) calls_from_c ;;
         cml_script_c) replays_from_c ;;
         cml_tests) passes "$1" ;;
-        guide | speed | refused_bodies) sh "tests/$1.sh" ;;
+        guide | speed) sh "tests/docs/$1.sh" ;;
+        refused_bodies) sh tests/libraries/refused_bodies.sh ;;
         *) build "$1" "crates/$1/src/main.rt" && prints "$1" ;;
     esac
 }
@@ -84,7 +85,7 @@ simulates() {
     build_once cml_chart || return
     chart=$program
     build cml_queueing crates/cml_queueing/src/main.rt || return
-    sh tests/queueing.sh "$program" "$cml" "$chart" few
+    sh tests/cml/queueing.sh "$program" "$cml" "$chart" few
 }
 
 # passes NAME: the crate's test functions. Here each access to memory is watched too.
@@ -107,7 +108,7 @@ does() {
     fi
 }
 
-# The programs in C of bindings/c make each call of the library, on one thread and on several.
+# Programs in C make each call of the library, on one thread and on several.
 calls_from_c() {
     has_c || return
     build_with_c cml_c calls threads || return

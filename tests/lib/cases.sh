@@ -1,6 +1,6 @@
 # What the tests share that try a built program or a library. It counts cases, and makes the folder `work`, which goes at the end.
 # `run` and `expect` try the program that `program` names.
-. "$(dirname "$0")/lib/bounded.sh"
+. "$top/tests/lib/bounded.sh"
 work=$(mktemp -d) || exit 1
 trap 'rm -rf "$work"' EXIT
 passed=0
@@ -57,6 +57,9 @@ check() {
         tail -n 20 "$work/told"
     fi
 }
+
+# c_source PROGRAM: the file of a program in C.
+c_source() { find examples/c tests/c tools/speed -name "$1.c"; }
 
 # install_rooms ARCHIVE PREFIX: installs the library of rooms, and not that of scripts.
 install_rooms() { SERYUGO_ARCHIVE=$1 SERYUGO_SCRIPT_ARCHIVE=/nowhere sh bindings/install.sh "$2"; }

@@ -1,5 +1,5 @@
-# What tests/edits.sh and tests/refused_bodies.sh share: the reader of a file of wrong edits. An edit begins with a line `edit: TITLE`,
-# its other lines follow, and an empty line is between two. The titles are words such as `poll_takes_the_newest`.
+# What tests/edits.sh and tests/libraries/refused_bodies.sh share: the reader of a file of wrong edits. An edit begins with a line
+# `edit: TITLE`, its other lines follow, and an empty line is between two. The titles are words such as `poll_takes_the_newest`.
 
 # part_edits FILE FOLDER [TITLE..]: writes each edit of the file, or those with these titles, to FOLDER/TITLE.edit. At the first line
 # that it can't read, at a title that occurs twice, and at one that isn't there, it says so and ends badly.

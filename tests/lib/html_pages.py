@@ -1,4 +1,4 @@
-"""Looks at the pages that tools/html.sh wrote: `html_pages.py FOLDER`, for tests/html.sh."""
+"""Looks at the pages that tools/html.sh wrote: `html_pages.py FOLDER`, for tests/docs/html.sh."""
 
 import html.parser
 import pathlib

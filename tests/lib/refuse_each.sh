@@ -1,5 +1,5 @@
 #!/bin/sh
-# For tests/refused.sh: sh tests/lib/refuse_each.sh WORK KIND HOW INPUT PROGRAM WORDS..
+# For tests/stress/refused.sh: sh tests/lib/refuse_each.sh WORK KIND HOW INPUT PROGRAM WORDS..
 # runs the program on the input once for each request that it makes, with that one refused (`once`) or with it and all later
 # ones (`rest`), until a run makes no more; and looks at each run as its KIND wants it:
 #

@@ -1,4 +1,4 @@
-# The cases of `cml run`, for tests/program.sh. Its threads come in another order each time, so no report is known
+# The cases of `cml run`, for tests/cml/program.sh. Its threads come in another order each time, so no report is known
 # beforehand: tests/models/interleaved.awk makes the report that the threads' order gives, and the two are to be the same.
 
 # The examples whose end depends on the order: in some orders all steps are performed, in others it stalls.

@@ -1,7 +1,6 @@
-# The tables of tests/tables/faults and tests/tables/reports, on each case of which tests/program.sh runs the built program, and those
-# of tests/tables/orders, which tests/lib/runs.sh has for what it compares with. To add a case, write it into the table of its
-# theme, or begin a table: nothing else is to be touched. Take what is expected from docs/FORMATS.md and not from the
-# program.
+# The tables of tests/tables/faults and tests/tables/reports, on each case of which tests/cml/program.sh runs the built program, and
+# those of tests/tables/orders, which tests/lib/runs.sh has for what it compares with. To add a case, write it into the table of its
+# theme, or begin a table: nothing else is to be touched. Take what is expected from docs/FORMATS.md and not from the program.
 #
 # A table of faults has a line for each case: its name, the script with its lines parted by ` / `, and its fault without
 # `script: `, or `none` where it has none.

@@ -23,7 +23,7 @@ build() {
     cp -r "$3/bindings/python" "$built/package" && find "$built/package" -name '*.so' -exec rm {} + || return
     python3 "$built/package/build_backend.py" > /dev/null || echo 'left out: the extension for Python' >&2
     echo "$built/package" > "$built/python"
-    cc -O2 -I "$2/include" bindings/c/speed.c "$2/lib/libseryugo.a" -o "$built/speed_in_c" || return
+    cc -O2 -I "$2/include" tools/speed/speed.c "$2/lib/libseryugo.a" -o "$built/speed_in_c" || return
     cargo_builds seryugo --example journals && cp "$built/target/release/examples/journals" "$built" || return
     if has_peers; then
         cargo_builds speed_of_peers && cp "$built/target/release/speed_of_peers" "$built/speed"

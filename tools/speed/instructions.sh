@@ -1,5 +1,5 @@
 # How many instructions a message takes: valgrind counts them, and measures no time. tools/speed.sh writes the counts to the page,
-# and tests/instructions.sh compares others with them.
+# and tests/libraries/instructions.sh compares others with them.
 
 # total PROGRAM MESSAGES WAY: all instructions of one round of this way, `WORKLOAD: WAY`.
 total() {
@@ -13,7 +13,7 @@ count_instructions() {
     [ -n "$less" ] && [ -n "$more" ] && printf '%s  %s  %s\n' "$2" "$3" $(((more - less) / 20000))
 }
 
-# count_in_c PROGRAM: the ways of bindings/c/speed.c on one thread.
+# count_in_c PROGRAM: the ways of speed.c here on one thread.
 count_in_c() {
     count_instructions "$1" 'in C, a number' 'a seat' &&
         count_instructions "$1" 'in C, a number' 'by hand' &&

@@ -4,7 +4,7 @@ program's place.
 Of an archive it installs the library, builds the program, and runs its tests. Of a program the
 folder of the installed library is SERYUGO_PREFIX. It tries small makefiles, faults and failures;
 made-up graphs beside `make`: the same goals are made, in the order that the rules ask for, and the
-same is printed; and the programs of bindings/c.
+same is printed; and the programs of examples/c.
 """
 
 import filecmp
@@ -19,7 +19,7 @@ from building import BuildSystem, write_graph  # noqa: I001
 from makefiles import Makefiles
 from cases import TOP, has, left_out, main
 
-C_PROGRAMS = "examples/programs/build_system/bindings_c.mk"
+C_PROGRAMS = "examples/programs/build_system/c_examples.mk"
 
 
 def is_in_order(folder):
@@ -126,32 +126,32 @@ class Graphs(BuildSystem):
 
 
 class CPrograms(BuildSystem):
-    """The programs of bindings/c."""
+    """The programs of examples/c."""
 
     def c_part(self, out, *command):
-        """Makes the programs of bindings/c by this command."""
+        """Makes the programs of examples/c by this command."""
         words = ["-f", C_PROGRAMS, f"PREFIX={self.prefix}", f"OUT={self.work / out}"]
         return self.run_program(*command, *words, cwd=TOP)
 
     def test_c_programs(self):
         if not self.prefix:
-            self.skipTest("the programs of bindings/c: SERYUGO_PREFIX names no installed library")
+            self.skipTest("the programs of examples/c: SERYUGO_PREFIX names no installed library")
         if not has("cc"):
-            self.skipTest("the programs of bindings/c: there is no cc")
+            self.skipTest("the programs of examples/c: there is no cc")
         ours = self.work / "ours.c"
-        self.expect("the programs of bindings/c", self.c_part("ours.c", self.program, "-j4"), 0)
-        for name in "calls", "messages":
+        self.expect("the programs of examples/c", self.c_part("ours.c", self.program, "-j4"), 0)
+        for name in "requests", "threads":
             self.expect(f"{name} runs", self.run_program(ours / name), 0)
         again = self.c_part("ours.c", self.program, "-j4")
         self.expect("no program is made again", again, 0, "cml_make: Nothing to be done for 'all'.")
         long_ago = time.mktime((2001, 1, 1, 0, 0, 0, 0, 0, -1))
-        os.utime(ours / "calls.o", (long_ago, long_ago))
+        os.utime(ours / "requests.o", (long_ago, long_ago))
         again = self.c_part("ours.c", self.program, "-j4")
         self.holds("one program is made again", again.said().count("\n") == 2, again.said())
         if not has("make"):
-            self.skipTest("the programs of bindings/c by make: there is no make")
+            self.skipTest("the programs of examples/c by make: there is no make")
         self.expect(
-            "the programs of bindings/c by make", self.c_part("theirs.c", "make", "-rRk", "-j4"), 0
+            "the programs of examples/c by make", self.c_part("theirs.c", "make", "-rRk", "-j4"), 0
         )
         names = sorted(os.listdir(ours))
         _, *others = filecmp.cmpfiles(ours, self.work / "theirs.c", names, shallow=False)

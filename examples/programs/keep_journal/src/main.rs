@@ -7,7 +7,7 @@
 //! Thread k sends to mailbox k + 1 and receives from mailbox k. Its n-th message is n. FOLDER/journal has the journal, in pieces of
 //! 10,000 entries, each with a sum. Once a piece is on the disk, a line of FOLDER/kept says so: `kept 20000 entries 538897 bytes`. With MESSAGES
 //! each thread ends after this many messages. With --rerun the threads go in the order of the journal in FOLDER, which one process
-//! has written that ended by itself: run that under a debugger. `tests/keep_journal.sh` kills the program ten times.
+//! has written that ended by itself: run that under a debugger. `tests/programs/keep_journal.sh` kills the program ten times.
 //!
 //! While a process has the journal, another one changes nothing in FOLDER. It says so, and ends with status 1, as each that fails.
 

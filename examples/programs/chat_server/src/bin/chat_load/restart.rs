@@ -16,7 +16,7 @@ pub const AFTER: &[Case] = &[
     ("a place that was ended is not there", find_no_place),
 ];
 
-/// On the journal that `tests/chat_server.sh` writes, of a server that was killed between two calls.
+/// On the journal that `tests/programs/chat_server.sh` writes, of a server that was killed between two calls.
 pub const MENDED: &[Case] = &[("what a killed server began is finished", find_mended)];
 
 fn leave_some(address: SocketAddr) -> Result<(), Wrong> {

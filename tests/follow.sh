@@ -1,3 +1,0 @@
-#!/bin/sh
-# The service of examples/programs/follow, whose journal a second machine follows: `sh tests/follow.sh LIBRARY CHECK WORD..`.
-exec python3 "$(dirname "$0")/../examples/programs/follow/test_follow.py" "$@"
