@@ -1,6 +1,6 @@
 #!/bin/sh
-# Writes the documents as pages of HTML: `sh tools/html.sh FOLDER`. Then open FOLDER/README.html. It needs `pandoc`, `graphviz` and
-# `mscgen`, packages of Debian. The pages need no network and no script. They follow light and dark.
+# For readers. Writes the documents as pages of HTML: `sh tools/html.sh FOLDER`. Then open FOLDER/README.html. It needs `pandoc`,
+# `graphviz` and `mscgen`, packages of Debian. The pages need no network and no script. They follow light and dark.
 if [ -z "$1" ]; then
     echo 'tools/html.sh: name a folder for the pages' >&2
     exit 1

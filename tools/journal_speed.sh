@@ -1,8 +1,8 @@
 #!/bin/sh
-# What it costs to check a journal: `sh tools/journal_speed.sh CML`, or `sh tools/journal_speed.sh CML ENTRIES` for another number of
-# entries than 10,000,001. `cml check` has 64 MB. It prints the verdict, and how many nanoseconds of a processor an entry took. It is
-# no test: what is printed depends on the machine. What it costs to write a journal, to check it and to go on from it by the
-# library is printed by the example `journals` of bindings/rust/seryugo.
+# For developers who change `cml check`. What it costs to check a journal: `sh tools/journal_speed.sh CML`, or
+# `sh tools/journal_speed.sh CML ENTRIES` for another number of entries than 10,000,001. `cml check` has 64 MB. It prints the verdict,
+# and how many nanoseconds of a processor an entry took. It is no test: what is printed depends on the machine. What it costs to write
+# a journal, to check it and to go on from it by the library is printed by the example `journals` of bindings/rust/seryugo.
 LC_ALL=C
 export LC_ALL
 cml=$(cd "$(dirname "$1")" && pwd)/$(basename "$1")

@@ -1,6 +1,7 @@
 #!/bin/sh
-# Installs what some tests use, from Debian's packages: `sh tools/packages.sh`. Without root, without `apt-get` or without a network
-# it installs nothing. Then each test whose package is missing says that it is left out. It never fails.
+# For developers, before the tests. Installs what some tests use, from Debian's packages: `sh tools/packages.sh`. Without root,
+# without `apt-get` or without a network it installs nothing. Then each test whose package is missing says that it is left out. It
+# never fails.
 packages='pkg-config valgrind redis-server redis-tools libhiredis-dev librust-serde-dev librust-serde-derive-dev librust-bincode-dev
 librust-tokio-dev librust-crossbeam-channel-dev python3-venv python3-dev mypy make pandoc graphviz mscgen'
 

@@ -1,6 +1,7 @@
 #!/bin/sh
-# Writes docs/SPEED.md, docs/speed.svg and docs/speed.tsv: what a message costs through the library and by other ways, measured by
-# turns in one run on this machine. `sh tools/speed.sh` takes about ten minutes. Let nothing run beside it. These words may follow:
+# For developers who change what a call costs. Writes docs/SPEED.md, docs/speed.svg and docs/speed.tsv: what a message costs through
+# the library and by other ways, measured by turns in one run on this machine. `sh tools/speed.sh` takes about ten minutes. Let
+# nothing run beside it. These words may follow:
 #
 #   --prefix PREFIX        the library that bindings/install.sh installed, if not in SERYUGO_PREFIX or where pkg-config finds it
 #   --bench PROGRAM        the proved cml_bench, if not crates/cml_bench/out/cml_bench
