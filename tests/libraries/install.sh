@@ -309,7 +309,7 @@ sanitized() {
     compiles_the_extension "$work/sanitized" '-g -O1 -fsanitize=address,undefined -fno-sanitize-recover=undefined' || return
     in_folder "$work/sanitized" env PYTHONMALLOC=malloc ASAN_OPTIONS=detect_leaks=0 \
         LD_PRELOAD="$(cc -print-file-name=libasan.so) $(cc -print-file-name=libubsan.so)" \
-        python3 -m unittest tests.test_at_once.ByWhich tests.test_at_once.TheSame tests.test_messages tests.test_calls
+        python3 -m unittest tests.test_fast_calls.ByWhich tests.test_fast_calls.TheSame tests.test_messages tests.test_calls
 }
 
 # page FILE: the first example in Python of a page is examples/letters.py.

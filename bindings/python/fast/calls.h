@@ -1,5 +1,5 @@
 /*
- * The calls of a seat that the library answers at once, without ctypes: the module seryugo._fast. `_at_once.py` alone uses it.
+ * The calls of a seat that the library answers at once, without ctypes: the module seryugo._fast. `_fast_calls.py` alone uses it.
  *
  * A `Call` takes the place of a method of a seat. It has the address of a function of the library, and the method, which makes
  * the same call by ctypes. It leaves to the method a call that was refused, one that would block, and arguments of other types.

@@ -15,10 +15,13 @@ lock go meanwhile.
         print("Ben received", ben.recv(letters))
 """
 
+import warnings
+from typing import TYPE_CHECKING
+
 from ._appending import append_to
-from ._at_once import HAS_EXTENSION
+from ._fast_calls import HAS_EXTENSION
 from ._keeping import drop_entries
-from ._kept import Kept
+from ._prefix import ValidPrefix
 from ._restoring import compacted
 from ._version import __version__
 from .errors import (
@@ -68,7 +71,6 @@ __all__ = [
     "IVar",
     "Journal",
     "JournalFull",
-    "Kept",
     "MVar",
     "Mailbox",
     "Maker",
@@ -89,6 +91,7 @@ __all__ = [
     "Torn",
     "Unlawful",
     "Unreadable",
+    "ValidPrefix",
     "Variable",
     "WrongKind",
     "__version__",
@@ -97,3 +100,14 @@ __all__ = [
     "compacted",
     "drop_entries",
 ]
+
+if TYPE_CHECKING:
+    Kept = ValidPrefix
+else:
+
+    def __getattr__(name):
+        """Return what had this name before."""
+        if name == "Kept":
+            warnings.warn("Kept is called ValidPrefix", DeprecationWarning, stacklevel=2)
+            return ValidPrefix
+        raise AttributeError(f"module {__name__!r} has no attribute {name!r}")

@@ -8,7 +8,7 @@ import weakref
 from typing import BinaryIO, Callable, NamedTuple, Optional, Tuple
 
 from ._keeping import Sink
-from ._kept import sum_of
+from ._prefix import sum_of
 from .journal import Journal
 
 # The most bytes that a piece's last line has, with the line feed before it.

@@ -1,4 +1,4 @@
-"""The extension, whose sources are in `../fast`. `_at_once.py` alone uses it."""
+"""The extension, whose sources are in `../fast`. `_fast_calls.py` alone uses it."""
 
 from typing import Any, Callable, Deque, List, Optional, Set
 

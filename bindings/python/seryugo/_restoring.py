@@ -9,7 +9,7 @@ from typing import Iterable, Iterator, Optional, Tuple
 
 from . import _library as library
 from . import errors
-from ._kept import Kept, Lines
+from ._prefix import Lines, ValidPrefix
 from ._library import DONE, NOTHING
 from ._messages import plain
 from .journal import Journal
@@ -21,11 +21,11 @@ _HEAD = 32
 
 def restored(
     parts: Iterable[bytes], limit: int, is_torn_fine: bool
-) -> Tuple[library.Handle, Kept]:
+) -> Tuple[library.Handle, ValidPrefix]:
     """Open a room on a text of these parts, and say what is kept of the text."""
     room, lines = library.Handle(), Lines()
     with _read_from(parts, is_torn_fine, lines) as reading:
-        kept = lines.kept(_entries(reading), _sum(reading))
+        kept = lines.valid_prefix(_entries(reading), _sum(reading))
         code = library.room_restore(byref(reading), limit, byref(room))
         if code != DONE:
             raise errors.of_code(code)

@@ -8,9 +8,9 @@ from collections import deque
 from ctypes import byref, c_bool, c_uint64
 from typing import TYPE_CHECKING, Any, Callable, Deque, Dict, List, Optional, Set, Tuple, TypeVar
 
-from . import _at_once as at_once
 from . import _calls as calls
-from . import _collecting as collecting
+from . import _fast_calls as fast_calls
+from . import _garbage as garbage
 from . import _library as library
 from . import errors
 from ._library import DONE, PARKED
@@ -65,7 +65,7 @@ class Room:
         # are still to leave.
         self._dropped: Deque[Tuple[int, bool]] = deque()
         # What the extension has of this room.
-        self.fast = at_once.room_of(
+        self.fast = fast_calls.room_of(
             room, self.lock, self._parked, self._dropped, self.unwritten
         )
         # Where the library writes a message, and the seat that is due.
@@ -92,7 +92,7 @@ class Room:
 
     def do(self, call: Callable[..., int], *arguments: Any) -> int:
         """Make a call that makes no seat due."""
-        if collecting.thread is not None:
+        if garbage.thread is not None:
             self._refuse_in_a_call()
         try:
             with self.lock:
@@ -106,7 +106,7 @@ class Room:
 
     def within(self, action: Callable[[], T]) -> T:
         """Run this with the lock."""
-        if collecting.thread is not None:
+        if garbage.thread is not None:
             self._refuse_in_a_call()
         try:
             with self.lock:
@@ -128,7 +128,7 @@ class Room:
 
     def call(self, call: Callable[..., int], *arguments: Any) -> int:
         """Make a seat's call that never blocks and hands no message over."""
-        if collecting.thread is not None:
+        if garbage.thread is not None:
             self._refuse_in_a_call()
         try:
             with self.lock:
@@ -152,7 +152,7 @@ class Room:
     ) -> int:
         """Make an object by a seat's call, maybe one on another object. Return its number."""
         name = c_uint64()
-        if collecting.thread is not None:
+        if garbage.thread is not None:
             self._refuse_in_a_call()
         try:
             with self.lock:
@@ -177,7 +177,7 @@ class Room:
 
     def poll(self, call: Callable[..., int], *arguments: Any) -> Tuple[int, bytes]:
         """Make a call that never blocks, and if it is done hands a message over."""
-        if collecting.thread is not None:
+        if garbage.thread is not None:
             self._refuse_in_a_call()
         try:
             with self.lock:
@@ -213,7 +213,7 @@ class Room:
 
         After an exception its caller calls `recover`.
         """
-        if collecting.thread is not None:
+        if garbage.thread is not None:
             self._refuse_in_a_call()
         with self.lock:
             if self.keeper and is_again is FIRST:
@@ -236,7 +236,7 @@ class Room:
 
     def leave(self, seat: c_uint64) -> int:
         """Let a seat leave. This has no entry in the journal, so that it hands none over."""
-        if collecting.is_here():
+        if garbage.is_here():
             self.drop(seat.value)
             return DONE
 
@@ -250,7 +250,7 @@ class Room:
 
     def give_up(self, seat: int) -> None:
         """Withdraw a seat's call, and hand on what the seat was woken for."""
-        if collecting.is_here():
+        if garbage.is_here():
             self._settle_later(seat, False)
             return
         with self.lock:
@@ -271,7 +271,7 @@ class Room:
 
     def listen_no_more(self, seat: int) -> None:
         """Have a seat's bell rung again. Within a collection, `give_up` does that later."""
-        if not collecting.is_here():
+        if not garbage.is_here():
             self.within(lambda: self._listeners.pop(seat, None))
 
     def ring(self, seat: int) -> None:
@@ -313,7 +313,7 @@ class Room:
 
     def _is_in_a_call(self) -> bool:
         """Return whether Python collects here, and this thread may have the lock."""
-        return collecting.is_here() and is_held(self.lock)
+        return garbage.is_here() and is_held(self.lock)
 
     def _refuse_in_a_call(self) -> None:
         if self._is_in_a_call():

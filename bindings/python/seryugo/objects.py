@@ -5,7 +5,7 @@ from __future__ import annotations
 from ctypes import c_uint64
 from typing import Any, Callable, Generic, Type
 
-from . import _at_once as at_once
+from . import _fast_calls as fast_calls
 from . import _library as library
 from . import errors
 from ._messages import Codec, T
@@ -34,7 +34,7 @@ class Object(Unpicklable, Generic[T]):
         self._codec = codec
         self._encode = codec.encode
         self._decode = codec.decode
-        self._place = at_once.object_of(room.fast, number, codec)
+        self._place = fast_calls.object_of(room.fast, number, codec)
 
     @property
     def type(self) -> Type[T]:

@@ -10,9 +10,9 @@ from ctypes import c_size_t, c_uint64
 from types import TracebackType
 from typing import Any, AsyncIterator, Callable, Iterator, Optional, Tuple, Type, Union
 
-from . import _at_once as at_once
 from . import _awaiting, errors
 from . import _calls as calls
+from . import _fast_calls as fast_calls
 from ._library import CLOSED, DONE, NOTHING, PARKED, PUT
 from ._messages import T, codec_of
 from ._room import AGAIN, FIRST, Room
@@ -43,7 +43,7 @@ class Seat(Unpicklable):
         self._room = room
         self._seat = c_uint64(number)
         self._bell = bell
-        self._place = at_once.seat_of(room.fast, number)
+        self._place = fast_calls.seat_of(room.fast, number)
 
     def __enter__(self) -> Seat:
         return self
@@ -124,21 +124,21 @@ class Seat(Unpicklable):
 
     # What sends.
 
-    @at_once.call("SENDING", calls.send)
+    @fast_calls.call("SENDING", calls.send)
     def send(self, mailbox: Mailbox[T], message: T) -> None:
         """Send a message to a mailbox."""
         code = self._give(calls.send, mailbox, message)
         if code != DONE:
             raise errors.of_code(code, mailbox)
 
-    @at_once.call("SENDING", calls.multicast)
+    @fast_calls.call("SENDING", calls.multicast)
     def multicast(self, channel: Channel[T], message: T) -> None:
         """Send a message to every port of a channel."""
         code = self._give(calls.multicast, channel, message)
         if code != DONE:
             raise errors.of_code(code, channel)
 
-    @at_once.call("PUTTING", calls.put)
+    @fast_calls.call("PUTTING", calls.put)
     def put(self, variable: Variable[T], message: T) -> bool:
         """Fill an empty variable, and return whether it was empty. A full one stays as it was."""
         code = self._give(calls.put, variable, message)
@@ -148,7 +148,7 @@ class Seat(Unpicklable):
 
     # What receives.
 
-    @at_once.call("ASKING", calls.recv)
+    @fast_calls.call("ASKING", calls.recv)
     def recv(self, source: Source[T], timeout: Optional[float] = None) -> T:
         """Receive the next message of a mailbox or a port. Blocks while there is none.
 
@@ -157,7 +157,7 @@ class Seat(Unpicklable):
         arguments = (self._seat, name_in(self._room, source))
         return source._decode(self._obtain(source, calls.recv, arguments, timeout))
 
-    @at_once.call("POLLING", calls.recv_poll)
+    @fast_calls.call("POLLING", calls.recv_poll)
     def recv_poll(self, source: Source[T]) -> Optional[T]:
         """Receive the next message of a mailbox or a port, or return `None` if there is none."""
         return self._poll(calls.recv_poll, source)
@@ -174,29 +174,29 @@ class Seat(Unpicklable):
                 return
             yield message
 
-    @at_once.call("ASKING", calls.get)
+    @fast_calls.call("ASKING", calls.get)
     def get(self, variable: Variable[T], timeout: Optional[float] = None) -> T:
         """Read a variable, which keeps its message. Blocks while it is empty."""
         arguments = (self._seat, name_in(self._room, variable))
         return variable._decode(self._obtain(variable, calls.get, arguments, timeout))
 
-    @at_once.call("POLLING", calls.get_poll)
+    @fast_calls.call("POLLING", calls.get_poll)
     def get_poll(self, variable: Variable[T]) -> Optional[T]:
         """Read a variable, which keeps its message, or return `None` if it is empty."""
         return self._poll(calls.get_poll, variable)
 
-    @at_once.call("ASKING", calls.take)
+    @fast_calls.call("ASKING", calls.take)
     def take(self, variable: MVar[T], timeout: Optional[float] = None) -> T:
         """Read and empty an m-variable. Blocks while it is empty."""
         arguments = (self._seat, name_in(self._room, variable))
         return variable._decode(self._obtain(variable, calls.take, arguments, timeout))
 
-    @at_once.call("POLLING", calls.take_poll)
+    @fast_calls.call("POLLING", calls.take_poll)
     def take_poll(self, variable: MVar[T]) -> Optional[T]:
         """Read and empty an m-variable, or return `None` if it is empty."""
         return self._poll(calls.take_poll, variable)
 
-    @at_once.call("SWAPPING", calls.swap)
+    @fast_calls.call("SWAPPING", calls.swap)
     def swap(self, variable: MVar[T], message: T, timeout: Optional[float] = None) -> T:
         """Store a message in a full m-variable, and return what it held before.
 

@@ -10,7 +10,7 @@ from typing import Any, Callable, Iterable, Optional, Type, TypeVar, Union
 from . import _library as library
 from . import errors
 from ._keeping import Keeper, Sink
-from ._kept import Kept
+from ._prefix import ValidPrefix
 from ._library import CLOSED, DONE, NOTHING
 from ._messages import Codec, T, codec_of
 from ._restoring import restored
@@ -63,7 +63,7 @@ class Switchboard(Unpicklable):
         if code != DONE:
             raise errors.of_code(code)
         self._room = Room(room)
-        self._restored_from: Optional[Kept] = None
+        self._restored_from: Optional[ValidPrefix] = None
         self._keep_by(when_full)
 
     def __enter__(self) -> Switchboard:
@@ -102,7 +102,7 @@ class Switchboard(Unpicklable):
         return board
 
     @property
-    def restored_from(self) -> Optional[Kept]:
+    def restored_from(self) -> Optional[ValidPrefix]:
         """What is kept of the text that this was restored from, or None if it began at nothing.
 
         Later calls don't change it.

@@ -5,6 +5,7 @@ import pickle
 import threading
 import unittest
 
+import seryugo
 from seryugo import Checker, Closed, Fault, NoSuch, Switchboard, Unlawful, Unreadable
 
 
@@ -92,3 +93,9 @@ class Ways(unittest.TestCase):
         for count in len, self.board.owed:
             with self.assertRaisesRegex(NoSuch, "nothing is owed to a closed port: <Port 1 of"):
                 count(port)
+
+    def test_an_old_name_still_works(self):
+        with self.assertWarnsRegex(DeprecationWarning, "ValidPrefix"):
+            self.assertIs(seryugo.Kept, seryugo.ValidPrefix)
+        with self.assertRaisesRegex(AttributeError, "no attribute 'Unknown'"):
+            _ = seryugo.Unknown

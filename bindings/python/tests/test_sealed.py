@@ -5,7 +5,7 @@ import tempfile
 import unittest
 from unittest import mock
 
-from seryugo import Fault, Kept, Switchboard, TooLong, Torn, Unlawful, _appending, append_to
+from seryugo import Fault, Switchboard, TooLong, Torn, Unlawful, ValidPrefix, _appending, append_to
 
 
 def pieces():
@@ -44,7 +44,7 @@ class Sealed(unittest.TestCase):
     def test_a_text_is_read_back(self):
         board = Switchboard.restore([self.text])
         self.assertEqual(board.entries, 17)
-        self.assertEqual(board.restored_from, Kept(17, len(self.text), b"", self.sums[-1]))
+        self.assertEqual(board.restored_from, ValidPrefix(17, len(self.text), b"", self.sums[-1]))
         self.assertTrue(self.text.endswith(f"end 17 {self.sums[-1].hex()}\n".encode()))
         self.assertTrue(self.text.startswith(b"journal 4\n"))
         plain = [journal.text() for journal in pieces()]

@@ -1,4 +1,4 @@
-"""In which thread Python collects cycles, and so calls the `__del__` of what it collects."""
+"""The thread in which Python collects garbage, and calls the `__del__` of what it collects."""
 
 from __future__ import annotations
 

@@ -1,4 +1,4 @@
-"""What is kept of a text that ends too early."""
+"""The valid prefix of a torn journal."""
 
 from __future__ import annotations
 
@@ -12,8 +12,8 @@ _LOOKED_AT = 80
 
 
 @dataclass(frozen=True)
-class Kept:
-    """The part of a text that is kept: its whole lines, but no piece's first line alone.
+class ValidPrefix:
+    """The valid prefix of a torn text: its whole lines, but no piece's first line alone.
 
     It has this many entries and bytes: cut the text there. `ending` is the line that ends its last
     piece. Write it after these bytes, and the text is a whole journal. It is empty if the last
@@ -55,16 +55,16 @@ class Lines:
         self._open = (self._open + rest)[:_LOOKED_AT]
         self._bytes += len(part)
 
-    def kept(self, entries: int, last: Optional[bytes]) -> Kept:
-        """Return what is kept. `last` is the sum of the whole lines, if the text has sums."""
+    def valid_prefix(self, entries: int, last: Optional[bytes]) -> ValidPrefix:
+        """Return the valid prefix. `last` is the sum of the whole lines, if the text has sums."""
         if self._last.startswith(b"journal"):
             words = self._last.split(b" ")
             named = sum_of(words[2]) if len(words) == 3 else None
-            return Kept(entries, self._last_at, b"", named)
+            return ValidPrefix(entries, self._last_at, b"", named)
         if not self._last or self._last.startswith(b"end"):
-            return Kept(entries, self._whole, b"", last)
+            return ValidPrefix(entries, self._whole, b"", last)
         ending = f"end {entries} {last.hex()}\n" if last else f"end {entries}\n"
-        return Kept(entries, self._whole, ending.encode(), last)
+        return ValidPrefix(entries, self._whole, ending.encode(), last)
 
 
 def sum_of(digits: bytes) -> Optional[bytes]:
