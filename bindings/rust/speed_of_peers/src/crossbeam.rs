@@ -3,7 +3,7 @@
 use crate::speed::senders::{messages_of, receive_all};
 use crate::speed::server::{each, WORKERS};
 use crate::speed::together::{timed, Job};
-use crate::speed::token::{hops, pass_on};
+use crate::speed::token::{hops, pass_on, sent_on};
 use crossbeam_channel::unbounded;
 use std::thread;
 use std::time::{Duration, Instant};
@@ -41,11 +41,7 @@ pub fn token<const THREADS: usize>(messages: u64) -> Duration {
         let next = &senders[(at + 1) % THREADS];
         jobs.push(Box::new(move || {
             pass_on::<THREADS>(|| {
-                let left = receiver.recv().unwrap();
-                if left > 0 {
-                    next.send(left - 1).unwrap();
-                }
-                left
+                sent_on(receiver.recv().unwrap(), |left| next.send(left).unwrap())
             });
         }));
     }

@@ -1,7 +1,7 @@
 //! By the library's futures, and tasks on the same runtime as for tokio's channels.
 
 use crate::speed::server::{each, WORKERS};
-use crate::speed::token::hops;
+use crate::speed::token::{hops, sent_on};
 use crate::tokio_tasks::{clocked, ended, runtime};
 use seryugo::{Error, Mailbox, Numbers, Switchboard};
 use std::time::Duration;
@@ -22,14 +22,10 @@ pub fn token<const THREADS: usize>(messages: u64) -> Duration {
             let next = mailboxes[(at + 1) % THREADS];
             let mut seat = board.seat().unwrap();
             tasks.spawn(async move {
-                loop {
-                    let left = seat.recv_async(mailbox).await.unwrap();
-                    if left > 0 {
-                        seat.send(next, left - 1).unwrap();
-                    }
-                    if left < THREADS as u64 {
-                        return;
-                    }
+                let mut left = THREADS as u64;
+                while left >= THREADS as u64 {
+                    left = seat.recv_async(mailbox).await.unwrap();
+                    sent_on(left, |left| seat.send(next, left).unwrap());
                 }
             });
         }

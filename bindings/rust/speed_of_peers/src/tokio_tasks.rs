@@ -3,7 +3,7 @@
 
 use crate::speed::senders::{messages_of, Orders};
 use crate::speed::server::{each, WORKERS};
-use crate::speed::token::hops;
+use crate::speed::token::{hops, sent_on};
 use std::future::Future;
 use std::sync::Arc;
 use std::time::{Duration, Instant};
@@ -71,14 +71,10 @@ pub fn token<const THREADS: usize>(messages: u64) -> Duration {
         for (at, mut receiver) in receivers.into_iter().enumerate() {
             let next = senders[(at + 1) % THREADS].clone();
             tasks.spawn(async move {
-                loop {
-                    let left = receiver.recv().await.unwrap();
-                    if left > 0 {
-                        next.send(left - 1).unwrap();
-                    }
-                    if left < THREADS as u64 {
-                        return;
-                    }
+                let mut left = THREADS as u64;
+                while left >= THREADS as u64 {
+                    left = receiver.recv().await.unwrap();
+                    sent_on(left, |left| next.send(left).unwrap());
                 }
             });
         }

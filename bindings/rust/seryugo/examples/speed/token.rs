@@ -23,6 +23,14 @@ pub fn pass_on<const THREADS: usize>(mut hop: impl FnMut() -> u64) {
     while hop() >= THREADS as u64 {}
 }
 
+/// Sends on the token that says this, unless it was the last hop. Returns what it said.
+pub fn sent_on(left: u64, send: impl FnOnce(u64)) -> u64 {
+    if left > 0 {
+        send(left - 1);
+    }
+    left
+}
+
 /// How many hops it makes: enough for each thread to receive it.
 #[must_use]
 pub fn hops<const THREADS: usize>(messages: u64) -> u64 {
@@ -39,11 +47,7 @@ fn by_seats<const THREADS: usize>(messages: u64) -> Duration {
         jobs.push(Box::new(move || {
             let next = mailboxes[(at + 1) % THREADS];
             pass_on::<THREADS>(|| {
-                let left = seat.recv(mailboxes[at]).unwrap();
-                if left > 0 {
-                    seat.send(next, left - 1).unwrap();
-                }
-                left
+                sent_on(seat.recv(mailboxes[at]).unwrap(), |left| seat.send(next, left).unwrap())
             });
         }));
     }
@@ -59,11 +63,9 @@ fn by_hand<const THREADS: usize>(messages: u64) -> Duration {
         jobs.push(Box::new(move || {
             let number = at as u64;
             pass_on::<THREADS>(|| {
-                let left = mailboxes.recv(number, at).unwrap();
-                if left > 0 {
-                    mailboxes.send(number, (at + 1) % THREADS, left - 1).unwrap();
-                }
-                left
+                sent_on(mailboxes.recv(number, at).unwrap(), |left| {
+                    mailboxes.send(number, (at + 1) % THREADS, left).unwrap();
+                })
             });
         }));
     }
@@ -78,11 +80,7 @@ fn by_mpsc<const THREADS: usize>(messages: u64) -> Duration {
         let next = senders[(at + 1) % THREADS].clone();
         jobs.push(Box::new(move || {
             pass_on::<THREADS>(|| {
-                let left = receiver.recv().unwrap();
-                if left > 0 {
-                    next.send(left - 1).unwrap();
-                }
-                left
+                sent_on(receiver.recv().unwrap(), |left| next.send(left).unwrap())
             });
         }));
     }
