@@ -1,6 +1,6 @@
 //! How fast a program is explored. Run it with `--release`.
 
-use seryugo::explore::{self, explore, Way};
+use seryugo::explore::{self, explore, Strategy};
 use seryugo::{MVar, Mailbox, Numbers, OwnedSeat, Switchboard};
 use std::future::{poll_fn, Future};
 use std::pin::pin;
@@ -18,29 +18,29 @@ fn main() {
     ] {
         let name = format!("three philosophers who {name}");
         let dine = |board: &Board| philosophers(board, is_ordered);
-        measure(&name, Way::every(), dine);
-        measure(&name, Way::every_plainly(), dine);
+        measure(&name, Strategy::every(), dine);
+        measure(&name, Strategy::every_plainly(), dine);
     }
-    measure("a ring of three threads, 30 calls", Way::random(1), ring);
-    measure("the same", Way::priorities(1, 3), ring);
-    measure("the same", Way::every(), ring);
-    measure("the ring by futures, a task a thread", Way::random(1), ring_of_futures);
-    measure("the same", Way::every(), ring_of_futures);
-    measure("the ring by futures, in one thread", Way::random(1), ring_in_one_thread);
-    measure("the same", Way::every(), ring_in_one_thread);
-    for way in [Way::every(), Way::every_plainly()] {
+    measure("a ring of three threads, 30 calls", Strategy::random(1), ring);
+    measure("the same", Strategy::priorities(1, 3), ring);
+    measure("the same", Strategy::every(), ring);
+    measure("the ring by futures, a task a thread", Strategy::random(1), ring_of_futures);
+    measure("the same", Strategy::every(), ring_of_futures);
+    measure("the ring by futures, in one thread", Strategy::random(1), ring_in_one_thread);
+    measure("the same", Strategy::every(), ring_in_one_thread);
+    for way in [Strategy::every(), Strategy::every_plainly()] {
         measure("two who send four, and one who receives", way, |board| senders(board, 4));
     }
-    measure("two who send six, and one who receives", Way::every(), |board| senders(board, 6));
-    measure_up_to(200_000, "two who send ten", Way::every(), |board| senders(board, 10));
-    measure("one who multicasts, one who receives, one who closes", Way::every(), closer);
+    measure("two who send six, and one who receives", Strategy::every(), |board| senders(board, 6));
+    measure_up_to(200_000, "two who send ten", Strategy::every(), |board| senders(board, 10));
+    measure("one who multicasts, one who receives, one who closes", Strategy::every(), closer);
 }
 
-fn measure(name: &str, way: Way, program: impl Fn(&Board)) {
+fn measure(name: &str, way: Strategy, program: impl Fn(&Board)) {
     measure_up_to(20_000, name, way, program);
 }
 
-fn measure_up_to(runs: u64, name: &str, way: Way, program: impl Fn(&Board)) {
+fn measure_up_to(runs: u64, name: &str, way: Strategy, program: impl Fn(&Board)) {
     let start = Instant::now();
     let found = explore(way.clone(), runs, program);
     let time = start.elapsed();

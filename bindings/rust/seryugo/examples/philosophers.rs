@@ -6,7 +6,7 @@
 //! cml_chart < table.journal > table.svg
 //! ```
 
-use seryugo::explore::{self, explore, Found, Way};
+use seryugo::explore::{self, explore, Found, Strategy};
 use seryugo::{Numbers, Switchboard};
 use std::sync::Arc;
 use std::{env, fs, io};
@@ -23,7 +23,7 @@ fn main() -> io::Result<()> {
 
 /// Runs them in every order, until one ends badly.
 pub fn find() -> Found {
-    explore(Way::every(), 1_000, dine)
+    explore(Strategy::every(), 1_000, dine)
 }
 
 /// Each takes the fork on the left and the one on the right, and puts both back.

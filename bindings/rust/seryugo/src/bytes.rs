@@ -1,16 +1,16 @@
 //! The calls of a switchboard of bytes.
 
 use crate::calls::{Calls, Give, Read};
-use crate::entry::Entry;
 use crate::error::Error;
 use crate::explore;
+use crate::journal::entry::Entry;
+use crate::message::carries::{Bytes, Carries, MessageKind, Seal};
+use crate::message::received::{RawEntry, Received};
+use crate::message::sent_as::{Encoded, SentAs};
 use crate::message::Message;
 use crate::raw::{Handle, Opening};
-use crate::received::{RawEntry, Received};
-use crate::room::{Bytes, Carries, Room, Seal};
-use crate::sent_as::{Form, SentAs};
 
-impl Room for Bytes {
+impl MessageKind for Bytes {
     type Message = Vec<u8>;
 }
 
@@ -19,13 +19,13 @@ impl<T: Message> Carries<T> for Bytes {
 
     #[inline]
     fn with_sent<M: SentAs<T>, O>(message: &M, call: impl FnOnce(&[u8]) -> O) -> O {
-        match message.form() {
-            Form::Message(message) => message.with_bytes(call),
-            Form::Bytes(bytes) => call(bytes),
+        match message.encoded() {
+            Encoded::Message(message) => message.with_bytes(call),
+            Encoded::Bytes(bytes) => call(bytes),
         }
     }
 
-    fn kept<M: SentAs<T>>(message: &M) -> Vec<u8> {
+    fn owned<M: SentAs<T>>(message: &M) -> Vec<u8> {
         Self::with_sent(message, <[u8]>::to_vec)
     }
 
@@ -38,7 +38,7 @@ impl<T: Message> Carries<T> for Bytes {
 
 impl Calls for Bytes {
     type Sent<'m> = &'m [u8];
-    type Kept = Vec<u8>;
+    type OwnedMessage = Vec<u8>;
     type Received = Received;
 
     #[inline]

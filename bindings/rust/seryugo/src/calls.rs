@@ -1,9 +1,9 @@
 //! The library's calls that have a message, for both kinds of switchboard.
 
-use crate::entry::Entry;
 use crate::error::Error;
+use crate::journal::entry::Entry;
+use crate::message::carries::{Carries, MessageKind};
 use crate::raw::{done, Handle, Opening};
-use crate::room::{Carries, Room};
 
 /// A call that gives an object a message.
 #[derive(Clone, Copy)]
@@ -26,15 +26,15 @@ pub enum Read {
 pub trait Calls: Sized {
     /// What a call that sends is given.
     type Sent<'m>: Copy + Send + Sync + Unpin;
-    /// The same, with an owner.
-    type Kept: Send + Sync;
+    /// A message to send, with its owner.
+    type OwnedMessage: Send + Sync;
     /// A message that was received.
     type Received;
 
     /// What a call that receives writes to.
     fn nothing() -> Self::Received;
 
-    fn sent(kept: &Self::Kept) -> Self::Sent<'_>;
+    fn sent(kept: &Self::OwnedMessage) -> Self::Sent<'_>;
 
     fn open(limit: u64, room: &mut Opening) -> u32;
     fn open_reading(reading: &mut Opening) -> u32;
@@ -69,22 +69,22 @@ pub trait Calls: Sized {
     /// The word of a message in a journal's text.
     fn word(message: &Self::Message) -> String
     where
-        Self: Room;
+        Self: MessageKind;
 
     /// The message of such a word.
     fn message_of(word: &str) -> Option<Self::Message>
     where
-        Self: Room;
+        Self: MessageKind;
 
     /// The entry at a position of a room's journal.
     fn entry(room: &mut Handle, at: u64) -> Result<Entry<Self>, Error>
     where
-        Self: Room;
+        Self: MessageKind;
 
     /// The entry at a place of a taken journal.
     fn taken_entry(journal: &mut Handle, place: u64) -> Result<Entry<Self>, Error>
     where
-        Self: Room;
+        Self: MessageKind;
 }
 
 /// The message that a call has received, if it was done.

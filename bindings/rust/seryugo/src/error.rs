@@ -1,7 +1,7 @@
 //! Why a call failed.
 
 use crate::explore::Diverged;
-use crate::kind::{Misfit, Missing};
+use crate::message::kind::{Misfit, Missing};
 use crate::raw::code;
 use crate::version::Version;
 use std::any;

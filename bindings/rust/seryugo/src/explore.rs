@@ -5,11 +5,11 @@
 //! a thread does between two calls is one piece. At each call it is open which thread goes on.
 //!
 //! ```
-//! use seryugo::explore::{self, Way};
+//! use seryugo::explore::{self, Strategy};
 //! use seryugo::Switchboard;
 //! use std::sync::Arc;
 //!
-//! let found = explore::explore(Way::every(), 1_000, |board: &Arc<Switchboard>| {
+//! let found = explore::explore(Strategy::every(), 1_000, |board: &Arc<Switchboard>| {
 //!     let mut seat = board.seat().unwrap();
 //!     let account = seat.mvar_init(100).unwrap();
 //!     explore::scope(|threads| {
@@ -60,14 +60,14 @@ mod shared;
 mod shorten;
 mod state;
 mod step;
+mod strategy;
 mod tree;
-mod way;
 mod worker;
 
 pub(crate) use board::Pass;
 pub(crate) use conductor::Conductor;
 pub(crate) use rerun::{bytes_of, word_of, RerunLane};
-pub(crate) use step::{Kind, Step};
+pub(crate) use step::{Step, StepKind};
 
 pub use end::{End, Waits};
 pub use found::{Bad, Found};
@@ -76,4 +76,6 @@ pub use rerun::{rerun, Diverged, Reran, Rerun, RerunError, Stop};
 pub use runs::{again, explore};
 pub use scope::{aside, scope, Scope, Thread};
 pub use shared::Shared;
-pub use way::Way;
+pub use strategy::Strategy;
+#[allow(deprecated)]
+pub use strategy::Way;

@@ -1,11 +1,20 @@
 //! A journal that was taken.
 
-use crate::entry::{found, Entry};
+pub(crate) mod checker;
+pub(crate) mod entry;
+pub(crate) mod file;
+pub(crate) mod full;
+pub(crate) mod header;
+pub(crate) mod prefix;
+pub(crate) mod restore;
+pub(crate) mod sum;
+
 use crate::error::Error;
+use crate::journal::entry::{found, Entry};
+use crate::journal::sum::Sum;
+use crate::message::carries::{Bytes, MessageKind};
+use crate::message::received::Received;
 use crate::raw::Handle;
-use crate::received::Received;
-use crate::room::{Bytes, Room};
-use crate::sum::Sum;
 use std::cell::RefCell;
 use std::fmt;
 use std::io::{self, ErrorKind, Write};
@@ -37,7 +46,7 @@ use std::ops::Range;
 /// fn shared<T: Sync>() {}
 /// shared::<seryugo::Journal>();
 /// ```
-pub struct Journal<R: Room = Bytes> {
+pub struct Journal<R: MessageKind = Bytes> {
     // Calls on a handle are one at a time, also those that change nothing.
     handle: RefCell<Handle>,
     first: u64,
@@ -45,7 +54,7 @@ pub struct Journal<R: Room = Bytes> {
     kind: PhantomData<fn() -> R>,
 }
 
-impl<R: Room> Journal<R> {
+impl<R: MessageKind> Journal<R> {
     pub(crate) fn new(handle: Handle, first: u64, len: usize) -> Journal<R> {
         Journal {
             handle: RefCell::new(handle),
@@ -271,12 +280,12 @@ fn unwritten(error: Error) -> io::Error {
 /// # Ok::<(), seryugo::Error>(())
 /// ```
 #[must_use = "an iterator reads nothing before it is asked"]
-pub struct Entries<'a, R: Room = Bytes> {
+pub struct Entries<'a, R: MessageKind = Bytes> {
     journal: &'a Journal<R>,
     places: Range<usize>,
 }
 
-impl<R: Room> Iterator for Entries<'_, R> {
+impl<R: MessageKind> Iterator for Entries<'_, R> {
     type Item = Entry<R>;
 
     fn next(&mut self) -> Option<Entry<R>> {
@@ -288,9 +297,9 @@ impl<R: Room> Iterator for Entries<'_, R> {
     }
 }
 
-impl<R: Room> ExactSizeIterator for Entries<'_, R> {}
+impl<R: MessageKind> ExactSizeIterator for Entries<'_, R> {}
 
-impl<'a, R: Room> IntoIterator for &'a Journal<R> {
+impl<'a, R: MessageKind> IntoIterator for &'a Journal<R> {
     type Item = Entry<R>;
     type IntoIter = Entries<'a, R>;
 
@@ -299,7 +308,7 @@ impl<'a, R: Room> IntoIterator for &'a Journal<R> {
     }
 }
 
-impl<R: Room> fmt::Debug for Journal<R> {
+impl<R: MessageKind> fmt::Debug for Journal<R> {
     fn fmt(&self, f: &mut fmt::Formatter<'_>) -> fmt::Result {
         f.debug_struct("Journal")
             .field("first", &self.first)
@@ -308,7 +317,7 @@ impl<R: Room> fmt::Debug for Journal<R> {
     }
 }
 
-impl<R: Room> fmt::Debug for Entries<'_, R> {
+impl<R: MessageKind> fmt::Debug for Entries<'_, R> {
     fn fmt(&self, f: &mut fmt::Formatter<'_>) -> fmt::Result {
         f.debug_struct("Entries").field("places", &self.places).finish_non_exhaustive()
     }

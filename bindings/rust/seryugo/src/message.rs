@@ -1,5 +1,12 @@
 //! What is sent on a switchboard of bytes.
 
+pub(crate) mod carries;
+pub(crate) mod kind;
+pub(crate) mod lists;
+pub(crate) mod names;
+pub(crate) mod received;
+pub(crate) mod sent_as;
+
 use std::slice;
 use std::sync::Arc;
 

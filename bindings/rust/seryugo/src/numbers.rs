@@ -1,14 +1,14 @@
 //! The calls of a switchboard of numbers.
 
 use crate::calls::{Calls, Give, Read};
-use crate::entry::{Call, Entry, Reply, Who};
 use crate::error::Error;
+use crate::journal::entry::{Call, Entry, Reply, Who};
+use crate::message::carries::{Carries, MessageKind, Numbers, Seal};
+use crate::message::sent_as::{Encoded, SentAs};
 use crate::message::Message;
 use crate::raw::{done, Handle, Opening};
-use crate::room::{Carries, Numbers, Room, Seal};
-use crate::sent_as::{Form, SentAs};
 
-impl Room for Numbers {
+impl MessageKind for Numbers {
     type Message = u64;
 }
 
@@ -17,15 +17,15 @@ impl Carries<u64> for Numbers {
 
     #[inline]
     fn with_sent<M: SentAs<u64>, O>(message: &M, call: impl FnOnce(u64) -> O) -> O {
-        call(Self::kept(message))
+        call(Self::owned(message))
     }
 
     #[inline]
-    fn kept<M: SentAs<u64>>(message: &M) -> u64 {
-        match message.form() {
-            Form::Message(number) => *number,
+    fn owned<M: SentAs<u64>>(message: &M) -> u64 {
+        match message.encoded() {
+            Encoded::Message(number) => *number,
             // No bytes are sent as a number, so that this is never reached.
-            Form::Bytes(bytes) => u64::from_bytes(bytes).unwrap_or_default(),
+            Encoded::Bytes(bytes) => u64::from_bytes(bytes).unwrap_or_default(),
         }
     }
 
@@ -37,7 +37,7 @@ impl Carries<u64> for Numbers {
 
 impl Calls for Numbers {
     type Sent<'m> = u64;
-    type Kept = u64;
+    type OwnedMessage = u64;
     type Received = u64;
 
     #[inline]

@@ -5,7 +5,7 @@
 //! reference and numbers is safe.
 
 use crate::error::Error;
-use crate::sum::RawSum;
+use crate::journal::sum::RawSum;
 use std::ffi::c_void;
 use std::ptr;
 

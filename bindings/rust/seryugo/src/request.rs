@@ -1,14 +1,17 @@
 //! Questions that are sent together with where to answer them.
 
+pub(crate) mod answers;
+pub(crate) mod halves;
+
 use crate::calls::{Calls, Give};
 use crate::error::{handing_back, Error, SendError};
-use crate::kind::{Kind, Misfit, Missing};
+use crate::message::carries::{Bytes, Carries};
+use crate::message::kind::{Kind, Misfit, Missing};
+use crate::message::sent_as::SentAs;
 use crate::message::Message;
-use crate::owned::Holds;
 use crate::raw::done;
-use crate::room::{Bytes, Carries};
+use crate::seat::owned::Holds;
 use crate::seat::Seat;
-use crate::sent_as::SentAs;
 use std::fmt;
 use std::marker::PhantomData;
 use std::panic::{self, AssertUnwindSafe};

@@ -1,17 +1,23 @@
 //! A seat, from which one thread calls.
 
-use crate::asking::Answers;
+pub(crate) mod block;
+pub(crate) mod iter;
+pub(crate) mod make;
+pub(crate) mod owned;
+pub(crate) mod pending;
+
 use crate::calls::{received, Give, Read};
-use crate::entry::Who;
 use crate::error::{handing_back, Error, SendError};
 use crate::explore::Step;
-use crate::kind::Misfit;
-use crate::names::{Channel, MVar, Mailbox, Named, Source, Variable};
-use crate::owned::Holds;
-use crate::parkers::ParkerAt;
+use crate::journal::entry::Who;
+use crate::message::carries::{Bytes, Carries, MessageKind};
+use crate::message::kind::Misfit;
+use crate::message::names::{Channel, MVar, Mailbox, Named, Source, Variable};
+use crate::message::sent_as::SentAs;
+use crate::park::table::ParkerAt;
 use crate::raw::{self, code, done, done_or, Handle};
-use crate::room::{Bytes, Carries, Room};
-use crate::sent_as::SentAs;
+use crate::request::answers::Answers;
+use crate::seat::owned::Holds;
 use crate::switchboard::Switchboard;
 use std::fmt;
 use std::marker::PhantomData;
@@ -68,7 +74,7 @@ use std::marker::PhantomData;
 /// - `NoMemory`.
 ///
 /// If a sink panics ([`WhenFull`](crate::WhenFull)), so does the call that found the journal full.
-pub struct Seat<'a, R: Room = Bytes, H: Holds<R> = &'a Switchboard<R>> {
+pub struct Seat<'a, R: MessageKind = Bytes, H: Holds<R> = &'a Switchboard<R>> {
     pub(crate) board: H,
     number: u64,
     pub(crate) parker: ParkerAt,
@@ -80,16 +86,16 @@ pub struct Seat<'a, R: Room = Bytes, H: Holds<R> = &'a Switchboard<R>> {
     kind: PhantomData<&'a R>,
 }
 
-impl<R: Room, H: Holds<R>> Seat<'_, R, H> {
+impl<R: MessageKind, H: Holds<R>> Seat<'_, R, H> {
     /// Makes a seat at a switchboard.
     pub(crate) fn at(board: H) -> Result<Self, Error> {
-        let mut inside = board.lock();
-        let parker = board.parkers.make(inside.next_place()).ok_or(Error::NoMemory)?;
-        let number = inside.new_seat()?;
+        let mut state = board.lock();
+        let parker = board.parkers.make(state.next_place()).ok_or(Error::NoMemory)?;
+        let number = state.new_seat()?;
         board.seat_comes(number);
         // SAFETY: no parker moves, and the seat uses it while it has `board`, which keeps it.
         let parker = unsafe { ParkerAt::new(parker) };
-        drop(inside);
+        drop(state);
         Ok(Seat {
             board,
             number,
@@ -344,7 +350,7 @@ impl<R: Room, H: Holds<R>> Seat<'_, R, H> {
         if let Some(conductor) = &self.board.conductor {
             return self.board.call_conducted(conductor, &self.parker, seat, step, call);
         }
-        Ok(self.board.change(Some(&self.parker), |inside| inside.enter(call)))
+        Ok(self.board.change(Some(&self.parker), |state| state.enter(call)))
     }
 
     /// The seat's number, once it may call: a future that was forgotten left it waiting, or a call
@@ -362,31 +368,31 @@ impl<R: Room, H: Holds<R>> Seat<'_, R, H> {
     pub(crate) fn withdraw(&mut self) {
         self.is_parked = false;
         let seat = self.number;
-        self.board.change(Some(&self.parker), |inside| inside.withdraw(seat));
+        self.board.change(Some(&self.parker), |state| state.withdraw(seat));
         self.parker.forget_waker();
     }
 }
 
-impl<R: Room, H: Holds<R>> Drop for Seat<'_, R, H> {
+impl<R: MessageKind, H: Holds<R>> Drop for Seat<'_, R, H> {
     fn drop(&mut self) {
         let (seat, answers) = (self.number, self.answers.take());
         if self.is_parked {
             self.parker.forget_waker();
         }
         // This is one call: the seat leaves also if the waker of another seat panics.
-        self.board.change(None, |inside| {
+        self.board.change(None, |state| {
             if self.is_parked {
-                inside.withdraw(seat);
+                state.withdraw(seat);
             }
             // The seat isn't parked, so that it may leave.
-            raw::seryugo_leave(&mut inside.handle, seat);
-            inside.free_answers.extend(answers);
+            raw::seryugo_leave(&mut state.handle, seat);
+            state.free_answers.extend(answers);
         });
         self.board.leaves(Who::Seat(seat));
     }
 }
 
-impl<R: Room, H: Holds<R>> fmt::Debug for Seat<'_, R, H> {
+impl<R: MessageKind, H: Holds<R>> fmt::Debug for Seat<'_, R, H> {
     fn fmt(&self, f: &mut fmt::Formatter<'_>) -> fmt::Result {
         f.debug_struct("Seat").field("number", &self.number).finish_non_exhaustive()
     }

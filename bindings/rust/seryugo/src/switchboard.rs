@@ -1,18 +1,26 @@
 //! A room under a lock, on which threads call and wait.
 
-use crate::apart::Apart;
+pub(crate) mod expected;
+pub(crate) mod guest;
+pub(crate) mod journal;
+pub(crate) mod lock;
+pub(crate) mod locked;
+pub(crate) mod objects;
+pub(crate) mod state;
+
 use crate::error::Error;
-use crate::explore::{Conductor, Kind};
-use crate::feed::Feed;
-use crate::inside::Inside;
-use crate::kind::Missing;
-use crate::lane::Lane;
-use crate::lock::Lock;
-use crate::names::{Channel, Name, Named, Target};
-use crate::parkers::Parkers;
+use crate::explore::{Conductor, StepKind};
+use crate::message::carries::{Bytes, Carries, MessageKind, Numbers};
+use crate::message::kind::Missing;
+use crate::message::names::{Channel, Name, Named, Target};
+use crate::park::cache_padded::CachePadded;
+use crate::park::table::Parkers;
 use crate::raw::Handle;
-use crate::room::{Bytes, Carries, Numbers, Room};
+use crate::rings::feed::Feed;
+use crate::rings::lane::Lane;
 use crate::seat::Seat;
+use crate::switchboard::lock::Lock;
+use crate::switchboard::state::State;
 use crate::version;
 use std::fmt;
 use std::marker::PhantomData;
@@ -38,9 +46,9 @@ use std::sync::atomic::{AtomicU64, Ordering};
 /// # Ok(())
 /// # }
 /// ```
-pub struct Switchboard<R: Room = Bytes> {
+pub struct Switchboard<R: MessageKind = Bytes> {
     /// Threads that wake others read what lies beside the lock.
-    pub(crate) inside: Apart<Lock<Inside<R>>>,
+    pub(crate) state: CachePadded<Lock<State<R>>>,
     pub(crate) parkers: Parkers,
     /// No other switchboard of the process has it. The names of the objects have it too.
     number: u64,
@@ -94,7 +102,7 @@ impl Switchboard<Numbers> {
     }
 }
 
-impl<R: Room> Switchboard<R> {
+impl<R: MessageKind> Switchboard<R> {
     pub(crate) fn open(limit: u64) -> Result<Switchboard<R>, Error> {
         version::check()?;
         Ok(Switchboard::over(Handle::opened(|room| R::open(limit, room))?, limit))
@@ -104,7 +112,7 @@ impl<R: Room> Switchboard<R> {
     /// entries between two cuts.
     pub(crate) fn over(handle: Handle, limit: u64) -> Switchboard<R> {
         Switchboard {
-            inside: Apart(Lock::new(Inside::new(handle, limit))),
+            state: CachePadded(Lock::new(State::new(handle, limit))),
             parkers: Parkers::new(),
             number: MADE.fetch_add(1, Ordering::Relaxed),
             conductor: None,
@@ -198,21 +206,21 @@ impl<R: Room> Switchboard<R> {
     /// has moved.
     pub fn drain(&self, lane: u64) -> Result<u64, Error> {
         let drain = || match self.follower() {
-            None => self.change(None, |inside| inside.drain(lane)),
+            None => self.change(None, |state| state.drain(lane)),
             Some(follower) => self.drained_again(follower, lane),
         };
-        let drained = self.pass_by(Kind::Drain.on(lane), drain, |count| *count);
+        let drained = self.pass_by(StepKind::Drain.on(lane), drain, |count| *count);
         drained.map_err(|error| error.missing(Missing::Lane(lane)))
     }
 
     /// Closes a lane that has ended, once all of its messages have moved.
     pub(crate) fn close_lane(&self, number: u64, lane: &mut Handle) -> Result<(), Error> {
-        self.change(None, |inside| inside.close_lane(number, lane))
+        self.change(None, |state| state.close_lane(number, lane))
     }
 
     /// Closes a lane on which this many messages were sent: how many are lost.
     pub(crate) fn end_lane(&self, number: u64, sent: u64) -> u64 {
-        self.change(None, |inside| inside.end_lane(number, sent))
+        self.change(None, |state| state.end_lane(number, sent))
     }
 
     /// How many messages were lost: those of lanes that were dropped or abandoned while the journal
@@ -258,12 +266,12 @@ impl<R: Room> Switchboard<R> {
     }
 
     /// The room, before any thread has the switchboard.
-    pub(crate) fn inside_mut(&mut self) -> &mut Inside<R> {
-        self.inside.0.get_mut()
+    pub(crate) fn state_mut(&mut self) -> &mut State<R> {
+        self.state.0.get_mut()
     }
 }
 
-impl<R: Room> fmt::Debug for Switchboard<R> {
+impl<R: MessageKind> fmt::Debug for Switchboard<R> {
     fn fmt(&self, f: &mut fmt::Formatter<'_>) -> fmt::Result {
         f.debug_struct("Switchboard").field("number", &self.number).finish_non_exhaustive()
     }

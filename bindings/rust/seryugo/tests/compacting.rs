@@ -3,7 +3,7 @@
 mod common;
 
 use common::{let_them_wait, without_a_hang, Board, Channel, MVar, Mailbox, Port};
-use seryugo::{Checker, Error, Journal, Numbers, Object, Room, Sum, Switchboard, WhenFull};
+use seryugo::{Checker, Error, Journal, MessageKind, Numbers, Object, Sum, Switchboard, WhenFull};
 use std::future::Future;
 use std::io::{self, ErrorKind};
 use std::panic::{catch_unwind, AssertUnwindSafe};
@@ -23,7 +23,7 @@ const EACH: u64 = 100;
 /// How many messages of the channel the port isn't to receive each time.
 const LEFT: u64 = 5;
 
-fn text_of<R: Room>(journal: &Journal<R>) -> Vec<u8> {
+fn text_of<R: MessageKind>(journal: &Journal<R>) -> Vec<u8> {
     let mut text = Vec::new();
     journal.write_to(&mut text).unwrap();
     text

@@ -34,7 +34,7 @@ const DECLARING: [&str; 5] = [
     include_str!("../src/raw.rs"),
     include_str!("../src/numbers.rs"),
     include_str!("../src/bytes.rs"),
-    include_str!("../src/received.rs"),
+    include_str!("../src/message/received.rs"),
     include_str!("../src/version.rs"),
 ];
 

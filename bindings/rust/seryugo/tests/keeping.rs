@@ -4,7 +4,7 @@ mod common;
 
 use common::Board;
 use seryugo::{
-    Call, CheckError, Checker, Error, Kind, Missing, Numbers, Reply, RestoreError, Room,
+    Call, CheckError, Checker, Error, Kind, MessageKind, Missing, Numbers, Reply, RestoreError,
     Switchboard, Who,
 };
 use std::io::{self, BufReader, Read};
@@ -267,7 +267,7 @@ const OTHERS: [(&str, &str, &str); 14] = [
 
 /// How a text is refused: by a checker, also if it goes on or makes a short journal, and by a
 /// switchboard.
-fn refused<R: Room>(mut checker: Checker<R>, text: &str, at_once: usize) -> Vec<String> {
+fn refused<R: MessageKind>(mut checker: Checker<R>, text: &str, at_once: usize) -> Vec<String> {
     let reader = || BufReader::with_capacity(at_once, text.as_bytes());
     let told =
         |error: Option<CheckError>| error.map_or("none".into(), |error| format!("{error:?}"));

@@ -19,7 +19,7 @@ fn board() -> Arc<Switchboard> {
 }
 
 /// Whether nothing has a share any more.
-fn is_gone<R: seryugo::Room>(board: &Weak<Switchboard<R>>) -> bool {
+fn is_gone<R: seryugo::MessageKind>(board: &Weak<Switchboard<R>>) -> bool {
     board.upgrade().is_none()
 }
 

@@ -4,8 +4,8 @@ mod common;
 
 use common::Board;
 use seryugo::{
-    Bytes, CheckError, Checker, Error, Journal, Numbers, RestoreError, Room, Sum, Switchboard,
-    WhenFull,
+    Bytes, CheckError, Checker, Error, Journal, MessageKind, Numbers, RestoreError, Sum,
+    Switchboard, WhenFull,
 };
 use std::fs::{self, File};
 use std::io::{BufReader, ErrorKind, Write};
@@ -48,7 +48,7 @@ fn texts(pieces: &[Journal]) -> Vec<Vec<u8>> {
     pieces.iter().map(write).collect()
 }
 
-fn checked<R: Room>(mut checker: Checker<R>, text: &[u8]) -> Result<Checker<R>, CheckError> {
+fn checked<R: MessageKind>(mut checker: Checker<R>, text: &[u8]) -> Result<Checker<R>, CheckError> {
     checker.read(text)?;
     Ok(checker)
 }

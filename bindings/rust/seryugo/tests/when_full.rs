@@ -1,6 +1,6 @@
 //! Switchboards that cut full journals.
 
-use seryugo::{Bytes, Error, Numbers, Room, Switchboard, WhenFull};
+use seryugo::{Bytes, Error, MessageKind, Numbers, Switchboard, WhenFull};
 use std::fs::File;
 use std::future::Future;
 use std::io::{self, ErrorKind, Read, Seek};
@@ -15,7 +15,7 @@ use std::time::Duration;
 type Text = Arc<Mutex<Vec<u8>>>;
 
 /// A sink that appends to a text, and what it appends to.
-fn text_sink<R: Room>() -> (WhenFull<R>, Text) {
+fn text_sink<R: MessageKind>() -> (WhenFull<R>, Text) {
     let text = Text::default();
     let kept = text.clone();
     (WhenFull::call(move |journal| journal.write_to(&mut *kept.lock().unwrap())), text)
@@ -30,7 +30,7 @@ fn disk(is_full: &AtomicBool) -> io::Result<()> {
 }
 
 /// How many entries a whole, lawful journal has.
-fn entries_of<R: Room>(text: &[u8]) -> u64 {
+fn entries_of<R: MessageKind>(text: &[u8]) -> u64 {
     Switchboard::<R>::restore(text, 1_000).unwrap().entries()
 }
 

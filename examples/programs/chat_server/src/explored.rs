@@ -16,7 +16,7 @@ use crate::server::Server;
 use crate::store::{note, Messages, Store};
 use client::{Client, Script, ALL_JOINED, ALL_SAID, BACK, FIRST_QUITS};
 use log::{Event, Log};
-use seryugo::explore::{self, explore, Found, Way};
+use seryugo::explore::{self, explore, Found, Strategy};
 use seryugo::{Journal, Switchboard};
 use std::fs::{self, File};
 use std::net::{TcpListener, TcpStream};
@@ -155,7 +155,7 @@ impl Store for Memory<'_> {
 }
 
 /// The clients of this script, in this way.
-fn explored(way: Way, most: u64, script: &Script) -> Found {
+fn explored(way: Strategy, most: u64, script: &Script) -> Found {
     let listener = TcpListener::bind("127.0.0.1:0").unwrap();
     let socket = TcpStream::connect(listener.local_addr().unwrap()).unwrap();
     let file = new_file();
@@ -219,7 +219,7 @@ fn run_clients(server: &Server<'_>, script: &Script, socket: &TcpStream, log: &L
 
 #[test]
 fn each_order_up_to_a_bound_hands_on_all() {
-    let found = explored(Way::every().preemptions(1), 80, TOGETHER);
+    let found = explored(Strategy::every().preemptions(1), 80, TOGETHER);
     assert!(found.is_clean(), "{found}");
 }
 
@@ -229,7 +229,7 @@ fn random_orders_hand_on_all(script: &Script) {
     let until = Instant::now() + Duration::from_secs(seconds);
     let mut runs = 0;
     for seed in 0.. {
-        let found = explored(Way::random(seed), 30, script);
+        let found = explored(Strategy::random(seed), 30, script);
         assert!(found.is_clean(), "seed {seed}: {found}");
         runs += found.runs();
         if Instant::now() >= until {

@@ -3,7 +3,7 @@
 use crate::damage;
 use crate::failure::Failure;
 use crate::progress::Progress;
-use seryugo::{CheckError, Journal, Kept, RestoreError, Sum, Switchboard};
+use seryugo::{CheckError, Journal, RestoreError, Sum, Switchboard, ValidPrefix};
 use std::fs::{self, OpenOptions, TryLockError};
 use std::io::{self, BufRead, ErrorKind, Read, Seek, SeekFrom, Write};
 use std::os::unix::fs::MetadataExt;
@@ -32,7 +32,7 @@ pub struct JournalFile {
 /// A journal that was read, but not yet changed: it may still turn out to be another program's.
 pub struct Opened {
     file: JournalFile,
-    kept: Kept,
+    kept: ValidPrefix,
 }
 
 impl JournalFile {

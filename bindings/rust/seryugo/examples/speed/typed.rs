@@ -3,7 +3,7 @@
 
 use super::queue::{Queue, Waking};
 use super::Way;
-use seryugo::{Carries, Message, Room, Switchboard};
+use seryugo::{Carries, Message, Switchboard};
 use std::hint::black_box;
 use std::sync::Arc;
 use std::time::{Duration, Instant};
@@ -54,7 +54,7 @@ fn bytes(messages: u64) -> Duration {
 }
 
 /// Sends each number's message, and sees that it is received.
-fn pass<T, R: Room + Carries<T>>(
+fn pass<T, R: Carries<T>>(
     board: &Switchboard<R>,
     messages: u64,
     message: impl Fn(u64) -> T,

@@ -1,12 +1,12 @@
 //! What an exploration asks and makes of a switchboard.
 
-use super::step::{Kind, Step, NONE};
+use super::step::{Step, StepKind, NONE};
 use crate::calls::Read;
-use crate::entry::Entry;
-use crate::kind;
-use crate::objects::Reader;
+use crate::journal::entry::Entry;
+use crate::message::carries::MessageKind;
+use crate::message::kind;
 use crate::raw::{self, code, written, Handle};
-use crate::room::Room;
+use crate::switchboard::objects::Reader;
 use crate::switchboard::Switchboard;
 use std::hash::{DefaultHasher, Hash, Hasher};
 
@@ -54,25 +54,28 @@ pub(crate) trait Board: Send + Sync {
     fn stall(&self, waits: &[(u64, Step)]) -> (bool, Vec<u64>);
 }
 
-impl<R: Room> Board for Switchboard<R> {
+impl<R: MessageKind> Board for Switchboard<R> {
     fn look(&self, step: Step) -> Look {
-        let mut inside = self.lock();
+        let mut state = self.lock();
         let is_fed =
-            step.kind == Kind::Recv && inside.fed.values().any(|port| *port == step.object);
-        let room = &mut inside.handle;
+            step.kind == StepKind::Recv && state.fed.values().any(|port| *port == step.object);
+        let room = &mut state.handle;
         let is_full = match step.kind {
-            Kind::Send => is_owed(room, step.object),
-            Kind::Recv | Kind::Poll | Kind::Copy | Kind::Close => {
+            StepKind::Send => is_owed(room, step.object),
+            StepKind::Recv | StepKind::Poll | StepKind::Copy | StepKind::Close => {
                 is_owed(room, step.object) || is_closed(room, step.object)
             }
-            Kind::Look => {
+            StepKind::Look => {
                 is_owed(room, step.object)
                     || is_closed(room, step.object)
                     || is_held::<R>(room, step.object)
             }
-            Kind::Put | Kind::Get | Kind::GetPoll | Kind::Take | Kind::TakePoll | Kind::Swap => {
-                is_held::<R>(room, step.object)
-            }
+            StepKind::Put
+            | StepKind::Get
+            | StepKind::GetPoll
+            | StepKind::Take
+            | StepKind::TakePoll
+            | StepKind::Swap => is_held::<R>(room, step.object),
             _ => false,
         };
         Look {
@@ -84,17 +87,17 @@ impl<R: Room> Board for Switchboard<R> {
     }
 
     fn as_if(&self, step: Step) -> Step {
-        let inside = &mut *self.lock();
-        let port = inside.fed.get(&step.object).copied().unwrap_or(NONE);
+        let state = &mut *self.lock();
+        let port = state.fed.get(&step.object).copied().unwrap_or(NONE);
         match step.kind {
-            Kind::Drain | Kind::CloseLane => match inside.lanes.get(&step.object) {
-                Some(lane) => sends_to(&mut inside.handle, lane.target),
+            StepKind::Drain | StepKind::CloseLane => match state.lanes.get(&step.object) {
+                Some(lane) => sends_to(&mut state.handle, lane.target),
                 // The lane may be opened.
-                None => Kind::LookAtAll.on(NONE),
+                None => StepKind::LookAtAll.on(NONE),
             },
-            Kind::Pump => Kind::Recv.on(port),
-            Kind::EndFeed => Kind::Close.on(port),
-            Kind::OpenFeed => Kind::Port.on(step.object),
+            StepKind::Pump => StepKind::Recv.on(port),
+            StepKind::EndFeed => StepKind::Close.on(port),
+            StepKind::OpenFeed => StepKind::Port.on(step.object),
             _ => step,
         }
     }
@@ -118,8 +121,8 @@ impl<R: Room> Board for Switchboard<R> {
     }
 
     fn entries(&self) -> (u64, u64) {
-        let mut inside = self.lock();
-        let (all, cut) = (inside.count(raw::seryugo_entries), inside.count(raw::seryugo_cut_at));
+        let mut state = self.lock();
+        let (all, cut) = (state.count(raw::seryugo_entries), state.count(raw::seryugo_cut_at));
         (all, all - cut)
     }
 
@@ -139,25 +142,25 @@ impl<R: Room> Board for Switchboard<R> {
     }
 
     fn stall(&self, waits: &[(u64, Step)]) -> (bool, Vec<u64>) {
-        let mut inside = self.lock();
+        let mut state = self.lock();
         let mut fails_as_stalled = false;
         for &(seat, step) in waits {
             let read = match step.kind {
-                Kind::Recv => Read::Recv,
-                Kind::Get => Read::Get,
+                StepKind::Recv => Read::Recv,
+                StepKind::Get => Read::Get,
                 // A swap waits as a take does.
                 _ => Read::Take,
             };
             let mut found = R::nothing();
             let code =
-                inside.ask(false, |room| R::ask(read, room, seat, step.object, false, &mut found));
+                state.ask(false, |room| R::ask(read, room, seat, step.object, false, &mut found));
             fails_as_stalled = code == code::STALLED;
         }
-        let seats = inside.next_place();
-        let is_free = |seat: &u64| is_free::<R>(&mut inside.handle, *seat);
+        let seats = state.next_place();
+        let is_free = |seat: &u64| is_free::<R>(&mut state.handle, *seat);
         let free = (0..seats).filter(is_free).collect();
         for &(seat, _) in waits {
-            inside.withdraw(seat);
+            state.withdraw(seat);
         }
         (fails_as_stalled, free)
     }
@@ -165,7 +168,7 @@ impl<R: Room> Board for Switchboard<R> {
 
 /// Whether a seat may call: the library refuses the call of another one before it looks at the
 /// object, which isn't there.
-fn is_free<R: Room>(room: &mut Handle, seat: u64) -> bool {
+fn is_free<R: MessageKind>(room: &mut Handle, seat: u64) -> bool {
     R::poll(Read::Get, room, seat, NONE, &mut R::nothing()) == code::NO_SUCH
 }
 
@@ -173,8 +176,8 @@ fn is_free<R: Room>(room: &mut Handle, seat: u64) -> bool {
 fn sends_to(room: &mut Handle, target: u64) -> Step {
     let kind = written(|kind| raw::seryugo_kind(room, target, kind));
     match kind.and_then(kind::Kind::of) {
-        Ok(kind::Kind::Mailbox) => Kind::Send.on(target),
-        _ => Kind::Multicast.on(target),
+        Ok(kind::Kind::Mailbox) => StepKind::Send.on(target),
+        _ => StepKind::Multicast.on(target),
     }
 }
 
@@ -183,8 +186,10 @@ fn place(room: &mut Handle, step: Step) -> u64 {
     let object = step.object;
     let mut count = |read: Reader| written(|count| read(room, object, count)).ok();
     let place = match step.kind {
-        Kind::Send | Kind::Multicast => count(raw::seryugo_sent),
-        Kind::Recv | Kind::Poll if count(raw::seryugo_owed).is_some_and(|owed| owed > 0) => {
+        StepKind::Send | StepKind::Multicast => count(raw::seryugo_sent),
+        StepKind::Recv | StepKind::Poll
+            if count(raw::seryugo_owed).is_some_and(|owed| owed > 0) =>
+        {
             let start = count(raw::seryugo_start_of).unwrap_or(0);
             count(raw::seryugo_got).map(|got| start + got)
         }
@@ -197,7 +202,7 @@ fn is_closed(room: &mut Handle, port: u64) -> bool {
     raw::seryugo_is_open(room, port) == code::CLOSED
 }
 
-fn is_held<R: Room>(room: &mut Handle, object: u64) -> bool {
+fn is_held<R: MessageKind>(room: &mut Handle, object: u64) -> bool {
     R::held(room, object, &mut R::nothing()) == code::DONE
 }
 

@@ -4,10 +4,10 @@
 //! An outcome is what each seat has called and was answered, in its order, and how the run ended.
 //! `SERYUGO_PROGRAMS=10000 cargo test --release --lib comparison` compares this many programs.
 
+mod few_objects;
 mod futures;
 mod joins;
 mod locks;
-mod near;
 mod rings;
 mod threads;
 
@@ -16,16 +16,16 @@ use super::choose::{mix, Random};
 use super::end::End;
 use super::runs::Explorer;
 use super::state::{At, Joins, State};
-use super::step::{Kind, Step};
-use super::way::Way;
+use super::step::{Step, StepKind};
+use super::strategy::Strategy;
 use super::worker::Slot;
 use crate::calls::Calls;
-use crate::names::{Channel, IVar, MVar, Mailbox, Object, Port};
-use crate::owned::OwnedSeat;
+use crate::message::carries::Numbers;
+use crate::message::names::{Channel, IVar, MVar, Mailbox, Object, Port};
 use crate::raw::{self, written};
-use crate::room::Numbers;
+use crate::seat::owned::OwnedSeat;
 use crate::switchboard::Switchboard;
-use near::{Near, FIRST_NEAR};
+use few_objects::{FewObjects, FIRST_ON_FEW};
 use rings::{Rings, FIRST_RING};
 use std::collections::{BTreeMap, BTreeSet};
 use std::env;
@@ -127,32 +127,32 @@ fn step(kind: u64, of: Objects) -> Step {
     let (mailbox, channel) = (of.mailbox.number(), of.channel.number());
     let (port, empty, full) = (of.port.number(), of.empty.number(), of.full.number());
     match kind {
-        0 | 1 => Kind::Send.on(mailbox),
-        2 | 3 => Kind::Recv.on(mailbox),
-        4 => Kind::Poll.on(mailbox),
-        5 => Kind::Put.on(empty),
-        6 => Kind::Take.on(empty),
-        7 => Kind::TakePoll.on(empty),
-        8 => Kind::Get.on(empty),
-        9 => Kind::GetPoll.on(empty),
-        10 => Kind::Swap.on(empty),
-        11 => Kind::Swap.on(full),
-        12 => Kind::Take.on(full),
-        13 => Kind::Put.on(full),
-        14 => Kind::GetPoll.on(full),
-        15 | 16 => Kind::Multicast.on(channel),
-        17 => Kind::Recv.on(port),
-        18 => Kind::Poll.on(port),
-        19 => Kind::Recv.on(of.other_port.number()),
-        20 => Kind::Close.on(port),
-        21 => Kind::Put.on(of.ivar.number()),
-        22 => Kind::Get.on(of.ivar.number()),
-        23 => Kind::Port.on(channel),
-        24 => Kind::Copy.on(port),
-        25 => Kind::Look.on(mailbox),
-        26 | 28 => Kind::Look.on(port),
-        27 => Kind::Look.on(empty),
-        _ => Kind::Look.on(channel),
+        0 | 1 => StepKind::Send.on(mailbox),
+        2 | 3 => StepKind::Recv.on(mailbox),
+        4 => StepKind::Poll.on(mailbox),
+        5 => StepKind::Put.on(empty),
+        6 => StepKind::Take.on(empty),
+        7 => StepKind::TakePoll.on(empty),
+        8 => StepKind::Get.on(empty),
+        9 => StepKind::GetPoll.on(empty),
+        10 => StepKind::Swap.on(empty),
+        11 => StepKind::Swap.on(full),
+        12 => StepKind::Take.on(full),
+        13 => StepKind::Put.on(full),
+        14 => StepKind::GetPoll.on(full),
+        15 | 16 => StepKind::Multicast.on(channel),
+        17 => StepKind::Recv.on(port),
+        18 => StepKind::Poll.on(port),
+        19 => StepKind::Recv.on(of.other_port.number()),
+        20 => StepKind::Close.on(port),
+        21 => StepKind::Put.on(of.ivar.number()),
+        22 => StepKind::Get.on(of.ivar.number()),
+        23 => StepKind::Port.on(channel),
+        24 => StepKind::Copy.on(port),
+        25 => StepKind::Look.on(mailbox),
+        26 | 28 => StepKind::Look.on(port),
+        27 => StepKind::Look.on(empty),
+        _ => StepKind::Look.on(channel),
     }
 }
 
@@ -165,7 +165,7 @@ struct Played<'p> {
     of: Objects,
     /// What lanes and feeds each thread has, if the program has some.
     rings: Vec<Rings>,
-    near: Near,
+    few_objects: FewObjects,
     /// How many calls each thread has made, and what it has seen.
     made: Vec<usize>,
     seen: Vec<u64>,
@@ -184,7 +184,7 @@ impl Played<'_> {
             is_timed,
             of,
             rings: rings::of(&board, plan, of),
-            near: Near::of(plan),
+            few_objects: FewObjects::of(plan),
             seats: plan.iter().map(|_| board.seat_owned().unwrap()).collect(),
             board,
             made: vec![0; plan.len()],
@@ -223,7 +223,8 @@ impl Played<'_> {
                 if let Some(answer) = answer {
                     state.saw(task, answer);
                 }
-                let seen = self.near.locks.after(thread, self.made[thread] - 1, self.plan, state);
+                let seen =
+                    self.few_objects.locks.after(thread, self.made[thread] - 1, self.plan, state);
                 self.seen[thread] = mix(self.seen[thread], seen);
             }
             match self.plan[thread].get(self.made[thread]) {
@@ -233,11 +234,11 @@ impl Played<'_> {
                     // Every other thread waits with a time limit.
                     let is_timed = self.is_timed && thread % 2 == 0;
                     let step = match self.rings.get(thread) {
-                        _ if kind >= FIRST_NEAR => self.near.step(thread, kind, self.of),
+                        _ if kind >= FIRST_ON_FEW => self.few_objects.step(thread, kind, self.of),
                         Some(rings) if kind >= FIRST_RING => rings.step(kind),
                         _ => step(kind, self.of),
                     };
-                    state.arrive(task, seat, step, is_timed && step.kind != Kind::Lock);
+                    state.arrive(task, seat, step, is_timed && step.kind != StepKind::Lock);
                 }
                 None => locks::finish(state, task),
             }
@@ -258,9 +259,9 @@ impl Played<'_> {
         self.made[thread] += 1;
         if pass != Pass::Go {
             self.seen[thread] = mix(self.seen[thread], at as u64 + 1);
-        } else if kind >= FIRST_NEAR {
+        } else if kind >= FIRST_ON_FEW {
             let on = (&self.board, &mut self.seats[thread]);
-            let seen = self.near.call(thread, kind, self.of, on);
+            let seen = self.few_objects.call(thread, kind, self.of, on);
             self.seen[thread] = mix(self.seen[thread], seen);
         } else if kind >= FIRST_RING {
             let (board, seat) = (&self.board, &mut self.seats[thread]);
@@ -318,15 +319,19 @@ fn message(thread: usize, at: usize) -> u64 {
 }
 
 /// The outcomes of all runs, and how many runs there were.
-fn outcomes(way: &Way, plan: &Plan, is_timed: bool) -> (BTreeSet<u64>, u64) {
-    let (outcomes, runs, beside) = all_outcomes(way, plan, is_timed);
+fn outcomes(strategy: &Strategy, plan: &Plan, is_timed: bool) -> (BTreeSet<u64>, u64) {
+    let (outcomes, runs, beside) = all_outcomes(strategy, plan, is_timed);
     assert_eq!(beside, None, "{plan:?}");
     (outcomes, runs)
 }
 
 /// The same, and why something beside the board decides.
-fn all_outcomes(way: &Way, plan: &Plan, is_timed: bool) -> (BTreeSet<u64>, u64, Option<String>) {
-    let mut state = State::new(way.chooser(), way.limits);
+fn all_outcomes(
+    strategy: &Strategy,
+    plan: &Plan,
+    is_timed: bool,
+) -> (BTreeSet<u64>, u64, Option<String>) {
+    let mut state = State::new(strategy.chooser(), strategy.limits);
     let mut outcomes = BTreeSet::new();
     for number in 0.. {
         let mut played = Played::new(plan, is_timed);
@@ -344,13 +349,13 @@ fn compare(
     numbers: Range<u64>,
     plan: impl Fn(u64) -> Plan,
     is_timed: bool,
-    change: impl Fn(Way) -> Way,
+    change: impl Fn(Strategy) -> Strategy,
 ) -> (u64, u64) {
     let mut all = (0, 0);
     for number in numbers {
         let plan = plan(number);
-        let (plainly, plain_runs) = outcomes(&change(Way::every_plainly()), &plan, is_timed);
-        let (slept, runs) = outcomes(&change(Way::every()), &plan, is_timed);
+        let (plainly, plain_runs) = outcomes(&change(Strategy::every_plainly()), &plan, is_timed);
+        let (slept, runs) = outcomes(&change(Strategy::every()), &plan, is_timed);
         let both = plainly.intersection(&slept).count();
         assert!(
             plainly == slept,
@@ -378,7 +383,7 @@ fn programs() -> u64 {
 #[test]
 fn every_leaves_out_no_outcome() {
     let count = programs();
-    let (plain, slept) = compare(first()..first() + count, plan, false, |way| way);
+    let (plain, slept) = compare(first()..first() + count, plan, false, |strategy| strategy);
     println!("{count} programs: {plain} runs of every order, and {slept} of those that differ");
     assert!(slept < plain);
 }
@@ -386,26 +391,26 @@ fn every_leaves_out_no_outcome() {
 #[test]
 fn nor_if_calls_meet_more() {
     let numbers = 400_000 + first()..400_000 + first() + programs() / 4;
-    let (plain, slept) = compare(numbers.clone(), near::plan, false, |way| way);
+    let (plain, slept) = compare(numbers.clone(), few_objects::plan, false, |strategy| strategy);
     println!("{plain} runs of every order, and {slept} of those that differ");
     assert!(slept < plain);
-    let (plain, slept) = compare(numbers, near::plan, true, |way| way);
+    let (plain, slept) = compare(numbers, few_objects::plan, true, |strategy| strategy);
     assert!(slept < plain);
 }
 
 #[test]
 fn nor_if_calls_end_by_a_time_limit_or_as_stalled() {
     let numbers = 100_000 + first()..100_000 + first() + programs() / 4;
-    let (plain, slept) = compare(numbers.clone(), plan, true, |way| way);
+    let (plain, slept) = compare(numbers.clone(), plan, true, |strategy| strategy);
     assert!(slept < plain);
-    let (plain, slept) = compare(numbers, plan, false, Way::stalls_are_told);
+    let (plain, slept) = compare(numbers, plan, false, Strategy::stalls_are_told);
     assert!(slept < plain);
 }
 
 #[test]
 fn nor_if_a_time_limit_passes_early() {
     let numbers = 500_000 + first()..500_000 + first() + programs() / 4;
-    let (plain, slept) = compare(numbers, plan, true, |way| way.time_outs(1));
+    let (plain, slept) = compare(numbers, plan, true, |strategy| strategy.time_outs(1));
     println!("{plain} runs of every order, and {slept} of those that differ");
     assert!(slept < plain);
 }
@@ -413,12 +418,12 @@ fn nor_if_a_time_limit_passes_early() {
 #[test]
 fn nor_with_lanes_and_feeds() {
     let numbers = 300_000 + first()..300_000 + first() + programs() / 12;
-    let (plain, slept) = compare(numbers.clone(), rings::plan, false, |way| way);
+    let (plain, slept) = compare(numbers.clone(), rings::plan, false, |strategy| strategy);
     println!("{plain} runs of every order, and {slept} of those that differ");
     assert!(slept < plain);
-    let (plain, slept) = compare(numbers.clone(), rings::plan, true, |way| way);
+    let (plain, slept) = compare(numbers.clone(), rings::plan, true, |strategy| strategy);
     assert!(slept < plain);
-    let (plain, slept) = compare(numbers, rings::plan, false, Way::stalls_are_told);
+    let (plain, slept) = compare(numbers, rings::plan, false, Strategy::stalls_are_told);
     assert!(slept < plain);
 }
 
@@ -426,8 +431,8 @@ fn nor_with_lanes_and_feeds() {
 #[test]
 fn a_call_whose_time_passes_is_no_other_call() {
     let plan = vec![vec![11, 11, 12], vec![18, 12, 4], vec![18, 11, 12]];
-    let (plainly, _) = outcomes(&Way::every_plainly(), &plan, true);
-    let (slept, _) = outcomes(&Way::every(), &plan, true);
+    let (plainly, _) = outcomes(&Strategy::every_plainly(), &plan, true);
+    let (slept, _) = outcomes(&Strategy::every(), &plan, true);
     assert_eq!(plainly, slept);
 }
 
@@ -442,8 +447,8 @@ fn what_threads_share_beside_the_board_is_mostly_seen() {
         for thread in [0, 1] {
             plan[thread][random.below(CALLS as u64) as usize] += FLAGS * (thread as u64 + 1);
         }
-        let (plainly, ..) = all_outcomes(&Way::every_plainly(), &plan, false);
-        let (slept, _, beside) = all_outcomes(&Way::every(), &plan, false);
+        let (plainly, ..) = all_outcomes(&Strategy::every_plainly(), &plan, false);
+        let (slept, _, beside) = all_outcomes(&Strategy::every(), &plan, false);
         differ += u64::from(plainly != slept);
         unseen += u64::from(plainly != slept && beside.is_none());
     }
@@ -456,8 +461,8 @@ fn what_threads_share_beside_the_board_is_mostly_seen() {
 fn threads_do_as_they_are_played() {
     let count = programs() / 20;
     for plan in (0..count).map(plan).chain((0..count).map(rings::plan)) {
-        let mut state = State::new(Way::every().chooser(), Way::every().limits);
-        let explorer = Explorer::new(Way::every());
+        let mut state = State::new(Strategy::every().chooser(), Strategy::every().limits);
+        let explorer = Explorer::new(Strategy::every());
         let program = |board: &Board| run_threads(board, &plan);
         for run in 0.. {
             let is_done = Played::new(&plan, false).run(&mut state, run);

@@ -3,24 +3,24 @@
 use super::board::Pass;
 use super::play::Play;
 use super::rerun::{Caller, Entering, Follower, WaitKind, Waits};
-use super::step::{Kind, Step, NONE};
-use crate::asking::Answers;
-use crate::entry::{Call, Who};
+use super::step::{Step, StepKind, NONE};
 use crate::error::Error;
-use crate::inside::Inside;
-use crate::parker::Parker;
+use crate::journal::entry::{Call, Who};
+use crate::message::carries::{Bytes, MessageKind};
+use crate::park::parker::Parker;
 use crate::raw::Handle;
-use crate::room::{Bytes, Room};
+use crate::request::answers::Answers;
+use crate::switchboard::state::State;
 use crate::switchboard::Switchboard;
 use std::sync::Arc;
 
 /// Who decides when the calls of a switchboard are made.
-pub(crate) enum Conductor<R: Room> {
+pub(crate) enum Conductor<R: MessageKind> {
     Exploration(Arc<Play>),
     Rerun(Arc<Follower<R>>),
 }
 
-impl<R: Room> Switchboard<R> {
+impl<R: MessageKind> Switchboard<R> {
     /// Has this one decide when the calls are made.
     pub(crate) fn conducted_by(mut self, conductor: Conductor<R>) -> Switchboard<R> {
         self.conductor = Some(conductor);
@@ -46,7 +46,7 @@ impl<R: Room> Switchboard<R> {
                 follower.enter(Caller::of_seat(seat, step), WaitKind::Made)?
             }
         };
-        let call = |inside: &mut Inside<R>| inside.enter(call);
+        let call = |state: &mut State<R>| state.enter(call);
         match entering {
             None => Ok(self.change(Some(by), call)),
             Some(entering) => self.make_again(entering, call),
@@ -57,11 +57,11 @@ impl<R: Room> Switchboard<R> {
     fn make_again(
         &self,
         entering: Entering<'_, R>,
-        call: impl FnOnce(&mut Inside<R>) -> u32,
+        call: impl FnOnce(&mut State<R>) -> u32,
     ) -> Result<u32, Error> {
-        let (code, made) = self.change(None, |inside| {
-            let code = call(inside);
-            (code, entering.made(inside))
+        let (code, made) = self.change(None, |state| {
+            let code = call(state);
+            (code, entering.made(state))
         });
         let follower = entering.follower();
         let code = entering.end(code, made)?;
@@ -79,7 +79,7 @@ impl<R: Room> Switchboard<R> {
         seat: u64,
         step: Step,
         is_timed: bool,
-        call: impl FnOnce(&mut Inside<R>) -> u32,
+        call: impl FnOnce(&mut State<R>) -> u32,
     ) -> Result<Option<u32>, Error> {
         let kind = if is_timed {
             WaitKind::MayPass
@@ -102,13 +102,13 @@ impl<R: Room> Switchboard<R> {
     /// Before what an object has is read.
     #[inline]
     pub(crate) fn pass_to_look(&self, object: u64) {
-        self.pass(Kind::Look.on(object));
+        self.pass(StepKind::Look.on(object));
     }
 
     /// Before the journal is read or cut.
     #[inline]
     pub(crate) fn pass_to_look_at_all(&self) {
-        self.pass(Kind::LookAtAll.on(NONE));
+        self.pass(StepKind::LookAtAll.on(NONE));
     }
 
     /// Before a step that no seat makes. In an exploration this waits until it is this thread's

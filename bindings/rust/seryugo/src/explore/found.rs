@@ -3,7 +3,7 @@
 use super::end::End;
 use super::rerun::{Reran, Rerun, RerunError};
 use super::schedule::Schedule;
-use crate::room::Room;
+use crate::message::carries::MessageKind;
 use crate::switchboard::Switchboard;
 use std::fmt;
 use std::sync::Arc;
@@ -12,7 +12,7 @@ use std::sync::Arc;
 #[derive(Clone, Debug)]
 #[must_use = "see whether it is clean"]
 pub struct Found {
-    pub(crate) way: String,
+    pub(crate) strategy: String,
     pub(crate) runs: u64,
     pub(crate) repeats: u64,
     pub(crate) is_whole: bool,
@@ -38,7 +38,7 @@ impl Found {
     }
 
     /// Whether every order was run, or one like it. If some runs are missing, and none ended badly,
-    /// give [`explore`](super::explore) more of them, or another [`Way`](super::Way).
+    /// give [`explore`](super::explore) more of them, or another [`Strategy`](super::Strategy).
     #[must_use]
     pub fn is_whole(&self) -> bool {
         self.is_whole
@@ -57,7 +57,7 @@ impl Found {
     }
 
     /// Why something beside the board decides what the threads do. If it does,
-    /// [`Way::every`](super::Way::every) goes on as [`every_plainly`](super::Way::every_plainly).
+    /// [`Strategy::every`](super::Strategy::every) goes on as [`every_plainly`](super::Strategy::every_plainly).
     #[must_use]
     pub fn beside(&self) -> Option<&str> {
         self.beside.as_deref()
@@ -99,7 +99,7 @@ impl Bad {
     /// the end. See [`Rerun`].
     ///
     /// ```
-    /// use seryugo::explore::{explore, Way};
+    /// use seryugo::explore::{explore, Strategy};
     /// use seryugo::Switchboard;
     /// use std::sync::Arc;
     ///
@@ -108,7 +108,7 @@ impl Bad {
     ///     let letters = seat.mailbox::<String>().unwrap();
     ///     seat.recv(letters).unwrap();
     /// };
-    /// let found = explore(Way::every(), 1_000, program);
+    /// let found = explore(Strategy::every(), 1_000, program);
     /// let reran = found.bad().unwrap().rerun(program)?;
     /// assert!(reran.is_same(), "{reran}");
     /// assert_eq!(reran.stops()[0].to_string(), "seat 0 at recv 0");
@@ -122,7 +122,7 @@ impl Bad {
     /// # Panics
     ///
     /// As [`Rerun::run`].
-    pub fn rerun<R: Room>(
+    pub fn rerun<R: MessageKind>(
         &self,
         program: impl FnOnce(&Arc<Switchboard<R>>),
     ) -> Result<Reran, RerunError> {
@@ -140,10 +140,10 @@ impl Bad {
 impl fmt::Display for Found {
     fn fmt(&self, f: &mut fmt::Formatter<'_>) -> fmt::Result {
         if let Some(bad) = &self.bad {
-            write!(f, "run {} of {}: {bad}", bad.run, self.way)?;
+            write!(f, "run {} of {}: {bad}", bad.run, self.strategy)?;
         } else {
             let runs = if self.runs == 1 { "run" } else { "runs" };
-            write!(f, "no bad end in {} {runs} of {}", self.runs, self.way)?;
+            write!(f, "no bad end in {} {runs} of {}", self.runs, self.strategy)?;
             f.write_str(if self.is_whole {
                 ""
             } else {

@@ -3,7 +3,7 @@
 use super::board::Pass;
 use super::play::{self, Play};
 use super::shared::next_number;
-use super::step::Kind;
+use super::step::StepKind;
 use std::fmt;
 use std::ops::{Deref, DerefMut};
 use std::panic::Location;
@@ -21,11 +21,11 @@ use std::time::Duration;
 /// one over calls.
 ///
 /// ```
-/// use seryugo::explore::{explore, scope, Lock, Way};
+/// use seryugo::explore::{explore, scope, Lock, Strategy};
 /// use seryugo::Switchboard;
 /// use std::sync::Arc;
 ///
-/// let found = explore(Way::every(), 100, |_: &Arc<Switchboard>| {
+/// let found = explore(Strategy::every(), 100, |_: &Arc<Switchboard>| {
 ///     let (left, right) = (Lock::new(()), Lock::new(()));
 ///     scope(|threads| {
 ///         threads.spawn(|| {
@@ -58,7 +58,7 @@ pub struct Guard<'l, T> {
 ///
 /// In an exploration the beginning of a wait, its end, and each notification are steps. A
 /// notification wakes any one of those that wait. The time of a wait passes if no thread can go on,
-/// or as [`Way::time_outs`](super::Way::time_outs) says. A program with conditions has more runs.
+/// or as [`Strategy::time_outs`](super::Strategy::time_outs) says. A program with conditions has more runs.
 ///
 /// ```
 /// use seryugo::explore::{scope, Condition, Lock};
@@ -99,7 +99,7 @@ impl Made {
 
     /// If the thread is one of an exploration, it makes this step once it may.
     #[inline]
-    fn pass(self, kind: Kind, is_timed: bool) -> Option<(Arc<Play>, Pass)> {
+    fn pass(self, kind: StepKind, is_timed: bool) -> Option<(Arc<Play>, Pass)> {
         play::own().map(|(play, _)| {
             play.lock().locks.note(self.number, self.at);
             let pass = play.pass_beside(kind.on(self.number), is_timed);
@@ -122,7 +122,7 @@ impl<T> Lock<T> {
     /// ever. If a thread panics that has it, the value stays as it is.
     #[inline]
     pub fn lock(&self) -> Guard<'_, T> {
-        let passed = self.made.pass(Kind::Lock, false);
+        let passed = self.made.pass(StepKind::Lock, false);
         self.held_by(passed.map(|(play, _)| play))
     }
 
@@ -200,9 +200,9 @@ impl Condition {
                 return (guard, true);
             }
             let lock = guard.lock;
-            self.made.pass(Kind::Await, false);
+            self.made.pass(StepKind::Await, false);
             drop(guard);
-            let passed = lock.made.pass(Kind::Relock, is_timed);
+            let passed = lock.made.pass(StepKind::Relock, is_timed);
             let is_late = matches!(passed, Some((_, Pass::TimedOut)));
             guard = lock.held_by(passed.map(|(play, _)| play));
             if is_late {
@@ -215,13 +215,13 @@ impl Condition {
 
     /// Wakes one thread that waits, if there is one.
     pub fn notify_one(&self) {
-        self.made.pass(Kind::NotifyOne, false);
+        self.made.pass(StepKind::NotifyOne, false);
         self.condvar.notify_one();
     }
 
     /// Wakes all threads that wait.
     pub fn notify_all(&self) {
-        self.made.pass(Kind::NotifyAll, false);
+        self.made.pass(StepKind::NotifyAll, false);
         self.condvar.notify_all();
     }
 }

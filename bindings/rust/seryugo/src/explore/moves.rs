@@ -1,6 +1,6 @@
 //! What may happen next in a run, and which of it commutes.
 
-use super::step::{Kind, Step, NONE};
+use super::step::{Step, StepKind, NONE};
 
 /// What makes a thread go on.
 #[derive(Clone, Copy, PartialEq, Eq, Hash, Debug)]
@@ -47,12 +47,12 @@ impl Move {
         if one.is_beside() || two.is_beside() {
             return !one.is_beside() || !two.is_beside() || !self.meets_beside(other);
         }
-        if one == Kind::LookAtAll || two == Kind::LookAtAll || self.is_on_lane_of(other) {
+        if one == StepKind::LookAtAll || two == StepKind::LookAtAll || self.is_on_lane_of(other) {
             return false;
         }
         if is_in_rings(one) || is_in_rings(two) {
             // Lanes are numbered in the order in which they are opened.
-            return one != Kind::OpenLane || two != Kind::OpenLane;
+            return one != StepKind::OpenLane || two != StepKind::OpenLane;
         }
         // Objects are numbered in the order in which they are made, and a program sees the numbers.
         if one.is_maker() && two.is_maker() {
@@ -84,9 +84,9 @@ impl Move {
         }
         match (self.as_if.kind, other.as_if.kind) {
             // A port that is empty has a message after it.
-            (Kind::Recv | Kind::Poll, Kind::Multicast) => self.is_full,
-            (Kind::Copy | Kind::Close, Kind::Multicast) => true,
-            (_, Kind::Port) => true,
+            (StepKind::Recv | StepKind::Poll, StepKind::Multicast) => self.is_full,
+            (StepKind::Copy | StepKind::Close, StepKind::Multicast) => true,
+            (_, StepKind::Port) => true,
             _ => false,
         }
     }
@@ -106,23 +106,23 @@ impl Move {
     fn may_receive_from(&self, earlier: &Move) -> bool {
         let are_steps = self.by == By::Step && earlier.by == By::Step;
         let object = match earlier.as_if.kind {
-            Kind::Send => self.as_if.object,
-            Kind::Multicast => self.channel,
+            StepKind::Send => self.as_if.object,
+            StepKind::Multicast => self.channel,
             _ => return false,
         };
         are_steps && self.receives() && object == earlier.as_if.object
     }
 
     fn receives(&self) -> bool {
-        matches!(self.as_if.kind, Kind::Recv | Kind::Poll)
+        matches!(self.as_if.kind, StepKind::Recv | StepKind::Poll)
     }
 
     /// Whether it took what this step waits for.
     pub fn takes_from(&self, waits: &Move) -> bool {
         let takes = match self.as_if.kind {
-            Kind::Recv | Kind::Poll => self.place != NONE,
-            Kind::Take | Kind::TakePoll => self.is_full,
-            Kind::Lock => true,
+            StepKind::Recv | StepKind::Poll => self.place != NONE,
+            StepKind::Take | StepKind::TakePoll => self.is_full,
+            StepKind::Lock => true,
             _ => false,
         };
         takes && self.by == By::Step && self.as_if.object == waits.as_if.object
@@ -133,7 +133,7 @@ impl Move {
     pub fn waits_for(&self, earlier: &Move) -> bool {
         let is_empty = match earlier.as_if.kind {
             // A multicast commutes with these.
-            Kind::Close | Kind::Copy => false,
+            StepKind::Close | StepKind::Copy => false,
             _ => self.as_if.object == earlier.as_if.object && !earlier.is_full,
         };
         self.as_if.kind.blocks() && (is_empty || self.may_receive_from(earlier))
@@ -142,27 +142,32 @@ impl Move {
     /// Whether without the earlier step, which closed an empty port, this one may find a message
     /// from a step that commutes with both.
     pub fn may_wait_without(&self, earlier: &Move) -> bool {
-        let is_closed = earlier.as_if.kind == Kind::Close && !earlier.is_full;
+        let is_closed = earlier.as_if.kind == StepKind::Close && !earlier.is_full;
         is_closed && self.receives() && self.as_if.object == earlier.as_if.object
     }
 }
 
 /// Whether such a step uses no object.
-fn is_in_rings(kind: Kind) -> bool {
-    matches!(kind, Kind::OpenLane | Kind::LaneSend)
+fn is_in_rings(kind: StepKind) -> bool {
+    matches!(kind, StepKind::OpenLane | StepKind::LaneSend)
 }
 
 /// The pairs of steps on one object that commute, each in one of its two orders.
-fn on_one_object(one: Kind, two: Kind, is_full: bool) -> bool {
+fn on_one_object(one: StepKind, two: StepKind, is_full: bool) -> bool {
     match (one, two) {
-        (Kind::Look | Kind::Get | Kind::GetPoll, Kind::Look | Kind::Get | Kind::GetPoll) => true,
+        (
+            StepKind::Look | StepKind::Get | StepKind::GetPoll,
+            StepKind::Look | StepKind::Get | StepKind::GetPoll,
+        ) => true,
         // One at the end of a queue, and one at its front.
-        (Kind::Send, Kind::Recv | Kind::Poll) => is_full,
+        (StepKind::Send, StepKind::Recv | StepKind::Poll) => is_full,
         // A put into a full variable does nothing, and a swap leaves it full.
-        (Kind::Put, Kind::Put | Kind::Get | Kind::GetPoll | Kind::Swap) => is_full,
+        (StepKind::Put, StepKind::Put | StepKind::Get | StepKind::GetPoll | StepKind::Swap) => {
+            is_full
+        }
         // Polls that find nothing do nothing.
-        (Kind::Poll, Kind::Poll) => !is_full,
-        (Kind::TakePoll, Kind::TakePoll | Kind::GetPoll) => !is_full,
+        (StepKind::Poll, StepKind::Poll) => !is_full,
+        (StepKind::TakePoll, StepKind::TakePoll | StepKind::GetPoll) => !is_full,
         _ => false,
     }
 }

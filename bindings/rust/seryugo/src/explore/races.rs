@@ -12,7 +12,7 @@
 
 use super::clock::Clock;
 use super::moves::{By, Move};
-use super::step::Kind;
+use super::step::StepKind;
 use std::collections::HashMap;
 
 /// A step of the run, with those that it needs.
@@ -91,7 +91,7 @@ impl Races {
                 past.join(&event.past);
                 past.add(event.made.task, place);
             }
-            if made.step.kind == Kind::Lock {
+            if made.step.kind == StepKind::Lock {
                 self.released.get(&made.step.object).iter().for_each(|before| past.join(before));
             }
             self.events.push(Event { made: *made, past });

@@ -16,10 +16,10 @@ use super::conductor::Conductor;
 use super::end::End;
 use super::panics::keep_panics;
 use super::play;
-use crate::checker::CheckError;
 use crate::error::Error;
+use crate::journal::checker::CheckError;
 use crate::journal::Journal;
-use crate::room::Room;
+use crate::message::carries::MessageKind;
 use crate::switchboard::Switchboard;
 use follower::{Habits, TICK};
 use plan::Plan;
@@ -65,7 +65,7 @@ pub(crate) enum AtEnd {
 /// # Ok::<(), Box<dyn std::error::Error>>(())
 /// ```
 #[must_use = "a journal does nothing before a program follows it"]
-pub struct Rerun<R: Room> {
+pub struct Rerun<R: MessageKind> {
     plan: Arc<Plan<R>>,
     habits: Habits,
 }
@@ -152,14 +152,14 @@ impl std::error::Error for RerunError {
 /// # Panics
 ///
 /// As [`Rerun::run`].
-pub fn rerun<R: Room>(
+pub fn rerun<R: MessageKind>(
     journal: impl BufRead,
     program: impl FnOnce(&Arc<Switchboard<R>>),
 ) -> Result<Reran, RerunError> {
     Ok(Rerun::read(journal)?.run(program))
 }
 
-impl<R: Room> Rerun<R> {
+impl<R: MessageKind> Rerun<R> {
     /// Reads a journal's text from its first piece on. If the text is torn, its whole lines are
     /// followed.
     ///
@@ -273,13 +273,13 @@ impl<R: Room> Rerun<R> {
     }
 }
 
-impl<R: Room> fmt::Debug for Rerun<R> {
+impl<R: MessageKind> fmt::Debug for Rerun<R> {
     fn fmt(&self, f: &mut fmt::Formatter<'_>) -> fmt::Result {
         f.debug_struct("Rerun").field("entries", &self.plan.entries.len()).finish_non_exhaustive()
     }
 }
 
-impl<R: Room> Switchboard<R> {
+impl<R: MessageKind> Switchboard<R> {
     /// How the [rerun](crate::explore::Rerun) of this switchboard goes. `None` if it isn't rerun.
     ///
     /// ```

@@ -12,9 +12,9 @@ use super::play::{self, Play};
 use super::schedule::Schedule;
 use super::shorten::shortened;
 use super::state::State;
-use super::way::{Order, Way};
+use super::strategy::{Order, Strategy};
 use super::worker::Slot;
-use crate::room::Room;
+use crate::message::carries::MessageKind;
 use crate::switchboard::Switchboard;
 use std::mem;
 use std::panic::{catch_unwind, AssertUnwindSafe};
@@ -27,11 +27,11 @@ use std::sync::Arc;
 /// must make the same calls.
 ///
 /// ```
-/// use seryugo::explore::{self, explore, Way};
+/// use seryugo::explore::{self, explore, Strategy};
 /// use seryugo::Switchboard;
 /// use std::sync::Arc;
 ///
-/// let found = explore(Way::every(), 1_000, |board: &Arc<Switchboard>| {
+/// let found = explore(Strategy::every(), 1_000, |board: &Arc<Switchboard>| {
 ///     let (mut ann, mut ben) = (board.seat().unwrap(), board.seat().unwrap());
 ///     let letters = ben.mailbox::<String>().unwrap();
 ///     explore::scope(|threads| {
@@ -46,13 +46,17 @@ use std::sync::Arc;
 ///
 /// If a thread of a program that is explored calls it, if the linked library isn't of this crate's
 /// version, or if it has no memory.
-pub fn explore<R: Room>(way: Way, runs: u64, program: impl Fn(&Arc<Switchboard<R>>)) -> Found {
-    let explorer = Explorer::new(way);
+pub fn explore<R: MessageKind>(
+    strategy: Strategy,
+    runs: u64,
+    program: impl Fn(&Arc<Switchboard<R>>),
+) -> Found {
+    let explorer = Explorer::new(strategy);
     let mut found = explorer.explore(runs, &program);
-    let mut way = explorer.way.clone();
-    way.limits.polls_are_steps = explorer.play.lock().limits.polls_are_steps;
+    let mut strategy = explorer.strategy.clone();
+    strategy.limits.polls_are_steps = explorer.play.lock().limits.polls_are_steps;
     drop(explorer);
-    found.bad = found.bad.map(|bad| shortened(&way, bad, &program));
+    found.bad = found.bad.map(|bad| shortened(&strategy, bad, &program));
     found
 }
 
@@ -60,7 +64,7 @@ pub fn explore<R: Room>(way: Way, runs: u64, program: impl Fn(&Arc<Switchboard<R
 /// printed as usual.
 ///
 /// ```
-/// use seryugo::explore::{again, explore, Way};
+/// use seryugo::explore::{again, explore, Strategy};
 /// use seryugo::Switchboard;
 /// use std::sync::Arc;
 ///
@@ -69,7 +73,7 @@ pub fn explore<R: Room>(way: Way, runs: u64, program: impl Fn(&Arc<Switchboard<R
 ///     let letters = seat.mailbox::<String>().unwrap();
 ///     seat.recv(letters).unwrap();
 /// };
-/// let found = explore(Way::every(), 1_000, program);
+/// let found = explore(Strategy::every(), 1_000, program);
 /// let schedule = found.bad().unwrap().schedule();
 /// assert_eq!(again(schedule, program).bad().unwrap().end(), found.bad().unwrap().end());
 /// ```
@@ -77,13 +81,13 @@ pub fn explore<R: Room>(way: Way, runs: u64, program: impl Fn(&Arc<Switchboard<R
 /// # Panics
 ///
 /// As [`explore`], and if it isn't a line that a schedule was written as.
-pub fn again<R: Room>(schedule: &str, program: impl Fn(&Arc<Switchboard<R>>)) -> Found {
-    explore(Way::again(schedule), 1, program)
+pub fn again<R: MessageKind>(schedule: &str, program: impl Fn(&Arc<Switchboard<R>>)) -> Found {
+    explore(Strategy::again(schedule), 1, program)
 }
 
 /// An exploration, from its caller's side.
 pub(super) struct Explorer {
-    way: Way,
+    strategy: Strategy,
     pub(super) play: Arc<Play>,
     main: Arc<Slot>,
     _pinned: Pinned,
@@ -97,21 +101,21 @@ pub(super) struct Run {
 }
 
 impl Explorer {
-    pub fn new(way: Way) -> Explorer {
+    pub fn new(strategy: Strategy) -> Explorer {
         assert!(play::own().is_none(), "a program that is explored explores another one");
         keep_panics();
-        let state = State::new(way.chooser(), way.limits);
+        let state = State::new(strategy.chooser(), strategy.limits);
         Explorer {
-            play: Play::new(state, way.patience, way.is_again()),
+            play: Play::new(state, strategy.patience, strategy.is_again()),
             main: Slot::of_this_thread(),
             _pinned: Pinned::new(),
-            way,
+            strategy,
         }
     }
 
-    fn explore<R: Room>(&self, most: u64, program: &impl Fn(&Arc<Switchboard<R>>)) -> Found {
+    fn explore<R: MessageKind>(&self, most: u64, program: &impl Fn(&Arc<Switchboard<R>>)) -> Found {
         let mut found = Found {
-            way: self.way.to_string(),
+            strategy: self.strategy.to_string(),
             runs: 0,
             repeats: 0,
             is_whole: false,
@@ -138,8 +142,8 @@ impl Explorer {
     }
 
     /// Runs the program once.
-    pub fn run<R: Room>(&self, run: u64, program: &impl Fn(&Arc<Switchboard<R>>)) -> Run {
-        let board = Switchboard::<R>::open(self.way.limits.entries).expect("a switchboard");
+    pub fn run<R: MessageKind>(&self, run: u64, program: &impl Fn(&Arc<Switchboard<R>>)) -> Run {
+        let board = Switchboard::<R>::open(self.strategy.limits.entries).expect("a switchboard");
         let board = Arc::new(board.conducted_by(Conductor::Exploration(Arc::clone(&self.play))));
         self.play.lock().begin(Arc::clone(&board) as Arc<dyn Board>, &self.main, run);
         play::enter(&self.play, 0);
@@ -177,11 +181,11 @@ impl Explorer {
 
     /// How choices are made from now on.
     fn chooser(&self, found: &Found) -> Chooser {
-        let mut way = self.way.clone();
+        let mut strategy = self.strategy.clone();
         if found.beside.is_some() {
-            way.order = Order::Every { sleeps: false };
+            strategy.order = Order::Every { sleeps: false };
         }
-        way.chooser()
+        strategy.chooser()
     }
 
     /// Whether there is another run.

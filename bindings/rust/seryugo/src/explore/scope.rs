@@ -2,7 +2,7 @@
 
 use super::play::{self, Play};
 use super::state::Joins;
-use super::step::Kind;
+use super::step::StepKind;
 use std::fmt;
 use std::io;
 use std::marker::PhantomData;
@@ -90,7 +90,7 @@ pub fn scope<'env, T>(body: impl for<'scope> FnOnce(Scope<'scope, 'env>) -> T) -
 /// ```
 pub fn aside(number: u64) {
     if let Some((play, _)) = play::own() {
-        play.pass_beside(Kind::Aside.on(number), false);
+        play.pass_beside(StepKind::Aside.on(number), false);
     }
 }
 

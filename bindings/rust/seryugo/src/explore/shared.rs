@@ -10,11 +10,11 @@ use std::sync::{Mutex, PoisonError};
 /// a step, as [`aside`](super::aside) marks one. Otherwise it is a [`Mutex`].
 ///
 /// ```
-/// use seryugo::explore::{explore, scope, Shared, Way};
+/// use seryugo::explore::{explore, scope, Shared, Strategy};
 /// use seryugo::Switchboard;
 /// use std::sync::Arc;
 ///
-/// let found = explore(Way::every(), 100, |_: &Arc<Switchboard>| {
+/// let found = explore(Strategy::every(), 100, |_: &Arc<Switchboard>| {
 ///     let count = Shared::new(0);
 ///     scope(|threads| {
 ///         for _ in 0..2 {

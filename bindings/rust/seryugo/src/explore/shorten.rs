@@ -3,8 +3,8 @@
 use super::end::End;
 use super::found::Bad;
 use super::runs::Explorer;
-use super::way::Way;
-use crate::room::Room;
+use super::strategy::Strategy;
+use crate::message::carries::MessageKind;
 use crate::switchboard::Switchboard;
 use std::sync::Arc;
 use std::time::{Duration, Instant};
@@ -16,19 +16,19 @@ const RUNS: u64 = 2_000;
 const TIME: Duration = Duration::from_secs(1);
 
 /// A short run of those with the fewest preemptions that end as this one.
-pub(super) fn shortened<R: Room>(
-    way: &Way,
+pub(super) fn shortened<R: MessageKind>(
+    strategy: &Strategy,
     bad: Bad,
     program: &impl Fn(&Arc<Switchboard<R>>),
 ) -> Bad {
-    if !matches!(bad.end, End::Stalled { .. } | End::Panicked { .. }) || way.is_again() {
+    if !matches!(bad.end, End::Stalled { .. } | End::Panicked { .. }) || strategy.is_again() {
         return bad;
     }
     let start = Instant::now();
     let is_late = || start.elapsed() > TIME;
     let within = |most, steps| {
-        let way = way.bounded(most).steps(steps);
-        first_like(&Explorer::new(way), &bad, program, &is_late)
+        let strategy = strategy.bounded(most).steps(steps);
+        first_like(&Explorer::new(strategy), &bad, program, &is_late)
     };
     let found = (0..=PREEMPTIONS).find_map(|most| Some((most, within(most, bad.steps)?)));
     let Some((most, mut best)) = found else {
@@ -41,7 +41,7 @@ pub(super) fn shortened<R: Room>(
 }
 
 /// The first of these runs that ends as this one.
-fn first_like<R: Room>(
+fn first_like<R: MessageKind>(
     explorer: &Explorer,
     bad: &Bad,
     program: &impl Fn(&Arc<Switchboard<R>>),

@@ -3,7 +3,7 @@
 
 use super::shared;
 use crate::calls::{Give, Read};
-use crate::entry::Call;
+use crate::journal::entry::Call;
 use std::fmt;
 
 /// The number of no object, and of no seat.
@@ -11,7 +11,7 @@ pub(crate) const NONE: u64 = u64::MAX;
 
 /// A kind of step. Those of calls have the journal's words.
 #[derive(Clone, Copy, PartialEq, Eq, Hash, Debug)]
-pub(crate) enum Kind {
+pub(crate) enum StepKind {
     Mailbox,
     Channel,
     Port,
@@ -64,7 +64,7 @@ pub(crate) enum Kind {
     EndFeed,
 }
 
-impl Kind {
+impl StepKind {
     pub fn on(self, object: u64) -> Step {
         Step { kind: self, object }
     }
@@ -76,98 +76,107 @@ impl Kind {
 
     /// Whether it takes the next number of an object.
     pub fn is_maker(self) -> bool {
-        use Kind::{Channel, Copy, IVar, MVar, MVarInit, Mailbox, Port};
+        use StepKind::{Channel, Copy, IVar, MVar, MVarInit, Mailbox, Port};
         matches!(self, Mailbox | Channel | Port | Copy | IVar | MVar | MVarInit)
     }
 
     pub fn blocks(self) -> bool {
-        matches!(self, Kind::Recv | Kind::Get | Kind::Take | Kind::Swap)
+        matches!(self, StepKind::Recv | StepKind::Get | StepKind::Take | StepKind::Swap)
     }
 
     /// Whether it may be on a port, which has a channel beside it.
     pub fn may_be_on_port(self) -> bool {
-        matches!(self, Kind::Recv | Kind::Poll | Kind::Close | Kind::Copy | Kind::Look)
+        matches!(
+            self,
+            StepKind::Recv | StepKind::Poll | StepKind::Close | StepKind::Copy | StepKind::Look
+        )
     }
 
     /// Whether an accepted call of this kind has one entry in the journal.
     pub fn has_entry(self) -> bool {
-        use Kind::{FeedRecv, LaneSend, Look, LookAtAll, OpenLane};
+        use StepKind::{FeedRecv, LaneSend, Look, LookAtAll, OpenLane};
         let has_none = matches!(self, Look | LookAtAll | OpenLane | LaneSend | FeedRecv);
-        !has_none && !self.is_beside() && !self.moves_many() && self != Kind::EndFeed
+        !has_none && !self.is_beside() && !self.moves_many() && self != StepKind::EndFeed
     }
 
     /// Whether it is on what lies beside the board.
     pub fn is_beside(self) -> bool {
-        matches!(self, Kind::Aside | Kind::Lock) || self.is_of_condition()
+        matches!(self, StepKind::Aside | StepKind::Lock) || self.is_of_condition()
     }
 
     /// Whether it takes a lock.
     pub fn locks(self) -> bool {
-        matches!(self, Kind::Lock | Kind::Relock)
+        matches!(self, StepKind::Lock | StepKind::Relock)
     }
 
     /// Whether it waits for a condition, or notifies who does.
     pub fn is_of_condition(self) -> bool {
-        matches!(self, Kind::Await | Kind::Relock | Kind::NotifyOne | Kind::NotifyAll)
+        matches!(
+            self,
+            StepKind::Await | StepKind::Relock | StepKind::NotifyOne | StepKind::NotifyAll
+        )
     }
 
     /// Whether it may have an entry for each of many messages.
     pub fn moves_many(self) -> bool {
-        matches!(self, Kind::Drain | Kind::CloseLane | Kind::Pump)
+        matches!(self, StepKind::Drain | StepKind::CloseLane | StepKind::Pump)
     }
 
     /// Whether it uses the lane of this number.
     pub fn is_on_lane(self) -> bool {
-        matches!(self, Kind::LaneSend | Kind::Drain | Kind::CloseLane)
+        matches!(self, StepKind::LaneSend | StepKind::Drain | StepKind::CloseLane)
     }
 
     /// Whether it uses a lane or a feed.
     pub fn is_of_rings(self) -> bool {
-        let is_used = matches!(self, Kind::LaneSend | Kind::Drain | Kind::Pump | Kind::FeedRecv);
+        let is_used = matches!(
+            self,
+            StepKind::LaneSend | StepKind::Drain | StepKind::Pump | StepKind::FeedRecv
+        );
         is_used || self.opens_or_ends()
     }
 
     /// Whether it opens or ends a lane or a feed.
     pub fn opens_or_ends(self) -> bool {
-        use Kind::{CloseLane, EndFeed, OpenFeed, OpenLane};
+        use StepKind::{CloseLane, EndFeed, OpenFeed, OpenLane};
         matches!(self, OpenLane | CloseLane | OpenFeed | EndFeed)
     }
 
     fn word(self) -> &'static str {
         match self {
-            Kind::Mailbox => "mailbox",
-            Kind::Channel => "channel",
-            Kind::Port => "port",
-            Kind::Copy => "copy",
-            Kind::Close => "close",
-            Kind::IVar => "ivar",
-            Kind::MVar | Kind::MVarInit => "mvar",
-            Kind::Send => "send",
-            Kind::Multicast => "multicast",
-            Kind::Recv => "recv",
-            Kind::Poll => "poll",
-            Kind::Put => "put",
-            Kind::Get => "get",
-            Kind::GetPoll => "getpoll",
-            Kind::Take => "take",
-            Kind::TakePoll => "takepoll",
-            Kind::Swap => "swap",
-            Kind::Look => "a look at",
-            Kind::LookAtAll => "a look at the journal",
-            Kind::Aside => "aside",
-            Kind::Lock => "lock",
-            Kind::Await => "condition",
-            Kind::Relock => "lock again",
-            Kind::NotifyOne => "notify_one of condition",
-            Kind::NotifyAll => "notify_all of condition",
-            Kind::OpenLane => "open_lane",
-            Kind::LaneSend => "lane.send",
-            Kind::Drain => "drain",
-            Kind::CloseLane => "close_lane",
-            Kind::OpenFeed => "open_feed",
-            Kind::Pump => "pump",
-            Kind::FeedRecv => "feed.recv",
-            Kind::EndFeed => "end_feed",
+            StepKind::Mailbox => "mailbox",
+            StepKind::Channel => "channel",
+            StepKind::Port => "port",
+            StepKind::Copy => "copy",
+            StepKind::Close => "close",
+            StepKind::IVar => "ivar",
+            StepKind::MVar | StepKind::MVarInit => "mvar",
+            StepKind::Send => "send",
+            StepKind::Multicast => "multicast",
+            StepKind::Recv => "recv",
+            StepKind::Poll => "poll",
+            StepKind::Put => "put",
+            StepKind::Get => "get",
+            StepKind::GetPoll => "getpoll",
+            StepKind::Take => "take",
+            StepKind::TakePoll => "takepoll",
+            StepKind::Swap => "swap",
+            StepKind::Look => "a look at",
+            StepKind::LookAtAll => "a look at the journal",
+            StepKind::Aside => "aside",
+            StepKind::Lock => "lock",
+            StepKind::Await => "condition",
+            StepKind::Relock => "lock again",
+            StepKind::NotifyOne => "notify_one of condition",
+            StepKind::NotifyAll => "notify_all of condition",
+            StepKind::OpenLane => "open_lane",
+            StepKind::LaneSend => "lane.send",
+            StepKind::Drain => "drain",
+            StepKind::CloseLane => "close_lane",
+            StepKind::OpenFeed => "open_feed",
+            StepKind::Pump => "pump",
+            StepKind::FeedRecv => "feed.recv",
+            StepKind::EndFeed => "end_feed",
         }
     }
 }
@@ -175,7 +184,7 @@ impl Kind {
 /// A kind of step, with the number of its object, or of its lane or feed.
 #[derive(Clone, Copy, PartialEq, Eq, Hash, Debug)]
 pub(crate) struct Step {
-    pub kind: Kind,
+    pub kind: StepKind,
     pub object: u64,
 }
 
@@ -183,9 +192,9 @@ impl Step {
     /// The step of a call that doesn't wait in place of this one.
     pub fn polled(self) -> Step {
         match self.kind {
-            Kind::Recv => Kind::Poll,
-            Kind::Get => Kind::GetPoll,
-            Kind::Take => Kind::TakePoll,
+            StepKind::Recv => StepKind::Poll,
+            StepKind::Get => StepKind::GetPoll,
+            StepKind::Take => StepKind::TakePoll,
             kind => kind,
         }
         .on(self.object)
@@ -194,24 +203,24 @@ impl Step {
     /// The step of a call that is in a journal.
     pub fn of<M>(call: &Call<M>) -> Step {
         match call {
-            Call::NewMailbox => Kind::Mailbox.makes(),
-            Call::NewChannel => Kind::Channel.makes(),
-            Call::NewPort(channel) => Kind::Port.on(*channel),
-            Call::CopyPort(port) => Kind::Copy.on(*port),
-            Call::ClosePort(port) => Kind::Close.on(*port),
-            Call::NewIVar => Kind::IVar.makes(),
-            Call::NewMVar => Kind::MVar.makes(),
-            Call::MVarInit(_) => Kind::MVarInit.makes(),
-            Call::Send(mailbox, _) => Kind::Send.on(*mailbox),
-            Call::Multicast(channel, _) => Kind::Multicast.on(*channel),
-            Call::Recv(source) => Kind::Recv.on(*source),
-            Call::RecvPoll(source) => Kind::Poll.on(*source),
-            Call::Put(variable, _) => Kind::Put.on(*variable),
-            Call::Get(variable) => Kind::Get.on(*variable),
-            Call::GetPoll(variable) => Kind::GetPoll.on(*variable),
-            Call::Take(variable) => Kind::Take.on(*variable),
-            Call::TakePoll(variable) => Kind::TakePoll.on(*variable),
-            Call::Swap(variable, _) => Kind::Swap.on(*variable),
+            Call::NewMailbox => StepKind::Mailbox.makes(),
+            Call::NewChannel => StepKind::Channel.makes(),
+            Call::NewPort(channel) => StepKind::Port.on(*channel),
+            Call::CopyPort(port) => StepKind::Copy.on(*port),
+            Call::ClosePort(port) => StepKind::Close.on(*port),
+            Call::NewIVar => StepKind::IVar.makes(),
+            Call::NewMVar => StepKind::MVar.makes(),
+            Call::MVarInit(_) => StepKind::MVarInit.makes(),
+            Call::Send(mailbox, _) => StepKind::Send.on(*mailbox),
+            Call::Multicast(channel, _) => StepKind::Multicast.on(*channel),
+            Call::Recv(source) => StepKind::Recv.on(*source),
+            Call::RecvPoll(source) => StepKind::Poll.on(*source),
+            Call::Put(variable, _) => StepKind::Put.on(*variable),
+            Call::Get(variable) => StepKind::Get.on(*variable),
+            Call::GetPoll(variable) => StepKind::GetPoll.on(*variable),
+            Call::Take(variable) => StepKind::Take.on(*variable),
+            Call::TakePoll(variable) => StepKind::TakePoll.on(*variable),
+            Call::Swap(variable, _) => StepKind::Swap.on(*variable),
         }
     }
 }
@@ -231,9 +240,9 @@ impl Give {
     /// The step of this call.
     pub(crate) fn on(self, object: u64) -> Step {
         match self {
-            Give::Send => Kind::Send,
-            Give::Multicast => Kind::Multicast,
-            Give::Put => Kind::Put,
+            Give::Send => StepKind::Send,
+            Give::Multicast => StepKind::Multicast,
+            Give::Put => StepKind::Put,
         }
         .on(object)
     }
@@ -243,9 +252,9 @@ impl Read {
     /// The step of this call, if it may block.
     pub(crate) fn ask_of(self, object: u64) -> Step {
         match self {
-            Read::Recv => Kind::Recv,
-            Read::Get => Kind::Get,
-            Read::Take => Kind::Take,
+            Read::Recv => StepKind::Recv,
+            Read::Get => StepKind::Get,
+            Read::Take => StepKind::Take,
         }
         .on(object)
     }
@@ -253,9 +262,9 @@ impl Read {
     /// The step of this call, if it never blocks.
     pub(crate) fn poll_of(self, object: u64) -> Step {
         match self {
-            Read::Recv => Kind::Poll,
-            Read::Get => Kind::GetPoll,
-            Read::Take => Kind::TakePoll,
+            Read::Recv => StepKind::Poll,
+            Read::Get => StepKind::GetPoll,
+            Read::Take => StepKind::TakePoll,
         }
         .on(object)
     }

@@ -3,7 +3,7 @@
 use super::choose::Random;
 use super::moves::{By, Move};
 use super::races::{Ask, Races};
-use super::step::Kind;
+use super::step::StepKind;
 
 /// What has become of a way at a choice.
 #[derive(Clone, Copy, PartialEq)]
@@ -148,7 +148,7 @@ impl Tree {
             };
             return Ok(moves[any]);
         }
-        let has_no_races = |kind: Kind| kind.is_of_rings() || kind.is_of_condition();
+        let has_no_races = |kind: StepKind| kind.is_of_rings() || kind.is_of_condition();
         if self.races.is_some() && moves.iter().any(|way| has_no_races(way.step.kind)) {
             self.ask_for_all();
         }

@@ -1,6 +1,6 @@
 //! Questions and answers.
 
-use seryugo::explore::{explore, scope, Way};
+use seryugo::explore::{explore, scope, Strategy};
 use seryugo::{Request, Switchboard};
 use std::sync::Arc;
 
@@ -25,7 +25,7 @@ fn two_ask_one_who_answers() {
             });
         });
     };
-    let found = explore(Way::every(), 10_000, program);
+    let found = explore(Strategy::every(), 10_000, program);
     println!("{found}");
     assert!(found.is_clean() && found.is_whole() && found.beside().is_none(), "{found}");
 }

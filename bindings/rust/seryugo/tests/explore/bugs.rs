@@ -4,20 +4,20 @@ use crate::buggy::{
     closed_port, double_take, flag, late_port, lost_update, lost_wake, no_end, two_locks,
 };
 use crate::programs::{philosophers, seat, Board};
-use seryugo::explore::{self, again, explore, End, Found, Way};
+use seryugo::explore::{self, again, explore, End, Found, Strategy};
 use seryugo::Error;
 use std::time::Duration;
 
 /// A program with a bug: every way finds it, and its schedule leads there again.
 pub fn found(program: impl Fn(&Board)) -> Found {
-    let found = explore(Way::every(), 10_000, &program);
+    let found = explore(Strategy::every(), 10_000, &program);
     println!("{found}");
     let bad = found.bad().expect("a bug");
     for way in [
-        Way::every_plainly(),
-        Way::every().preemptions(2),
-        Way::random(1),
-        Way::priorities(1, 3),
+        Strategy::every_plainly(),
+        Strategy::every().preemptions(2),
+        Strategy::random(1),
+        Strategy::priorities(1, 3),
     ] {
         let other = explore(way, 10_000, &program);
         assert!(!other.is_clean(), "{other}");
@@ -126,7 +126,7 @@ fn a_flag_beside_the_board_that_is_marked() {
 #[test]
 fn a_flag_beside_the_board_that_is_not_marked() {
     // What it does with the flag is in one piece, so that only the order of the pieces is open.
-    let found = explore(Way::every(), 10_000, |board| flag(board, || ()));
+    let found = explore(Strategy::every(), 10_000, |board| flag(board, || ()));
     println!("{found}");
     assert!(found.is_clean() && found.beside().is_some(), "{found}");
 }
@@ -147,14 +147,15 @@ fn a_loop_that_polls() {
             threads.spawn(move || sends.send(letters, 1).unwrap());
         });
     };
-    let found = explore(Way::every().steps(500), 100, program);
+    let found = explore(Strategy::every().steps(500), 100, program);
     let End::Endless { steps: 500, last } = found.bad().unwrap().end() else {
         panic!("{found}")
     };
     assert_eq!(last[0].to_string(), "thread 1 (seat 2) at poll 0");
-    let once_more = explore(Way::again(found.bad().unwrap().schedule()).steps(500), 1, program);
+    let once_more =
+        explore(Strategy::again(found.bad().unwrap().schedule()).steps(500), 1, program);
     assert_eq!(once_more.bad().unwrap().end(), found.bad().unwrap().end());
-    assert!(explore(Way::random(1), 1_000, program).is_clean());
+    assert!(explore(Strategy::random(1), 1_000, program).is_clean());
 }
 
 #[test]
@@ -188,7 +189,7 @@ fn a_receiver_that_takes_a_stall_for_the_end() {
         });
     };
     stalls(program, &["recv 1", "recv 0"]);
-    let found = explore(Way::every().stalls_are_told(), 1_000, program);
+    let found = explore(Strategy::every().stalls_are_told(), 1_000, program);
     let End::Panicked { message, .. } = found.bad().unwrap().end() else {
         panic!("{found}")
     };

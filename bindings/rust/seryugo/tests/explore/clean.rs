@@ -1,21 +1,21 @@
 //! Programs without a bug: none is found, and it is said in how many runs.
 
 use crate::programs::{philosophers, seat, Board};
-use seryugo::explore::{self, explore, scope, Shared, Way};
+use seryugo::explore::{self, explore, scope, Shared, Strategy};
 
 /// No order ends badly, and these are the runs of every order, with those that were repeats, and
 /// plainly.
 pub fn clean(program: impl Fn(&Board), runs: u64, repeats: u64, plain_runs: u64) {
-    let found = explore(Way::every(), 10_000, &program);
+    let found = explore(Strategy::every(), 10_000, &program);
     println!("{found}");
     assert!(found.is_clean() && found.is_whole() && found.beside().is_none(), "{found}");
     assert_eq!((found.runs(), found.repeats()), (runs, repeats));
     let text = format!("no bad end in {runs} runs of every order");
     assert_eq!(found.to_string(), text);
-    let plainly = explore(Way::every_plainly(), 10_000, &program);
+    let plainly = explore(Strategy::every_plainly(), 10_000, &program);
     assert!(plainly.is_clean() && plainly.is_whole(), "{plainly}");
     assert_eq!(plainly.runs(), plain_runs);
-    for way in [Way::random(3), Way::priorities(3, 3)] {
+    for way in [Strategy::random(3), Strategy::priorities(3, 3)] {
         let some = explore(way, 300, &program);
         assert!(some.is_clean() && !some.is_whole(), "{some}");
     }
@@ -77,7 +77,7 @@ fn receivers_that_end_by_a_stall() {
             assert_eq!(sums.iter().sum::<u64>(), 3);
         });
     };
-    let found = explore(Way::every().stalls_are_told(), 10_000, program);
+    let found = explore(Strategy::every().stalls_are_told(), 10_000, program);
     assert!(found.is_clean() && found.is_whole(), "{found}");
     println!("{found}");
 }
@@ -96,7 +96,7 @@ fn halves_of_a_mailbox() {
             assert_eq!(sum.join().unwrap(), 3);
         });
     };
-    let found = explore(Way::every().stalls_are_told(), 1_000, program);
+    let found = explore(Strategy::every().stalls_are_told(), 1_000, program);
     assert!(found.is_clean() && found.is_whole(), "{found}");
 }
 
@@ -105,7 +105,7 @@ fn halves_of_a_mailbox() {
 fn values_that_are_shared() {
     let before = Shared::new(0);
     let runs = |is_one: bool| {
-        let found = explore(Way::every(), 100, |_: &Board| {
+        let found = explore(Strategy::every(), 100, |_: &Board| {
             let one = Shared::new(0);
             let other = Shared::<u64>::default();
             let second = if is_one { &one } else { &other };

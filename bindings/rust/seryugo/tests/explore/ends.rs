@@ -2,7 +2,7 @@
 
 use crate::patience::PATIENCE;
 use crate::programs::{seat, Board};
-use seryugo::explore::{self, again, explore, End, Found, Way};
+use seryugo::explore::{self, again, explore, End, Found, Strategy};
 use seryugo::Error;
 use std::cell::{Cell, RefCell};
 use std::panic::{catch_unwind, AssertUnwindSafe};
@@ -21,10 +21,10 @@ fn a_full_journal() {
         let letters = seat.mailbox().unwrap();
         (0..10).for_each(|letter| seat.send(letters, letter).unwrap());
     };
-    let found = explore(Way::every().entries(5), 10, program);
+    let found = explore(Strategy::every().entries(5), 10, program);
     assert_eq!(*end(&found), End::Full);
     assert!(found.bad().unwrap().journal().ends_with("seat 0 send 0 3: done\nend 5\n"), "{found}");
-    assert!(explore(Way::every().entries(11), 10, program).is_clean());
+    assert!(explore(Strategy::every().entries(11), 10, program).is_clean());
 }
 
 #[test]
@@ -42,7 +42,7 @@ fn a_program_that_is_not_deterministic() {
             }
         });
     };
-    let found = explore(Way::every_plainly(), 10, program);
+    let found = explore(Strategy::every_plainly(), 10, program);
     let End::NotDeterministic(why) = end(&found) else {
         panic!("{found}")
     };
@@ -59,7 +59,7 @@ fn a_thread_that_the_exploration_does_not_know() {
         assert!(sent.is_err(), "the thread unwinds");
         main.recv(letters).unwrap();
     };
-    let found = explore(Way::every(), 10, program);
+    let found = explore(Strategy::every(), 10, program);
     let End::UnknownThread(why) = end(&found) else {
         panic!("{found}")
     };
@@ -113,7 +113,7 @@ fn the_first_thread_panics_while_others_wait() {
             panic!("the first thread panics");
         });
     };
-    let found = explore(Way::every(), 1, program);
+    let found = explore(Strategy::every(), 1, program);
     let End::Panicked { thread: 0, message } = end(&found) else {
         panic!("{found}")
     };
@@ -147,7 +147,7 @@ fn a_destructor_that_calls_while_the_run_ends() {
             }
         });
     };
-    let found = explore(Way::every(), 10, program);
+    let found = explore(Strategy::every(), 10, program);
     let End::Stalled { waits, .. } = end(&found) else {
         panic!("{found}")
     };
@@ -169,7 +169,7 @@ fn a_switchboard_that_outlives_its_run() {
         }
         kept.borrow_mut().push((Board::clone(board), own, letters));
     };
-    let found = explore(Way::random(1), 3, program);
+    let found = explore(Strategy::random(1), 3, program);
     assert!(found.is_clean(), "{found}");
 }
 
@@ -188,14 +188,14 @@ fn a_program_that_catches_what_unwinds_it() {
             }
         });
     };
-    let found = explore(Way::every(), 10, program);
+    let found = explore(Strategy::every(), 10, program);
     assert!(matches!(end(&found), End::Stalled { .. }), "{found}");
 }
 
 #[test]
 fn an_exploration_in_another_one() {
-    let program = |_: &Board| drop(explore(Way::every(), 1, |_: &Board| ()));
-    let found = explore(Way::every(), 10, program);
+    let program = |_: &Board| drop(explore(Strategy::every(), 1, |_: &Board| ()));
+    let found = explore(Strategy::every(), 10, program);
     let End::Panicked { message, .. } = end(&found) else {
         panic!("{found}")
     };
@@ -220,7 +220,7 @@ fn looks_are_steps() {
             }
         });
     };
-    let found = explore(Way::every(), 100, program);
+    let found = explore(Strategy::every(), 100, program);
     assert!(matches!(end(&found), End::Stalled { .. }), "{found}");
     let program = |board: &Board| {
         let mut main = seat(board);
@@ -231,7 +231,7 @@ fn looks_are_steps() {
             assert_ne!(board.entries(), 1, "it looked between the two");
         });
     };
-    let found = explore(Way::every(), 100, program);
+    let found = explore(Strategy::every(), 100, program);
     assert!(matches!(end(&found), End::Panicked { .. }), "{found}");
 }
 
@@ -294,5 +294,5 @@ fn hang() {
             }
         });
     };
-    drop(explore(Way::random(1).patience(Duration::from_millis(20)), 100, program));
+    drop(explore(Strategy::random(1).patience(Duration::from_millis(20)), 100, program));
 }

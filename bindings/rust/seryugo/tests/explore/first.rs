@@ -1,12 +1,12 @@
 //! The tests of `docs/EXPLORE.md`, word for word.
 
-use seryugo::explore::{again, explore, scope, Rerun, Way};
+use seryugo::explore::{again, explore, scope, Rerun, Strategy};
 use seryugo::{Numbers, Switchboard};
 use std::sync::Arc;
 
 #[test]
 fn a_letter_arrives() {
-    let found = explore(Way::every(), 1_000, |board: &Arc<Switchboard>| {
+    let found = explore(Strategy::every(), 1_000, |board: &Arc<Switchboard>| {
         let (mut ann, mut ben) = (board.seat().unwrap(), board.seat().unwrap());
         let letters = ben.mailbox::<String>().unwrap();
         scope(|threads| {
@@ -34,7 +34,7 @@ fn bank(board: &Arc<Switchboard<Numbers>>) {
 
 #[test]
 fn a_payment_is_lost() {
-    let found = explore(Way::every(), 1_000, bank);
+    let found = explore(Strategy::every(), 1_000, bank);
     let bad = found.bad().unwrap();
     assert_eq!(bad.schedule(), "122");
     let once_more = again("122", bank);
@@ -43,7 +43,7 @@ fn a_payment_is_lost() {
 
 #[test]
 fn a_payment_is_lost_with_threads_of_the_system() {
-    let found = explore(Way::every(), 1_000, bank);
+    let found = explore(Strategy::every(), 1_000, bank);
     let reran = found.bad().unwrap().rerun(bank).unwrap();
     assert!(reran.is_same(), "{reran}");
     assert!(reran.panics()[0].contains("a payment is lost"));
@@ -51,7 +51,7 @@ fn a_payment_is_lost_with_threads_of_the_system() {
 
 #[test]
 fn a_journal_of_another_process_is_followed() {
-    let journal = &explore(Way::every(), 1_000, bank).bad().unwrap().journal().to_string();
+    let journal = &explore(Strategy::every(), 1_000, bank).bad().unwrap().journal().to_string();
     let reran = Rerun::read(journal.as_bytes()).unwrap().run(bank);
     assert!(reran.is_followed(), "{reran}");
     println!("{reran}");
@@ -60,7 +60,7 @@ fn a_journal_of_another_process_is_followed() {
 /// What the page shows of it.
 #[test]
 fn the_page_shows_what_is_found() {
-    let found = explore(Way::every(), 1_000, bank).to_string();
+    let found = explore(Strategy::every(), 1_000, bank).to_string();
     let (head, tail) = SHOWN.split_once("src/bank.rs:14").unwrap();
     assert!(found.starts_with(head) && found.ends_with(tail), "{found}");
 }

@@ -1,7 +1,7 @@
 //! Futures in an exploration.
 
 use crate::programs::{seat, Board};
-use seryugo::explore::{self, again, explore, End, Found, Way};
+use seryugo::explore::{self, again, explore, End, Found, Strategy};
 use seryugo::{Error, MVar, Request, Switchboard};
 use std::cell::{Cell, RefCell};
 use std::collections::BTreeSet;
@@ -57,15 +57,15 @@ fn together<'t>(
 
 /// Each way finds that it ends by a panic that says this, and its schedule leads there again.
 fn panics(program: impl Fn(&Board), says: &str) -> Found {
-    let found = explore(Way::every(), 10_000, &program);
+    let found = explore(Strategy::every(), 10_000, &program);
     println!("{found}");
     assert_eq!(found.beside(), None);
     for way in [
-        Way::every(),
-        Way::every_plainly(),
-        Way::every().preemptions(2),
-        Way::random(1),
-        Way::priorities(1, 3),
+        Strategy::every(),
+        Strategy::every_plainly(),
+        Strategy::every().preemptions(2),
+        Strategy::random(1),
+        Strategy::priorities(1, 3),
     ] {
         let found = explore(way, 10_000, &program);
         let bad = found.bad().unwrap_or_else(|| panic!("{found}"));
@@ -82,11 +82,11 @@ fn panics(program: impl Fn(&Board), says: &str) -> Found {
 
 /// No order ends badly. Returns how many runs were no repeats, and how many there were plainly.
 fn clean(program: impl Fn(&Board)) -> (u64, u64) {
-    let found = explore(Way::every(), 100_000, &program);
+    let found = explore(Strategy::every(), 100_000, &program);
     assert!(found.is_clean() && found.is_whole() && found.beside().is_none(), "{found}");
-    let plainly = explore(Way::every_plainly(), 100_000, &program);
+    let plainly = explore(Strategy::every_plainly(), 100_000, &program);
     assert!(plainly.is_clean() && plainly.is_whole(), "{plainly}");
-    for way in [Way::random(3), Way::priorities(3, 3)] {
+    for way in [Strategy::random(3), Strategy::priorities(3, 3)] {
         let some = explore(way, 300, &program);
         assert!(some.is_clean() && !some.is_whole(), "{some}");
     }
@@ -242,7 +242,7 @@ fn two_tasks_that_wait_for_ever() {
             assert_eq!(b.recv_async(other).await, Err(Error::Stalled));
         }));
     };
-    let found = explore(Way::every(), 10, program);
+    let found = explore(Strategy::every(), 10, program);
     let End::Stalled {
         waits,
         fails_as_stalled,
@@ -255,7 +255,7 @@ fn two_tasks_that_wait_for_ever() {
     assert_eq!(at, ["thread 0 (seat 1) at recv 0", "thread 0 (seat 2) at recv 1"]);
     assert!(fails_as_stalled, "{found}");
     // If calls are told, each of them fails in turn.
-    let found = explore(Way::every().stalls_are_told(), 10, program);
+    let found = explore(Strategy::every().stalls_are_told(), 10, program);
     let bad = found.bad().unwrap();
     let End::Panicked { message, .. } = bad.end() else {
         panic!("{found}")
@@ -268,7 +268,7 @@ fn two_tasks_that_wait_for_ever() {
 #[test]
 fn a_future_that_two_threads_use() {
     type Slot = Mutex<Option<Pin<Box<dyn Future<Output = ()> + Send>>>>;
-    let found = explore(Way::every(), 10, |board: &Board| {
+    let found = explore(Strategy::every(), 10, |board: &Board| {
         let letters = seat(board).mailbox::<u64>().unwrap();
         let slots: Vec<Slot> = (0..2)
             .map(|_| {
@@ -354,7 +354,7 @@ fn runs_of_real_threads_are_among_those_that_are_explored() {
         let log = logged(board);
         seen.lock().unwrap().insert(log);
     };
-    let found = explore(Way::every(), 100_000, program);
+    let found = explore(Strategy::every(), 100_000, program);
     assert!(found.is_clean() && found.is_whole(), "{found}");
     let mut met = BTreeSet::new();
     for _ in 0..1_000 {
@@ -380,6 +380,6 @@ fn requests() {
             });
         });
     };
-    let found = explore(Way::every(), 1_000, program);
+    let found = explore(Strategy::every(), 1_000, program);
     assert!(found.is_clean() && found.is_whole(), "{found}");
 }

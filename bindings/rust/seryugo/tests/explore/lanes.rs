@@ -1,7 +1,7 @@
 //! Lanes and feeds in an exploration.
 
 use crate::programs::{seat, Board};
-use seryugo::explore::{self, again, explore, End, Found, Way};
+use seryugo::explore::{self, again, explore, End, Found, Strategy};
 use seryugo::{Numbers, OwnedLane};
 
 const MARK: u64 = 99;
@@ -19,14 +19,18 @@ fn found(program: impl Fn(&Board)) -> Found {
 
 /// Every way finds it, and its schedule leads there again.
 fn found_again(program: impl Fn(&Board)) -> Found {
-    let found = explore(Way::every(), 10_000, &program);
+    let found = explore(Strategy::every(), 10_000, &program);
     println!("{found}");
     assert_eq!(found.beside(), None);
     let bad = found.bad().expect("a bug");
     let once_more = again(bad.schedule(), &program);
     let same = once_more.bad().expect("the same");
     assert_eq!((same.end(), same.journal()), (bad.end(), bad.journal()));
-    for way in [Way::every_plainly(), Way::random(1), Way::priorities(1, 3)] {
+    for way in [
+        Strategy::every_plainly(),
+        Strategy::random(1),
+        Strategy::priorities(1, 3),
+    ] {
         let other = explore(way, 10_000, &program);
         assert!(!other.is_clean(), "{other}");
         let end = other.bad().unwrap();
@@ -46,13 +50,13 @@ fn panics(program: impl Fn(&Board), says: &str) {
 
 /// No order ends badly, and these are the runs of every order, and plainly.
 fn clean(program: impl Fn(&Board), runs: u64, plain_runs: u64) {
-    let found = explore(Way::every(), 100_000, &program);
+    let found = explore(Strategy::every(), 100_000, &program);
     println!("{found}");
     assert!(found.is_clean() && found.is_whole() && found.beside().is_none(), "{found}");
-    let plainly = explore(Way::every_plainly(), 100_000, &program);
+    let plainly = explore(Strategy::every_plainly(), 100_000, &program);
     assert!(plainly.is_clean() && plainly.is_whole(), "{plainly}");
     assert_eq!((found.runs(), plainly.runs()), (runs, plain_runs));
-    for way in [Way::random(3), Way::priorities(3, 3)] {
+    for way in [Strategy::random(3), Strategy::priorities(3, 3)] {
         let some = explore(way, 300, &program);
         assert!(some.is_clean() && !some.is_whole(), "{some}");
     }
@@ -252,7 +256,7 @@ fn a_port_that_a_feed_has() {
 
 #[test]
 fn a_loop_that_receives_from_a_feed() {
-    let found = explore(Way::every(), 10, |board: &Board| {
+    let found = explore(Strategy::every(), 10, |board: &Board| {
         let channel = seat(board).channel::<u64>().unwrap();
         let mut feed = board.feed(channel, 4).unwrap();
         while feed.recv().unwrap().is_none() {}

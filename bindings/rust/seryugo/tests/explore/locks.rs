@@ -3,7 +3,7 @@
 use crate::bugs::{found, panics};
 use crate::clean::clean;
 use crate::programs::{seat, Board};
-use seryugo::explore::{explore, scope, Condition, End, Lock, Shared, Way};
+use seryugo::explore::{explore, scope, Condition, End, Lock, Shared, Strategy};
 use std::thread;
 use std::time::Duration;
 
@@ -199,9 +199,10 @@ fn a_notification_of_one_wakes_the_wrong_one() {
 
 #[test]
 fn a_notification_of_all_wakes_the_right_one() {
-    let found = explore(Way::every(), 10_000, |_: &Board| wakes(Condition::notify_all));
+    let found = explore(Strategy::every(), 10_000, |_: &Board| wakes(Condition::notify_all));
     assert!(found.is_clean() && found.is_whole() && found.beside().is_none(), "{found}");
-    let plainly = explore(Way::every_plainly(), 10_000, |_: &Board| wakes(Condition::notify_all));
+    let plainly =
+        explore(Strategy::every_plainly(), 10_000, |_: &Board| wakes(Condition::notify_all));
     assert!(plainly.is_clean() && plainly.is_whole(), "{plainly}");
     assert!(found.runs() < plainly.runs(), "{found}, {plainly}");
 }
@@ -222,10 +223,10 @@ fn a_wait_ends_by_its_time() {
         });
     };
     for is_notified in [false, true] {
-        let found = explore(Way::every(), 1_000, |_: &Board| program(is_notified));
+        let found = explore(Strategy::every(), 1_000, |_: &Board| program(is_notified));
         assert!(found.is_clean() && found.is_whole(), "{found}");
     }
-    let found = explore(Way::every().time_outs(1), 1_000, |_: &Board| program(true));
+    let found = explore(Strategy::every().time_outs(1), 1_000, |_: &Board| program(true));
     assert!(found.to_string().contains("it is late"), "{found}");
 }
 
@@ -271,7 +272,7 @@ fn threads_make_locks_in_any_order() {
 #[test]
 fn a_lock_is_of_all_runs() {
     let runs = Lock::new(0);
-    let found = explore(Way::every(), 100, |_: &Board| {
+    let found = explore(Strategy::every(), 100, |_: &Board| {
         scope(|threads| {
             for _ in 0..2 {
                 threads.spawn(|| *runs.lock() += 1);

@@ -4,14 +4,14 @@ use crate::buggy::{
     closed_port, double_take, flag, late_port, lost_update, lost_wake, no_end, two_locks,
 };
 use crate::programs::{philosophers, seat, Board};
-use seryugo::explore::{self, explore, Bad, End, Reran, Rerun, Stop, Way};
+use seryugo::explore::{self, explore, Bad, End, Reran, Rerun, Stop, Strategy};
 use seryugo::{Error, Numbers};
 use std::sync::Mutex;
 
 const TIMES: usize = 100;
 
 fn bug(program: impl Fn(&Board)) -> Bad {
-    let found = explore(Way::every(), 10_000, &program);
+    let found = explore(Strategy::every(), 10_000, &program);
     found.bad().expect("a bug").clone()
 }
 

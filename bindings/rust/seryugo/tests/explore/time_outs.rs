@@ -1,7 +1,7 @@
 //! Calls whose time passes though something else can happen.
 
 use crate::programs::{seat, Board};
-use seryugo::explore::{again, explore, scope, End, Way};
+use seryugo::explore::{again, explore, scope, End, Strategy};
 use seryugo::Error;
 use std::time::Duration;
 
@@ -23,8 +23,8 @@ fn gives_up(board: &Board) {
 
 #[test]
 fn a_letter_that_comes_too_late() {
-    assert!(explore(Way::every(), 100, gives_up).is_clean());
-    let found = explore(Way::every().time_outs(1), 100, gives_up);
+    assert!(explore(Strategy::every(), 100, gives_up).is_clean());
+    let found = explore(Strategy::every().time_outs(1), 100, gives_up);
     let bad = found.bad().unwrap_or_else(|| panic!("{found}"));
     assert!(bad.schedule().starts_with("!1:"), "{bad}");
     let once_more = again(bad.schedule(), gives_up);
@@ -33,9 +33,9 @@ fn a_letter_that_comes_too_late() {
     };
     assert!(message.contains("a letter is left"), "{message}");
     for way in [
-        Way::random(1),
-        Way::priorities(1, 2),
-        Way::every().preemptions(1),
+        Strategy::random(1),
+        Strategy::priorities(1, 2),
+        Strategy::every().preemptions(1),
     ] {
         let found = explore(way.time_outs(1), 100, gives_up);
         assert!(found.bad().is_some(), "{found}");
@@ -59,7 +59,7 @@ fn a_limit_of_no_time() {
         assert_eq!(board.owed(letters), Ok(0));
     };
     let runs = |most| {
-        let found = explore(Way::every_plainly().time_outs(most), 1_000, program);
+        let found = explore(Strategy::every_plainly().time_outs(most), 1_000, program);
         assert!(found.is_clean() && found.is_whole(), "{found}");
         found.runs()
     };

@@ -18,14 +18,14 @@ mod mpsc_sync_gone;
 mod task;
 mod thread_locals;
 
-use seryugo::{Room, Seat, Switchboard};
+use seryugo::{MessageKind, Seat, Switchboard};
 use std::time::Duration;
 
 /// More calls than a test here makes.
 const MANY: u64 = 1_000_000;
 
 /// Seats of a switchboard.
-fn seats<R: Room, const COUNT: usize>(board: &Switchboard<R>) -> [Seat<'_, R>; COUNT] {
+fn seats<R: MessageKind, const COUNT: usize>(board: &Switchboard<R>) -> [Seat<'_, R>; COUNT] {
     std::array::from_fn(|_| board.seat().unwrap())
 }
 

@@ -6,13 +6,13 @@ use crate::console::Console;
 use crate::graph::Graph;
 use crate::messages::Outcome;
 use crate::runner::Settings;
-use seryugo::explore::{explore, Found, Way};
+use seryugo::explore::{explore, Found, Strategy};
 use seryugo::Switchboard;
 use std::sync::Arc;
 
 /// The threads of two workers, and of an object each, build in this way. Their commands are colons,
 /// which start no process.
-fn explored(way: Way, most: u64, makefile: &str, is_right: fn(&[Outcome]) -> bool) -> Found {
+fn explored(way: Strategy, most: u64, makefile: &str, is_right: fn(&[Outcome]) -> bool) -> Found {
     let graph = Graph::of(&read_well(makefile), &names(&["all"])).expect("a graph");
     let settings = Settings {
         makefile: "makefile".to_string(),
@@ -43,19 +43,19 @@ fn is_not_tried(outcomes: &[Outcome]) -> bool {
 
 #[test]
 fn each_order_up_to_a_bound_builds_all() {
-    let found = explored(Way::every().preemptions(1), 2_000, DIAMOND, is_done);
+    let found = explored(Strategy::every().preemptions(1), 2_000, DIAMOND, is_done);
     assert!(found.is_clean(), "{found}");
 }
 
 #[test]
 fn random_orders_build_all() {
-    let found = explored(Way::random(1), 1_000, DIAMOND, is_done);
+    let found = explored(Strategy::random(1), 1_000, DIAMOND, is_done);
     assert!(found.is_clean(), "{found}");
 }
 
 /// Each run says once on standard error that there is no rule.
 #[test]
 fn what_fails_is_known_to_all_that_need_it() {
-    let found = explored(Way::random(2), 20, BROKEN, is_not_tried);
+    let found = explored(Strategy::random(2), 20, BROKEN, is_not_tried);
     assert!(found.is_clean(), "{found}");
 }

@@ -4,11 +4,11 @@ use super::threads::{keep, outcomes};
 use super::{programs, Board};
 use crate::explore::choose::{mix, Random};
 use crate::explore::scope;
+use crate::explore::strategy::Strategy;
 use crate::explore::tree::CHECKS;
-use crate::explore::way::Way;
-use crate::names::{MVar, Mailbox};
-use crate::owned::OwnedSeat;
-use crate::room::Numbers;
+use crate::message::carries::Numbers;
+use crate::message::names::{MVar, Mailbox};
+use crate::seat::owned::OwnedSeat;
 use std::future::{poll_fn, Future};
 use std::pin::{pin, Pin};
 use std::sync::{Arc, Mutex};
@@ -160,12 +160,12 @@ fn futures_have_the_outcomes_of_every_order() {
     for number in 0..count {
         let plan = plan(number, KINDS);
         let change = match number % 2 {
-            0 => |way| way,
-            _ => Way::stalls_are_told,
+            0 => |strategy| strategy,
+            _ => Strategy::stalls_are_told,
         };
         let run = |board: &Board, kept: &Mutex<String>| run_plan(board, &plan, kept);
-        let (plainly, plain_runs) = outcomes(&change(Way::every_plainly()), &plan, run);
-        let (slept, runs) = outcomes(&change(Way::every()), &plan, run);
+        let (plainly, plain_runs) = outcomes(&change(Strategy::every_plainly()), &plan, run);
+        let (slept, runs) = outcomes(&change(Strategy::every()), &plan, run);
         assert_eq!(plainly, slept, "program {number}, {plan:?}");
         all = (all.0 + plain_runs, all.1 + runs);
         if number % 50 == 49 {
@@ -181,10 +181,10 @@ fn a_future_at_a_time_waits_as_a_call() {
     for number in 0..programs() / 10 {
         let plan = plan(number, FIRST_OF_SEVERAL);
         let run = |board: &Board, kept: &Mutex<String>| run_plan(board, &plan, kept);
-        let (waits, runs) = outcomes(&Way::every(), &plan, run);
-        let mut way = Way::every();
-        way.limits.polls_are_steps = true;
-        let (polled, polled_runs) = outcomes(&way, &plan, run);
+        let (waits, runs) = outcomes(&Strategy::every(), &plan, run);
+        let mut strategy = Strategy::every();
+        strategy.limits.polls_are_steps = true;
+        let (polled, polled_runs) = outcomes(&strategy, &plan, run);
         assert_eq!(waits, polled, "program {number}, {plan:?}");
         assert!(runs <= polled_runs + CHECKS);
     }

@@ -4,10 +4,10 @@
 use super::threads::{keep, outcomes};
 use super::{call, objects, programs, Board, Objects, Plan};
 use crate::explore::choose::{mix, Random};
-use crate::explore::way::Way;
+use crate::explore::strategy::Strategy;
 use crate::explore::{scope, Thread};
-use crate::owned::OwnedSeat;
-use crate::room::Numbers;
+use crate::message::carries::Numbers;
+use crate::seat::owned::OwnedSeat;
 use std::sync::Mutex;
 
 /// The thread starts its next one,
@@ -91,8 +91,8 @@ fn threads_that_start_and_join_others_have_all_outcomes() {
     for number in super::first()..super::first() + programs() / 5 {
         let plan = plan(number);
         let run = |board: &Board, kept: &Mutex<String>| run_plan(board, &plan, kept);
-        let (plainly, plain_runs) = outcomes(&Way::every_plainly(), &plan, run);
-        let (asked, runs) = outcomes(&Way::every(), &plan, run);
+        let (plainly, plain_runs) = outcomes(&Strategy::every_plainly(), &plan, run);
+        let (asked, runs) = outcomes(&Strategy::every(), &plan, run);
         assert!(plainly == asked, "program {number}, {plan:?}");
         all = (all.0 + plain_runs, all.1 + runs);
         if number % 100 == 99 {

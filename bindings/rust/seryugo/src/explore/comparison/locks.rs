@@ -3,8 +3,8 @@
 use super::{compare, first, programs, Plan};
 use crate::explore::choose::{mix, Random};
 use crate::explore::state::State;
-use crate::explore::step::{Kind, Step};
-use crate::explore::way::Way;
+use crate::explore::step::{Step, StepKind};
+use crate::explore::strategy::Strategy;
 
 /// The steps of this file are the kinds from this one on.
 pub(super) const FIRST_LOCK: u64 = 60;
@@ -60,12 +60,12 @@ fn plan(number: u64) -> Plan {
 pub(super) fn step(kind: u64) -> Step {
     let [one, other, condition] = NUMBERS;
     match kind {
-        ONE | ONE_FOR_TWO => Kind::Lock.on(one),
-        OTHER | OTHER_FOR_TWO => Kind::Lock.on(other),
-        AWAIT => Kind::Await.on(condition),
-        RELOCK => Kind::Relock.on(one),
-        NOTIFY_ONE => Kind::NotifyOne.on(condition),
-        _ => Kind::NotifyAll.on(condition),
+        ONE | ONE_FOR_TWO => StepKind::Lock.on(one),
+        OTHER | OTHER_FOR_TWO => StepKind::Lock.on(other),
+        AWAIT => StepKind::Await.on(condition),
+        RELOCK => StepKind::Relock.on(one),
+        NOTIFY_ONE => StepKind::NotifyOne.on(condition),
+        _ => StepKind::NotifyAll.on(condition),
     }
 }
 
@@ -112,11 +112,11 @@ pub(super) fn finish(state: &mut State, task: usize) {
 #[test]
 fn nor_with_locks_and_conditions() {
     let numbers = 600_000 + first()..600_000 + first() + programs() / 3;
-    let (plain, slept) = compare(numbers.clone(), plan, false, |way| way);
+    let (plain, slept) = compare(numbers.clone(), plan, false, |strategy| strategy);
     println!("{plain} runs of every order, and {slept} of those that differ");
     assert!(slept < plain);
-    let (plain, slept) = compare(numbers.clone(), plan, true, |way| way);
+    let (plain, slept) = compare(numbers.clone(), plan, true, |strategy| strategy);
     assert!(slept < plain);
-    let (plain, slept) = compare(numbers, plan, false, Way::stalls_are_told);
+    let (plain, slept) = compare(numbers, plan, false, Strategy::stalls_are_told);
     assert!(slept < plain);
 }

@@ -2,10 +2,10 @@
 
 use super::{Board, Objects, Plan, CALLS, THREADS};
 use crate::explore::choose::{mix, Random};
-use crate::explore::step::{Kind, Step, NONE};
-use crate::names::{Channel, Mailbox, Object, Port};
-use crate::owned::{OwnedFeed, OwnedLane, OwnedSeat};
-use crate::room::Numbers;
+use crate::explore::step::{Step, StepKind, NONE};
+use crate::message::carries::Numbers;
+use crate::message::names::{Channel, Mailbox, Object, Port};
+use crate::seat::owned::{OwnedFeed, OwnedLane, OwnedSeat};
 use std::ops::Range;
 
 /// Calls of lanes and feeds are the kinds from this one on.
@@ -96,18 +96,18 @@ impl Rings {
             false => self.mailbox.number(),
         };
         match (kind, &self.lane, &self.feed) {
-            (33, ..) => Kind::Drain.on(self.other_lane),
-            (38, ..) => Kind::Recv.on(self.ports[1].number()),
-            (39, ..) => Kind::Poll.on(self.ports[1].number()),
-            (40, ..) => Kind::Copy.on(self.ports[1].number()),
-            (41, ..) => Kind::LookAtAll.on(NONE),
-            (FIRST_RING..FIRST_FEED, None, _) => Kind::OpenLane.on(target),
-            (_, _, None) => Kind::OpenFeed.on(self.channel.number()),
-            (30 | 31, Some(lane), _) => Kind::LaneSend.on(lane.number()),
-            (32, Some(lane), _) => Kind::Drain.on(lane.number()),
-            (34 | 35, Some(lane), _) => Kind::CloseLane.on(lane.number()),
-            (36, _, Some(feed)) => Kind::Pump.on(feed.number()),
-            (_, _, Some(feed)) => Kind::EndFeed.on(feed.number()),
+            (33, ..) => StepKind::Drain.on(self.other_lane),
+            (38, ..) => StepKind::Recv.on(self.ports[1].number()),
+            (39, ..) => StepKind::Poll.on(self.ports[1].number()),
+            (40, ..) => StepKind::Copy.on(self.ports[1].number()),
+            (41, ..) => StepKind::LookAtAll.on(NONE),
+            (FIRST_RING..FIRST_FEED, None, _) => StepKind::OpenLane.on(target),
+            (_, _, None) => StepKind::OpenFeed.on(self.channel.number()),
+            (30 | 31, Some(lane), _) => StepKind::LaneSend.on(lane.number()),
+            (32, Some(lane), _) => StepKind::Drain.on(lane.number()),
+            (34 | 35, Some(lane), _) => StepKind::CloseLane.on(lane.number()),
+            (36, _, Some(feed)) => StepKind::Pump.on(feed.number()),
+            (_, _, Some(feed)) => StepKind::EndFeed.on(feed.number()),
         }
     }
 
@@ -121,22 +121,24 @@ impl Rings {
     ) -> (Option<u64>, u64) {
         let step = self.step(kind);
         let answer = match (step.kind, &mut self.lane, &mut self.feed) {
-            (Kind::OpenLane, ..) => self.open_lane(board),
-            (Kind::LaneSend, Some(lane), _) => number(lane.send(message).map(|()| DONE)),
-            (Kind::CloseLane, Some(_), _) => self.close_lane(kind == 34),
-            (Kind::Drain, ..) => number(board.drain(step.object)),
-            (Kind::OpenFeed, ..) => {
+            (StepKind::OpenLane, ..) => self.open_lane(board),
+            (StepKind::LaneSend, Some(lane), _) => number(lane.send(message).map(|()| DONE)),
+            (StepKind::CloseLane, Some(_), _) => self.close_lane(kind == 34),
+            (StepKind::Drain, ..) => number(board.drain(step.object)),
+            (StepKind::OpenFeed, ..) => {
                 self.feed.insert(board.feed_owned(self.channel, 2).unwrap()).number()
             }
-            (Kind::Pump, _, Some(feed)) => {
+            (StepKind::Pump, _, Some(feed)) => {
                 let pumped = number(feed.pump());
                 let received = std::iter::from_fn(|| feed.recv().unwrap());
                 return (Some(pumped), received.fold(pumped, mix));
             }
-            (Kind::EndFeed, ..) => return (None, u64::from(self.feed.take().is_some())),
-            (Kind::Recv, ..) => return (None, u64::from(seat.recv(self.ports[1]).is_ok())),
-            (Kind::Poll, ..) => return (None, u64::from(seat.recv_poll(self.ports[1]).is_ok())),
-            (Kind::Copy, ..) => return (None, u64::from(seat.copy(self.ports[1]).is_ok())),
+            (StepKind::EndFeed, ..) => return (None, u64::from(self.feed.take().is_some())),
+            (StepKind::Recv, ..) => return (None, u64::from(seat.recv(self.ports[1]).is_ok())),
+            (StepKind::Poll, ..) => {
+                return (None, u64::from(seat.recv_poll(self.ports[1]).is_ok()))
+            }
+            (StepKind::Copy, ..) => return (None, u64::from(seat.copy(self.ports[1]).is_ok())),
             _ => return (None, board.lost()),
         };
         (Some(answer), answer)

@@ -3,7 +3,7 @@
 use super::Board;
 use crate::explore::end::End;
 use crate::explore::runs::Explorer;
-use crate::explore::way::Way;
+use crate::explore::strategy::Strategy;
 use std::collections::{BTreeMap, BTreeSet};
 use std::fmt::Debug;
 use std::sync::Mutex;
@@ -18,21 +18,21 @@ pub fn keep(board: &Board, kept: &Mutex<String>) {
 /// What each seat has called and was answered, and how the run ended, in all runs; and how many runs
 /// there were. The program keeps its journal.
 pub fn outcomes<P: Debug>(
-    way: &Way,
+    strategy: &Strategy,
     plan: P,
     program: impl Fn(&Board, &Mutex<String>),
 ) -> (BTreeSet<String>, u64) {
     let kept = Mutex::new(String::new());
     let program = |board: &Board| program(board, &kept);
-    let mut explorer = Explorer::new(way.clone());
+    let mut explorer = Explorer::new(strategy.clone());
     let mut outcomes = BTreeSet::new();
     for number in 0.. {
         let end = explorer.run(number, &program).end;
         if matches!(end, End::Unfit(_)) {
             // Polls are steps.
-            let mut way = way.clone();
-            way.limits.polls_are_steps = true;
-            explorer = Explorer::new(way);
+            let mut strategy = strategy.clone();
+            strategy.limits.polls_are_steps = true;
+            explorer = Explorer::new(strategy);
             outcomes.clear();
             continue;
         }

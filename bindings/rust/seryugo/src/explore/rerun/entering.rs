@@ -4,20 +4,20 @@ use super::follower::{Follower, Turn};
 use super::line::line_of;
 use super::threads;
 use super::waits::{Caller, WaitKind, Waits};
-use crate::entry::Entry;
 use crate::error::Error;
-use crate::inside::Inside;
+use crate::journal::entry::Entry;
+use crate::message::carries::MessageKind;
 use crate::raw::code;
-use crate::room::Room;
+use crate::switchboard::state::State;
 
 /// A call whose entry is next.
-pub(crate) struct Entering<'f, R: Room> {
+pub(crate) struct Entering<'f, R: MessageKind> {
     follower: &'f Follower<R>,
     position: usize,
     caller: Caller,
 }
 
-impl<R: Room> Follower<R> {
+impl<R: MessageKind> Follower<R> {
     /// Waits until the caller's next entry is next. `None`: all entries were made, and the call goes
     /// on freely.
     #[inline]
@@ -51,15 +51,15 @@ impl<R: Room> Follower<R> {
     }
 }
 
-impl<'f, R: Room> Entering<'f, R> {
+impl<'f, R: MessageKind> Entering<'f, R> {
     pub fn follower(&self) -> &'f Follower<R> {
         self.follower
     }
 
     /// The entry that the call has made, while it has the lock.
     #[inline]
-    pub fn made(&self, inside: &mut Inside<R>) -> Option<Entry<R>> {
-        R::entry(&mut inside.handle, self.position as u64).ok()
+    pub fn made(&self, state: &mut State<R>) -> Option<Entry<R>> {
+        R::entry(&mut state.handle, self.position as u64).ok()
     }
 
     /// The call was made, and returned this code and this entry. `Ok`: it is the journal's, or the
@@ -78,9 +78,9 @@ impl<'f, R: Room> Entering<'f, R> {
     }
 
     /// The entries that the call has made, which are this many.
-    pub fn made_from(&self, inside: &mut Inside<R>, count: u64) -> Vec<Entry<R>> {
+    pub fn made_from(&self, state: &mut State<R>, count: u64) -> Vec<Entry<R>> {
         let first = self.position as u64;
-        let room = &mut inside.handle;
+        let room = &mut state.handle;
         (first..first + count).map_while(|position| R::entry(room, position).ok()).collect()
     }
 

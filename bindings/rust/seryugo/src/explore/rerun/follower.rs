@@ -9,10 +9,10 @@ use super::reran::{Diverged, Reran, Stop};
 use super::threads;
 use super::waits::{Caller, Still, Waits};
 use super::AtEnd;
-use crate::entry::{Call, Who};
 use crate::error::Error;
 use crate::explore::End;
-use crate::room::Room;
+use crate::journal::entry::{Call, Who};
+use crate::message::carries::MessageKind;
 use std::collections::BTreeMap;
 use std::hint;
 use std::sync::atomic::{AtomicU64, AtomicUsize, Ordering};
@@ -41,7 +41,7 @@ pub(crate) struct Habits {
 }
 
 /// Has the calls of a switchboard made in the order of a journal.
-pub(crate) struct Follower<R: Room> {
+pub(crate) struct Follower<R: MessageKind> {
     pub plan: Arc<Plan<R>>,
     pub makers: Vec<Maker>,
     pub habits: Habits,
@@ -71,7 +71,7 @@ pub(crate) enum Turn {
     GivenUp,
 }
 
-impl<R: Room> Follower<R> {
+impl<R: MessageKind> Follower<R> {
     pub fn new(plan: Arc<Plan<R>>, habits: Habits) -> Follower<R> {
         Follower {
             makers: plan.firsts.iter().map(|first| Maker::new(*first)).collect(),
@@ -246,7 +246,7 @@ impl<R: Room> Follower<R> {
 }
 
 /// Who is there.
-impl<R: Room> Follower<R> {
+impl<R: MessageKind> Follower<R> {
     pub fn comes(&self) {
         self.present.fetch_add(1, Ordering::SeqCst);
     }
@@ -382,7 +382,7 @@ impl<R: Room> Follower<R> {
 }
 
 /// The position of the maker's next entry, or that of the end.
-impl<R: Room> Follower<R> {
+impl<R: MessageKind> Follower<R> {
     #[inline]
     pub fn position_of(&self, maker: Option<&Maker>) -> usize {
         maker.and_then(Maker::next).unwrap_or(self.end())

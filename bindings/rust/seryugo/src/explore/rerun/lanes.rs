@@ -8,33 +8,33 @@ use super::follower::Follower;
 use super::line::{line_of, name_of};
 use super::waits::{Caller, WaitKind, Waits};
 use super::{threads, AtEnd};
-use crate::entry::Who;
 use crate::error::Error;
-use crate::explore::step::{Kind, NONE};
+use crate::explore::step::{StepKind, NONE};
+use crate::journal::entry::Who;
+use crate::message::carries::MessageKind;
 use crate::raw::{self, code, done, Handle};
-use crate::room::Room;
 use crate::switchboard::Switchboard;
 use std::collections::VecDeque;
 use std::mem;
 use std::sync::{Arc, Mutex, MutexGuard, PoisonError};
 
 /// A lane of a switchboard that is rerun.
-pub(crate) struct RerunLane<R: Room> {
+pub(crate) struct RerunLane<R: MessageKind> {
     number: u64,
     ring: Mutex<Ring<R>>,
 }
 
-struct Ring<R: Room> {
+struct Ring<R: MessageKind> {
     handle: Handle,
     /// What was sent, and waits for its entry.
-    waiting: VecDeque<R::Kept>,
+    waiting: VecDeque<R::OwnedMessage>,
     /// How many have moved since the last drain.
     moved: u64,
     /// How many were sent, once the lane was dropped.
     ended: Option<u64>,
 }
 
-impl<R: Room> RerunLane<R> {
+impl<R: MessageKind> RerunLane<R> {
     fn lock(&self) -> MutexGuard<'_, Ring<R>> {
         self.ring.lock().unwrap_or_else(PoisonError::into_inner)
     }
@@ -48,7 +48,7 @@ impl<R: Room> RerunLane<R> {
     }
 }
 
-impl<R: Room> Ring<R> {
+impl<R: MessageKind> Ring<R> {
     /// Sends what waits on the lane, as far as that has room.
     fn flush(&mut self) {
         while let Some(message) = self.waiting.front() {
@@ -61,7 +61,7 @@ impl<R: Room> Ring<R> {
 }
 
 /// The calls of lanes.
-impl<R: Room> Switchboard<R> {
+impl<R: MessageKind> Switchboard<R> {
     /// A lane was opened. `Err`: the switchboard isn't rerun, and the handle is the lane's own.
     pub(crate) fn lane_again(
         &self,
@@ -87,7 +87,11 @@ impl<R: Room> Switchboard<R> {
 
     /// Sends a message on a lane.
     #[cold]
-    pub(crate) fn lane_sends(&self, lane: &RerunLane<R>, message: R::Kept) -> Result<(), Error> {
+    pub(crate) fn lane_sends(
+        &self,
+        lane: &RerunLane<R>,
+        message: R::OwnedMessage,
+    ) -> Result<(), Error> {
         let Some(follower) = self.follower() else {
             return Ok(());
         };
@@ -132,7 +136,7 @@ impl<R: Room> Switchboard<R> {
         let mut moved = mem::take(&mut ring.moved);
         while follower.is_free() {
             ring.flush();
-            let count = self.change(None, |inside| inside.drain(lane.number))?;
+            let count = self.change(None, |state| state.drain(lane.number))?;
             moved += count;
             if count == 0 {
                 break;
@@ -154,7 +158,7 @@ impl<R: Room> Switchboard<R> {
             return Err(Error::JournalFull);
         }
         raw::seryugo_lane_finish(&mut ring.handle);
-        self.change(None, |inside| inside.close_lane(lane.number, &mut ring.handle))?;
+        self.change(None, |state| state.close_lane(lane.number, &mut ring.handle))?;
         follower.lanes().remove(&lane.number);
         follower.leaves(lane.who());
         Ok(())
@@ -182,7 +186,7 @@ impl<R: Room> Switchboard<R> {
             return 0;
         }
         follower.lanes().remove(&lane.number);
-        let lost = self.change(None, |inside| inside.end_lane(lane.number, sent));
+        let lost = self.change(None, |state| state.end_lane(lane.number, sent));
         follower.leaves(lane.who());
         lost
     }
@@ -208,9 +212,9 @@ impl<R: Room> Switchboard<R> {
         };
         // The ring is empty, so that it has room, and this message alone moves.
         let sent = R::lane_send(&mut ring.handle, R::sent(&message));
-        let (drained, made) = self.change(None, |inside| {
-            let drained = done(sent).and_then(|()| inside.drain(lane.number));
-            (drained, R::entry(&mut inside.handle, position as u64).ok())
+        let (drained, made) = self.change(None, |state| {
+            let drained = done(sent).and_then(|()| state.drain(lane.number));
+            (drained, R::entry(&mut state.handle, position as u64).ok())
         });
         ring.moved += 1;
         match (made, drained) {
@@ -236,7 +240,7 @@ impl<R: Room> Switchboard<R> {
     }
 }
 
-impl<R: Room> Follower<R> {
+impl<R: MessageKind> Follower<R> {
     /// The lane whose entry is next, and the entry's position. `None`: it isn't a lane's, or the
     /// lane isn't open.
     fn next_lane(&self) -> Option<(usize, Arc<RerunLane<R>>)> {
@@ -267,7 +271,7 @@ impl<R: Room> Follower<R> {
         let waits = Waits {
             caller: Caller {
                 who,
-                step: Kind::Send.on(NONE),
+                step: StepKind::Send.on(NONE),
             },
             kind: WaitKind::Moves,
             thread: self.is_called_by(who),

@@ -1,11 +1,11 @@
 //! An entry as a line of a journal's text, which `docs/FORMATS.md` describes.
 
-use crate::entry::{Call, Entry, Reply, Who};
 use crate::explore::step::Step;
-use crate::room::Room;
+use crate::journal::entry::{Call, Entry, Reply, Who};
+use crate::message::carries::MessageKind;
 
 /// The line of an entry, without its end.
-pub(crate) fn line_of<R: Room>(entry: &Entry<R>) -> String {
+pub(crate) fn line_of<R: MessageKind>(entry: &Entry<R>) -> String {
     let message = entry.call.message().map(|message| format!(" {}", R::word(message)));
     let (step, message) = (Step::of(&entry.call), message.unwrap_or_default());
     format!("{} {step}{message}: {}", name_of(entry.who), reply_of::<R>(&entry.reply))
@@ -20,7 +20,7 @@ pub(crate) fn name_of(who: Who) -> String {
     }
 }
 
-fn reply_of<R: Room>(reply: &Reply<R::Message>) -> String {
+fn reply_of<R: MessageKind>(reply: &Reply<R::Message>) -> String {
     match reply {
         Reply::Done => "done".to_string(),
         Reply::Made(number) => format!("made {number}"),
@@ -32,7 +32,7 @@ fn reply_of<R: Room>(reply: &Reply<R::Message>) -> String {
 }
 
 /// The entry of a line. The library has read the line before, and it has no fault.
-pub(crate) fn entry_of<R: Room>(line: &str) -> Option<Entry<R>> {
+pub(crate) fn entry_of<R: MessageKind>(line: &str) -> Option<Entry<R>> {
     let (made, reply) = line.split_once(": ")?;
     let mut words = made.split(' ');
     let (who, number) = (words.next()?, words.next()?.parse().ok()?);
@@ -50,7 +50,7 @@ pub(crate) fn entry_of<R: Room>(line: &str) -> Option<Entry<R>> {
 }
 
 /// The call of this word, with its object and its message.
-fn call_in<R: Room>(
+fn call_in<R: MessageKind>(
     word: &str,
     first: Option<&str>,
     second: Option<&str>,
@@ -80,7 +80,7 @@ fn call_in<R: Room>(
     })
 }
 
-fn reply_in<R: Room>(reply: &str) -> Option<Reply<R::Message>> {
+fn reply_in<R: MessageKind>(reply: &str) -> Option<Reply<R::Message>> {
     Some(match reply {
         "done" => Reply::Done,
         "none" => Reply::Nothing,
@@ -120,7 +120,7 @@ pub(crate) fn bytes_of(word: &str) -> Option<Vec<u8>> {
 #[cfg(test)]
 mod tests {
     use super::*;
-    use crate::room::{Bytes, Numbers};
+    use crate::message::carries::{Bytes, Numbers};
     use std::fmt::Debug;
 
     /// Each call and each reply, with these words for messages.
@@ -137,7 +137,7 @@ mod tests {
         lines.lines().map(str::to_string).collect()
     }
 
-    fn are_read_as_written<R: Room + Debug>(lines: &[String]) {
+    fn are_read_as_written<R: MessageKind + Debug>(lines: &[String]) {
         for line in lines {
             let entry = entry_of::<R>(line).unwrap_or_else(|| panic!("{line}"));
             assert_eq!(line_of(&entry), *line);

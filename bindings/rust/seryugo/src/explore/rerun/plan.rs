@@ -2,12 +2,12 @@
 
 use super::line::entry_of;
 use super::RerunError;
-use crate::checker::{CheckError, Checker};
-use crate::entry::{Entry, Who};
 use crate::explore::history::Sum;
 use crate::explore::step::Step;
-use crate::header;
-use crate::room::Room;
+use crate::journal::checker::{CheckError, Checker};
+use crate::journal::entry::{Entry, Who};
+use crate::journal::header;
+use crate::message::carries::MessageKind;
 use std::collections::HashMap;
 use std::hash::BuildHasherDefault;
 
@@ -15,7 +15,7 @@ use std::hash::BuildHasherDefault;
 pub(crate) const NEVER: usize = usize::MAX;
 
 /// An entry to come.
-pub(crate) struct Planned<R: Room> {
+pub(crate) struct Planned<R: MessageKind> {
     pub entry: Entry<R>,
     pub step: Step,
     /// The number of the seat, lane or feed that makes it, among those that have entries.
@@ -28,7 +28,7 @@ pub(crate) struct Planned<R: Room> {
 type Makers = HashMap<u64, usize, BuildHasherDefault<Sum>>;
 
 /// The entries of a journal, by position.
-pub(crate) struct Plan<R: Room> {
+pub(crate) struct Plan<R: MessageKind> {
     pub entries: Vec<Planned<R>>,
     /// The position of each maker's first entry.
     pub firsts: Vec<usize>,
@@ -37,7 +37,7 @@ pub(crate) struct Plan<R: Room> {
     feeds: Makers,
 }
 
-impl<R: Room> Plan<R> {
+impl<R: MessageKind> Plan<R> {
     /// The entries of a journal that begins at position 0.
     pub fn new(entries: impl IntoIterator<Item = Entry<R>>) -> Plan<R> {
         let mut plan = Plan {
@@ -115,7 +115,7 @@ fn is_entry(line: &str) -> bool {
 }
 
 /// Refuses a text of another type of messages, and one that begins after a cut.
-fn refuse_others<R: Room>(text: &[u8]) -> Result<(), RerunError> {
+fn refuse_others<R: MessageKind>(text: &[u8]) -> Result<(), RerunError> {
     let mut lines = text.split(|byte| *byte == b'\n');
     let refused = header::refused::<R>(lines.next().unwrap_or_default());
     if let Some(CheckError::OtherMessages) = refused {

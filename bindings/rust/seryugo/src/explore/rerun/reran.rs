@@ -1,8 +1,8 @@
 //! What a rerun has seen.
 
 use super::line::name_of;
-use crate::entry::Who;
 use crate::explore::{End, Waits};
+use crate::journal::entry::Who;
 use std::collections::BTreeSet;
 use std::fmt;
 

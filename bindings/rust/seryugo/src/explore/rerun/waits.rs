@@ -4,9 +4,9 @@ use super::follower::{Follower, TICK};
 use super::line::{line_of, name_of};
 use super::maker::Maker;
 use super::threads::NOBODY;
-use crate::entry::Who;
-use crate::explore::step::{Kind, Step};
-use crate::room::Room;
+use crate::explore::step::{Step, StepKind};
+use crate::journal::entry::Who;
+use crate::message::carries::MessageKind;
 use std::fmt;
 use std::io::{self, Write};
 
@@ -38,7 +38,7 @@ impl Waits {
     /// A seat of this thread waits for what has no entry.
     pub fn of_seat(seat: u64) -> Waits {
         Waits {
-            caller: Caller::of_seat(seat, Kind::Mailbox.makes()),
+            caller: Caller::of_seat(seat, StepKind::Mailbox.makes()),
             kind: WaitKind::MayPass,
             thread: NOBODY,
         }
@@ -83,7 +83,7 @@ impl Still {
 /// A thread whose own other seat is next waits so much shorter.
 const SHORTER: u64 = 100;
 
-impl<R: Room> Follower<R> {
+impl<R: MessageKind> Follower<R> {
     /// Whether a thread that waits has waited in vain.
     pub(super) fn gives_up(&self, maker: Option<&Maker>, waits: &Waits, still: &Still) -> bool {
         let Some(next) = self.next_entry() else {

@@ -4,7 +4,7 @@ use super::{At, Joins, State, Task};
 use crate::explore::board::{sum_of, Board, Look};
 use crate::explore::end::End;
 use crate::explore::moves::{By, Move};
-use crate::explore::step::{Kind, Step, NONE};
+use crate::explore::step::{Step, StepKind, NONE};
 
 /// A step that a thread is about to make.
 #[derive(Clone, Copy)]
@@ -27,8 +27,8 @@ impl Call {
     pub fn none() -> Call {
         Call {
             seat: NONE,
-            step: Kind::Aside.on(NONE),
-            as_if: Kind::Aside.on(NONE),
+            step: StepKind::Aside.on(NONE),
+            as_if: StepKind::Aside.on(NONE),
             channel: NONE,
             is_timed: false,
             is_poll: false,
@@ -43,7 +43,7 @@ impl Call {
             return;
         }
         self.look = Some(board.look(self.step));
-        if self.step.kind == Kind::Drain {
+        if self.step.kind == StepKind::Drain {
             // Its lane may be opened or closed meanwhile.
             self.as_if = board.as_if(self.step);
         }
@@ -122,7 +122,7 @@ impl State {
             is_timed,
             ..self.call(seat, step)
         };
-        if step.kind == Kind::Relock {
+        if step.kind == StepKind::Relock {
             call.channel = self.locks.awaited_by(task);
         }
         self.arrive_at(task, call);
@@ -316,7 +316,7 @@ impl State {
     fn as_if(&self, call: &Call) -> Step {
         let most = self.most_entries.saturating_add(super::MOST_MOVED);
         match call.step.kind.moves_many() && most > self.limits.entries {
-            true => Kind::LookAtAll.on(NONE),
+            true => StepKind::LookAtAll.on(NONE),
             false => call.as_if,
         }
     }

@@ -1,7 +1,7 @@
 //! The locks of a run: who has which, and who waits for a condition.
 
 use crate::explore::board::Look;
-use crate::explore::step::{Kind, Step, NONE};
+use crate::explore::step::{Step, StepKind, NONE};
 use std::collections::HashMap;
 use std::panic::Location;
 
@@ -26,7 +26,7 @@ impl Locks {
 
     /// What such a step of a thread finds.
     pub fn look(&self, task: usize, step: Step) -> Look {
-        let is_woken = step.kind != Kind::Relock || self.is_notified(task);
+        let is_woken = step.kind != StepKind::Relock || self.is_notified(task);
         Look {
             is_answered: self.is_free(step) && is_woken,
             is_full: false,
@@ -47,17 +47,17 @@ impl Locks {
     /// A thread makes such a step, or its time has passed.
     pub fn made(&mut self, task: usize, step: Step, is_late: bool) {
         match step.kind {
-            Kind::Lock => drop(self.holders.insert(step.object, task)),
-            Kind::Relock => {
+            StepKind::Lock => drop(self.holders.insert(step.object, task)),
+            StepKind::Relock => {
                 self.holders.insert(step.object, task);
                 self.wake(task, is_late);
             }
-            Kind::Await => self.waiting.push((step.object, task)),
-            Kind::NotifyOne | Kind::NotifyAll => {
+            StepKind::Await => self.waiting.push((step.object, task)),
+            StepKind::NotifyOne | StepKind::NotifyAll => {
                 let of_condition = self.waiting.iter().filter(|waits| waits.0 == step.object);
                 let woken: Vec<usize> = of_condition.map(|waits| waits.1).collect();
                 match step.kind {
-                    Kind::NotifyOne => self.notified.push(woken),
+                    StepKind::NotifyOne => self.notified.push(woken),
                     _ => self.notified.extend(woken.iter().map(|task| vec![*task])),
                 }
                 self.notified.retain(|woken| !woken.is_empty());
@@ -95,10 +95,10 @@ impl Locks {
             return step.to_string();
         }
         let awaited = self.awaited_by(task);
-        let is_at_lock = step.kind == Kind::Lock || self.is_notified(task);
+        let is_at_lock = step.kind == StepKind::Lock || self.is_notified(task);
         let (on, holder) = match is_at_lock {
-            true => (Kind::Lock.on(step.object), self.holders.get(&step.object)),
-            false => (Kind::Await.on(awaited), None),
+            true => (StepKind::Lock.on(step.object), self.holders.get(&step.object)),
+            false => (StepKind::Await.on(awaited), None),
         };
         let place = self.places.get(&on.object);
         let place = place.map(|place| format!(" of {}:{}", place.file(), place.line()));

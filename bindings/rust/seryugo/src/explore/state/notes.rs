@@ -5,7 +5,7 @@ use super::State;
 use crate::explore::board::sum_of;
 use crate::explore::choose::mix;
 use crate::explore::history::{self, Done};
-use crate::explore::step::{Kind, Step};
+use crate::explore::step::{Step, StepKind};
 use crate::explore::tree::Tree;
 use std::fmt;
 
@@ -41,20 +41,21 @@ impl State {
     fn see(&mut self, done: &mut Done, step: Step, entries: u64) {
         let thing = thing(step);
         match step.kind {
-            Kind::LookAtAll => self.history.saw_all(done),
-            Kind::Look => match self.board.as_ref().and_then(|board| board.counts(step.object)) {
+            StepKind::LookAtAll => self.history.saw_all(done),
+            StepKind::Look => match self.board.as_ref().and_then(|board| board.counts(step.object))
+            {
                 Some(counts) => history::saw(done, counts),
                 None => self.history.saw(done, thing),
             },
-            Kind::Aside => {
+            StepKind::Aside => {
                 self.history.saw(done, thing);
                 self.history.changed(*done, thing);
             }
-            Kind::Lock | Kind::Relock => self.history.saw(done, thing),
-            Kind::Put | Kind::Take | Kind::TakePoll | Kind::Swap => {
+            StepKind::Lock | StepKind::Relock => self.history.saw(done, thing),
+            StepKind::Put | StepKind::Take | StepKind::TakePoll | StepKind::Swap => {
                 self.history.changed(*done, thing);
             }
-            Kind::Pump => {
+            StepKind::Pump => {
                 let board = self.board.iter();
                 let sums = board
                     .flat_map(|board| (entries..).map_while(|position| board.entry_sums(position)));
@@ -70,7 +71,7 @@ impl State {
             return;
         }
         self.settle(task);
-        self.history.changed(self.tasks[task].done, thing(Kind::Lock.on(lock)));
+        self.history.changed(self.tasks[task].done, thing(StepKind::Lock.on(lock)));
         if let Some(tree) = self.chooser.tree_mut() {
             tree.released(task, lock);
         }

@@ -1,0 +1,274 @@
+//! What becomes of a full journal.
+
+use crate::error::Error;
+use crate::journal::file::Appending;
+use crate::journal::Journal;
+use crate::message::carries::{Bytes, MessageKind};
+use crate::raw::{self, done, written, Handle, Opening};
+use std::fmt;
+use std::fs::File;
+use std::io;
+use std::mem;
+
+/// What a switchboard does if a call finds its journal full. See
+/// [`Switchboard::when_full`](crate::Switchboard::when_full).
+///
+/// It cuts the journal under the lock, and asks no lane and no feed to close. Then it makes the
+/// call.
+///
+/// ```
+/// use seryugo::{Switchboard, WhenFull};
+///
+/// let board = Switchboard::new(1)?.when_full(WhenFull::Drop);
+/// let mut seat = board.seat()?;
+/// let mailbox = seat.mailbox::<u64>()?;
+/// for number in 0..10 {
+///     seat.send(mailbox, number)?;
+/// }
+/// assert_eq!((board.cut_at(), board.owed(mailbox)?), (10, 10));
+/// # Ok::<(), seryugo::Error>(())
+/// ```
+pub enum WhenFull<R: MessageKind = Bytes> {
+    /// The call fails with [`JournalFull`](Error::JournalFull), until somebody cuts the journal.
+    Refuse,
+    /// The switchboard drops the entries.
+    Drop,
+    /// The switchboard calls this sink with the entries, which it keeps until the sink returns
+    /// `Ok`.
+    Call(Box<Sink<R>>),
+    /// The switchboard gives the entries away. If it gets them back, it keeps them.
+    Give(Box<Taker<R>>),
+}
+
+type Sink<R> = dyn FnMut(&Journal<R>) -> io::Result<()> + Send;
+type Taker<R> = dyn FnMut(Journal<R>) -> Result<(), Journal<R>> + Send;
+
+impl<R: MessageKind> WhenFull<R> {
+    /// Calls this sink with the entries. The sink runs under the lock, so it must not call the
+    /// switchboard.
+    ///
+    /// ```
+    /// use seryugo::{Switchboard, WhenFull};
+    /// use std::sync::{Arc, Mutex};
+    ///
+    /// let text = Arc::new(Mutex::new(Vec::new()));
+    /// let kept = text.clone();
+    /// let sink = WhenFull::call(move |journal| journal.write_to(&mut *kept.lock().unwrap()));
+    /// let board = Switchboard::of_numbers(1)?.when_full(sink);
+    /// let mut seat = board.seat()?;
+    /// let mailbox = seat.mailbox::<u64>()?;
+    /// seat.send(mailbox, 5)?;
+    /// assert_eq!(*text.lock().unwrap(), b"journal 1\nseat 0 mailbox: made 0\nend 1\n");
+    /// # Ok::<(), seryugo::Error>(())
+    /// ```
+    pub fn call(sink: impl FnMut(&Journal<R>) -> io::Result<()> + Send + 'static) -> WhenFull<R> {
+        WhenFull::Call(Box::new(sink))
+    }
+
+    /// Gives the entries away, such as to a thread that writes them meanwhile. `Err` gives them
+    /// back. If the taker panics, they are lost. It runs under the lock, so it must not call the
+    /// switchboard.
+    ///
+    /// ```
+    /// use seryugo::{Switchboard, WhenFull};
+    /// use std::sync::mpsc;
+    ///
+    /// // If two journals wait to be received, the call that finds the third one full waits too.
+    /// let (sender, journals) = mpsc::sync_channel(2);
+    /// let taker = WhenFull::give(move |journal| sender.send(journal).map_err(|unsent| unsent.0));
+    /// let board = Switchboard::new(1)?.when_full(taker);
+    /// let mut seat = board.seat()?;
+    /// let mailbox = seat.mailbox::<u64>()?;
+    /// seat.send(mailbox, 5)?;
+    /// assert_eq!(journals.recv().unwrap().len(), 1);
+    /// # Ok::<(), seryugo::Error>(())
+    /// ```
+    pub fn give(
+        taker: impl FnMut(Journal<R>) -> Result<(), Journal<R>> + Send + 'static,
+    ) -> WhenFull<R> {
+        WhenFull::Give(Box::new(taker))
+    }
+
+    /// Appends the entries to a file, and syncs it before the call is made. If that fails, it cuts
+    /// the file to what it had.
+    ///
+    /// An empty file gets pieces with sums, as [`Journal::write_sealed_to`] writes them. A file
+    /// that has such pieces, or pieces without sums, gets more of them. Open it for reading too:
+    /// the last line, which has the last sum, is read before a piece is written. If that isn't the
+    /// end of a piece, nothing is written: cut off first what is torn
+    /// ([`restore_torn`](crate::Switchboard::restore_torn)).
+    ///
+    /// The file's entries must end where the piece begins. Nothing is written if it has an entry
+    /// there, as that of another switchboard. Nor is anything if it lacks entries before, as after
+    /// [`take_journal`](crate::Switchboard::take_journal) or [`cut`](crate::Switchboard::cut). The
+    /// call fails with [`NotKept`](Error::NotKept), and the switchboard keeps the entries. Append
+    /// first what you took. If that is lost, begin a text anew by
+    /// [`compact_with`](crate::Switchboard::compact_with).
+    ///
+    /// It goes on with this file, also if another one gets its name. So
+    /// [`compact_with`](crate::Switchboard::compact_with) may write a short journal in place of the
+    /// file's text, but a crash meanwhile loses the text. To rename a new file to the old one's
+    /// name, use a sink that you can give the new one.
+    ///
+    /// Send no message of 371,000 bytes or more. It may be [`TooLong`](Error::TooLong) to be
+    /// written: then each call from there on fails with [`NotKept`](Error::NotKept). At the end
+    /// call [`keep`](crate::Switchboard::keep): a switchboard that is dropped writes nothing.
+    ///
+    /// ```no_run
+    /// use seryugo::{Switchboard, WhenFull};
+    /// use std::fs::File;
+    ///
+    /// # fn main() -> Result<(), Box<dyn std::error::Error>> {
+    /// let board = Switchboard::new(1_000)?.when_full(WhenFull::file(File::create("x.journal")?));
+    /// # Ok(())
+    /// # }
+    /// ```
+    #[must_use]
+    pub fn file(file: File) -> WhenFull<R> {
+        let mut file = Appending::to(file);
+        WhenFull::call(move |journal| file.append(journal))
+    }
+}
+
+impl<R: MessageKind> fmt::Debug for WhenFull<R> {
+    fn fmt(&self, f: &mut fmt::Formatter<'_>) -> fmt::Result {
+        f.write_str(match self {
+            WhenFull::Refuse => "Refuse",
+            WhenFull::Drop => "Drop",
+            WhenFull::Call(_) => "Call(..)",
+            WhenFull::Give(_) => "Give(..)",
+        })
+    }
+}
+
+/// The full-journal policy, and the entries that its sink hasn't taken yet.
+pub(crate) struct PendingJournal<R: MessageKind> {
+    when_full: WhenFull<R>,
+    /// Entries that were cut away, and that the sink hasn't taken yet.
+    kept: Option<Journal<R>>,
+    /// Why it didn't.
+    error: Option<io::Error>,
+}
+
+impl<R: MessageKind> PendingJournal<R> {
+    /// Sets a policy. It hands over first what another one has kept. `None` if a full journal refuses
+    /// calls.
+    pub fn new(when_full: WhenFull<R>, kept: Option<Journal<R>>) -> Option<PendingJournal<R>> {
+        (!matches!(when_full, WhenFull::Refuse)).then_some(PendingJournal {
+            when_full,
+            kept,
+            error: None,
+        })
+    }
+
+    /// The entries that it keeps.
+    pub fn into_kept(self) -> Option<Journal<R>> {
+        self.kept
+    }
+
+    /// Cuts the journal of a room, and does with its entries what is to be done with them. If that
+    /// fails, it keeps them.
+    pub fn cut(&mut self, room: &mut Handle, start: Start) -> Result<(), Error> {
+        self.hand_over()?;
+        if let WhenFull::Drop = self.when_full {
+            return done(raw::seryugo_cut_open(room));
+        }
+        self.kept = Some(taken(room, start, raw::seryugo_take_journal_open)?);
+        self.hand_over()
+    }
+
+    /// Does with the entries that it keeps what is to be done with them.
+    pub fn hand_over(&mut self) -> Result<(), Error> {
+        let Some(journal) = self.kept.take() else {
+            return Ok(());
+        };
+        let refused = match &mut self.when_full {
+            WhenFull::Refuse | WhenFull::Drop => None,
+            WhenFull::Call(sink) => {
+                // If the sink panics, the entries are kept.
+                let journal = self.kept.insert(journal);
+                let told = sink(journal);
+                self.kept.take_if(|_| told.is_ok());
+                told.err()
+            }
+            WhenFull::Give(taker) => taker(journal).err().map(|journal| {
+                self.kept = Some(journal);
+                io::Error::other("the entries were given back")
+            }),
+        };
+        if refused.is_none() {
+            return Ok(());
+        }
+        self.error = refused;
+        Err(Error::NotKept)
+    }
+
+    /// Drops the entries that it keeps.
+    pub fn forget(&mut self) {
+        self.kept = None;
+        self.error = None;
+    }
+
+    /// Returns why the sink refused the entries last. Returns it once.
+    pub fn error(&mut self) -> Option<io::Error> {
+        mem::take(&mut self.error)
+    }
+}
+
+/// A call that writes a handle to entries of a room, and how many they are.
+pub(crate) type Take = extern "C" fn(&mut Handle, &mut Opening, &mut u64) -> u32;
+
+/// Where the text begins to which a switchboard adds its pieces. A compaction begins it again.
+#[derive(Clone, Copy, Default)]
+pub(crate) struct Start {
+    /// How many entries the short journal stands for with which the text begins.
+    cut: u64,
+    /// How many entries it has.
+    short: u64,
+}
+
+impl Start {
+    /// Where this entry is in the text. `at` counts since the room was made.
+    fn place(self, at: u64) -> u64 {
+        at - self.cut + self.short
+    }
+}
+
+/// Cuts the journal of a room, of which a short journal was made that has this many entries. Returns
+/// where the text begins then.
+pub(crate) fn cut_behind(room: &mut Handle, short: u64) -> Result<Start, Error> {
+    done(raw::seryugo_cut_open(room))?;
+    let cut = written(|count| raw::seryugo_cut_at(room, count))?;
+    Ok(Start { cut, short })
+}
+
+/// The entries of a room's journal, which this call cuts.
+pub(crate) fn taken<R: MessageKind>(
+    room: &mut Handle,
+    start: Start,
+    take: Take,
+) -> Result<Journal<R>, Error> {
+    let first = written(|count| raw::seryugo_cut_at(room, count))?;
+    journal_by(room, start.place(first), take)
+}
+
+/// The short journal of a room, and where the text begins that it begins. The room's journal is cut
+/// then.
+pub(crate) fn cut_short<R: MessageKind>(room: &mut Handle) -> Result<(Journal<R>, Start), Error> {
+    let journal = journal_by(room, 0, raw::seryugo_compact_and_cut)?;
+    let cut = written(|count| raw::seryugo_cut_at(room, count))?;
+    let short = journal.len() as u64;
+    Ok((journal, Start { cut, short }))
+}
+
+/// The entries that this call takes, of which the first has this position.
+pub(crate) fn journal_by<R: MessageKind>(
+    room: &mut Handle,
+    first: u64,
+    take: Take,
+) -> Result<Journal<R>, Error> {
+    let mut count = 0;
+    let handle = Handle::opened(|journal| take(room, journal, &mut count))?;
+    // The entries are in memory, so that a `usize` counts them.
+    Ok(Journal::new(handle, first, count as usize))
+}

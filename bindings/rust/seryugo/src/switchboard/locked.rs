@@ -1,0 +1,137 @@
+//! How a thread calls under a switchboard's lock, and wakes the next seat that is due.
+
+use crate::message::carries::MessageKind;
+use crate::park::backoff;
+use crate::park::parker::{Parker, Woken};
+use crate::park::yields::pass_by_yielding;
+use crate::raw::{code, Handle};
+use crate::switchboard::lock::Guard;
+use crate::switchboard::state::State;
+use crate::switchboard::Switchboard;
+use std::mem;
+use std::panic;
+use std::thread;
+
+/// Before a thread waits for the lock, it spins and tries it: for this many pauses, and then for
+/// twice as many each time. Then it yields and tries it. With a quarter of the pauses, four threads
+/// that send took up to 1.4 times as long: too many looked at the lock.
+const PAUSES: u32 = 64;
+const SPINS: u32 = 4;
+const YIELDS: u32 = 4;
+
+impl<R: MessageKind> Switchboard<R> {
+    /// Makes a call under the lock, unlocks the room, and then wakes the next seat that is due. If
+    /// the call is that of a seat, `by` is the seat's parker.
+    #[inline]
+    pub(crate) fn change<T>(
+        &self,
+        by: Option<&Parker>,
+        call: impl FnOnce(&mut State<R>) -> T,
+    ) -> T {
+        let panicking = Panicking { board: self, by };
+        let mut state = self.lock();
+        let answer = state.call(call);
+        let due = state.next_due();
+        drop(state);
+        mem::forget(panicking);
+        self.wake_at(due, by);
+        answer
+    }
+
+    /// The same for a call that may park the seat, or that of a parked seat again.
+    #[inline]
+    pub(crate) fn ask(
+        &self,
+        by: &Parker,
+        is_again: bool,
+        call: impl FnOnce(&mut Handle) -> u32,
+    ) -> u32 {
+        let panicking = Panicking {
+            board: self,
+            by: Some(by),
+        };
+        let mut state = self.lock();
+        let code = state.ask(is_again, call);
+        by.note_ask(is_again, code == code::PARKED, state.calls());
+        // A call that parks a free seat makes no seat due. If others were due before, a call that
+        // wakes them is on its way.
+        let may_be_due = is_again || code != code::PARKED;
+        let due = may_be_due.then(|| state.next_due()).flatten();
+        drop(state);
+        mem::forget(panicking);
+        self.wake_at(due, Some(by));
+        code
+    }
+
+    /// The room, for a call that makes no seat due. A thread that panicked left it between two
+    /// calls, where it is whole.
+    #[inline]
+    pub(crate) fn lock(&self) -> Guard<'_, State<R>> {
+        self.try_lock().unwrap_or_else(|| self.lock_late())
+    }
+
+    /// The same, if no thread has the lock.
+    #[inline]
+    fn try_lock(&self) -> Option<Guard<'_, State<R>>> {
+        self.state.0.try_lock()
+    }
+
+    /// The same, if another thread had the lock just now. To sleep there and to be woken takes far
+    /// longer than a call.
+    #[cold]
+    fn lock_late(&self) -> Guard<'_, State<R>> {
+        backoff::look(PAUSES, SPINS, pass_by_yielding, YIELDS, || self.try_lock())
+            .unwrap_or_else(|| self.state.0.lock())
+    }
+
+    /// Wakes the seat at this place, if a seat is due.
+    #[inline]
+    fn wake_at(&self, due: Option<u64>, by: Option<&Parker>) {
+        if let Some(due) = due.and_then(|place| self.parkers.get(place)) {
+            self.wake(due, by);
+        }
+    }
+
+    /// Wakes a seat that is due. `by` is the parker of the calling seat, if a seat calls. A thread
+    /// that is woken makes a call, which wakes the seat after. A task may be polled late, and one
+    /// whose waker panics perhaps never. So after a task this wakes the next seat too, up to the
+    /// first thread. Then the first panic goes on.
+    fn wake(&self, due: &Parker, by: Option<&Parker>) {
+        let (mut next, mut panicked) = (Some(due), None);
+        while let Some(due) = next {
+            let woken = due.unpark(by);
+            if let Some(by) = by {
+                by.note_woken(due, &woken);
+            }
+            next = matches!(woken, Woken::Task(_)).then(|| self.next_due()).flatten();
+            if let Woken::Task(Err(panic)) = woken {
+                panicked.get_or_insert(panic);
+            }
+        }
+        // A thread that panics already, as it drops a seat, would abort at a second panic.
+        if let Some(panic) = panicked.filter(|_| !thread::panicking()) {
+            panic::resume_unwind(panic);
+        }
+    }
+
+    fn next_due(&self) -> Option<&Parker> {
+        let due = self.lock().next_due();
+        due.and_then(|place| self.parkers.get(place))
+    }
+}
+
+/// A call under the lock that hasn't returned. It is dropped only if a sink panics in the call. The
+/// call may have made a seat due before, so this wakes the next one.
+struct Panicking<'c, R: MessageKind> {
+    board: &'c Switchboard<R>,
+    by: Option<&'c Parker>,
+}
+
+impl<R: MessageKind> Drop for Panicking<'_, R> {
+    #[cold]
+    fn drop(&mut self) {
+        if let Some(due) = self.board.next_due() {
+            self.board.wake(due, self.by);
+        }
+    }
+}

@@ -1,0 +1,478 @@
+//! The state under a switchboard's lock: the room, and the counts beside it.
+
+use crate::error::Error;
+use crate::journal::full::{
+    cut_behind, cut_short, journal_by, taken, PendingJournal, Start, Take, WhenFull,
+};
+use crate::journal::Journal;
+use crate::message::carries::MessageKind;
+use crate::raw::{self, code, done, written, Handle};
+use crate::request::answers::Answers;
+use crate::switchboard::expected::Expected;
+use std::collections::BTreeMap;
+use std::io::{self, ErrorKind};
+use std::panic::{self, AssertUnwindSafe};
+
+/// A drain or a pump moves at most this many messages: no ring has room for more.
+pub(crate) const MOST_MOVED: u64 = 1024;
+
+/// What a call returns that isn't made, since nobody took the entries of the last full journal.
+pub(crate) trait Unkept {
+    fn unkept() -> Self;
+}
+
+impl Unkept for u32 {
+    fn unkept() -> u32 {
+        code::NOT_KEPT
+    }
+}
+
+impl<T> Unkept for Result<T, Error> {
+    fn unkept() -> Result<T, Error> {
+        Err(Error::NotKept)
+    }
+}
+
+/// A lane that is open.
+pub(crate) struct OpenLane {
+    /// The object to which it sends.
+    pub target: u64,
+    /// How many of its messages have moved.
+    moved: u64,
+}
+
+/// The state under the lock. What each call uses comes first, so that it lies in the lock's cache
+/// line: each line moves from the thread that called before to the one that calls.
+#[repr(C)]
+pub(crate) struct State<R: MessageKind> {
+    pub handle: Handle,
+    /// The journal surely has room for this many more. Without a pending journal no call asks.
+    spare: u64,
+    /// How many seats are parked.
+    parked: u64,
+    /// How many calls were made that may park a seat or make one due.
+    calls: u64,
+    /// How many entries the journal takes between two cuts.
+    limit: u64,
+    /// The policy for a full journal, and the entries that its sink refused.
+    pending: Option<PendingJournal<R>>,
+    /// Where the text begins to which the next piece is added.
+    start: Start,
+    /// The number of the first seat that was made here. Those of a journal from which the
+    /// switchboard goes on have lesser ones.
+    first_seat: u64,
+    /// How many seats were made here, hosts included.
+    seats: u64,
+    /// Who will come.
+    pub expected: Expected,
+    /// Where seats that have left had their questions answered.
+    pub free_answers: Vec<Answers>,
+    /// The open lanes, by their numbers.
+    pub lanes: BTreeMap<u64, OpenLane>,
+    /// How many messages were lost with their lanes.
+    lost: u64,
+    /// The ports of the open feeds, by the feeds' numbers.
+    pub fed: BTreeMap<u64, u64>,
+}
+
+impl<R: MessageKind> State<R> {
+    /// Over a room in which no seat was made yet. Its journal takes this many entries between two
+    /// cuts.
+    pub fn new(handle: Handle, limit: u64) -> State<R> {
+        State {
+            handle,
+            limit,
+            spare: u64::MAX,
+            pending: None,
+            start: Start::default(),
+            first_seat: 0,
+            seats: 0,
+            expected: Expected::default(),
+            free_answers: Vec::new(),
+            parked: 0,
+            calls: 0,
+            lanes: BTreeMap::new(),
+            lost: 0,
+            fed: BTreeMap::new(),
+        }
+    }
+
+    /// Sets the full-journal policy.
+    pub fn set_when_full(&mut self, when_full: WhenFull<R>) {
+        let kept = self.pending.take().and_then(PendingJournal::into_kept);
+        self.pending = PendingJournal::new(when_full, kept);
+        self.spare = if self.pending.is_some() { 0 } else { u64::MAX };
+    }
+
+    /// Reserves an entry, if a policy is set: cuts a full journal first. Returns `false` if its sink
+    /// refuses the entries. The call fails with `NotKept` then.
+    #[inline]
+    pub fn makes_room(&mut self) -> bool {
+        if self.spare == 0 {
+            return self.looks_for_room().is_ok();
+        }
+        self.spare -= 1;
+        true
+    }
+
+    #[cold]
+    fn looks_for_room(&mut self) -> Result<(), Error> {
+        let Some(pending) = &mut self.pending else {
+            return Ok(());
+        };
+        pending.hand_over()?;
+        let mut spare = self.spare_now();
+        if spare == 0 {
+            self.keep()?;
+            spare = self.limit;
+        }
+        self.spare = spare - 1;
+        Ok(())
+    }
+
+    /// Reads a counter that cannot fail.
+    pub fn count(&mut self, call: extern "C" fn(&mut Handle, &mut u64) -> u32) -> u64 {
+        written(|count| call(&mut self.handle, count)).unwrap_or_default()
+    }
+
+    /// How many more entries the journal takes.
+    fn spare_now(&mut self) -> u64 {
+        let (entries, cut) = (self.count(raw::seryugo_entries), self.count(raw::seryugo_cut_at));
+        self.limit.saturating_sub(entries - cut)
+    }
+
+    /// Cuts the journal, and does with its entries what is done with those of a full one.
+    pub fn keep(&mut self) -> Result<(), Error> {
+        let is_empty = self.spare_now() == self.limit;
+        match &mut self.pending {
+            Some(pending) if is_empty => pending.hand_over(),
+            Some(pending) => pending.cut(&mut self.handle, self.start),
+            None => Ok(()),
+        }
+    }
+
+    /// Cuts the journal by this call, and drops its entries, and those that nobody took.
+    pub fn cut(&mut self, cut: extern "C" fn(&mut Handle) -> u32) -> Result<(), Error> {
+        done(cut(&mut self.handle))?;
+        if let Some(pending) = &mut self.pending {
+            pending.forget();
+        }
+        Ok(())
+    }
+
+    /// Cuts the journal by this call, and returns its entries. If some were cut away before and
+    /// nobody took them, they go first.
+    pub fn take_journal(&mut self, take: Take) -> Result<Journal<R>, Error> {
+        if let Some(pending) = &mut self.pending {
+            pending.hand_over()?;
+        }
+        taken(&mut self.handle, self.start, take)
+    }
+
+    /// Returns a short journal that leaves what all calls leave.
+    pub fn compact(&mut self) -> Result<Journal<R>, Error> {
+        journal_by(&mut self.handle, 0, raw::seryugo_compact)
+    }
+
+    /// Returns a short journal, and cuts the journal. The short one stands for the entries that
+    /// nobody took, too.
+    pub fn compact_and_cut(&mut self) -> Result<Journal<R>, Error> {
+        let (journal, start) = cut_short(&mut self.handle)?;
+        self.begin(start);
+        Ok(journal)
+    }
+
+    /// Hands over a short journal. If that goes well, it cuts the journal as `compact_and_cut`
+    /// does.
+    pub fn compact_with<T>(
+        &mut self,
+        keep: impl FnOnce(&Journal<R>) -> io::Result<T>,
+    ) -> io::Result<T> {
+        let journal = self.compact().map_err(uncompacted)?;
+        let kept = keep(&journal)?;
+        let start = cut_behind(&mut self.handle, journal.len() as u64).map_err(uncompacted)?;
+        self.begin(start);
+        Ok(kept)
+    }
+
+    /// From now on a short journal stands for all before.
+    fn begin(&mut self, start: Start) {
+        self.start = start;
+        if let Some(pending) = &mut self.pending {
+            pending.forget();
+        }
+    }
+
+    /// Returns why the sink refused entries last. Returns it once.
+    pub fn keeping_error(&mut self) -> Option<io::Error> {
+        self.pending.as_mut().and_then(PendingJournal::error)
+    }
+
+    /// How many messages were lost with their lanes.
+    pub fn lost(&self) -> u64 {
+        self.lost
+    }
+
+    /// The place of the next seat among those that were made here, hosts included.
+    pub fn next_place(&self) -> u64 {
+        self.expected.host().map_or(self.seats, |host| host.wrapping_sub(self.first_seat))
+    }
+
+    /// Makes a free seat of the library, and returns its number.
+    pub fn make_seat(&mut self) -> Result<u64, Error> {
+        let number = written(|seat| raw::seryugo_new_seat(&mut self.handle, seat))?;
+        if self.seats == 0 {
+            self.first_seat = number;
+        }
+        self.seats += 1;
+        Ok(number)
+    }
+
+    /// Opens a lane to this object, and returns its number.
+    pub fn open_lane(&mut self, target: u64, capacity: usize) -> Result<(Handle, u64), Error> {
+        let mut number = 0;
+        let lane = Handle::opened(|lane| {
+            raw::seryugo_lane_open(&mut self.handle, target, capacity, lane, &mut number)
+        })?;
+        self.lanes.insert(number, OpenLane { target, moved: 0 });
+        Ok((lane, number))
+    }
+
+    /// The place of the next seat that is due among those that were made here. Each seat that is
+    /// due is given once.
+    #[inline]
+    pub fn next_due(&mut self) -> Option<u64> {
+        // Only a parked seat is ever due.
+        if self.parked == 0 {
+            return None;
+        }
+        let mut seat = 0;
+        let code = raw::seryugo_next_due(&mut self.handle, &mut seat);
+        (code == code::DONE).then(|| seat.wrapping_sub(self.first_seat))
+    }
+
+    /// How many calls were made that may park a seat or make one due.
+    #[inline]
+    pub fn calls(&self) -> u64 {
+        self.calls
+    }
+
+    /// Makes a call that may make a seat due.
+    #[inline]
+    pub fn call<T>(&mut self, call: impl FnOnce(&mut State<R>) -> T) -> T {
+        self.calls += 1;
+        call(self)
+    }
+
+    /// Makes a call that has an entry in the journal, if it is accepted.
+    #[inline]
+    pub fn enter<T: Unkept>(&mut self, call: impl FnOnce(&mut Handle) -> T) -> T {
+        if self.makes_room() {
+            call(&mut self.handle)
+        } else {
+            T::unkept()
+        }
+    }
+
+    /// Makes a call that may park its seat, or that of a parked seat again. A parked seat's call
+    /// was taken before. So while the journal has room it is made, even if nobody took the entries
+    /// of the last full one.
+    #[inline]
+    pub fn ask(&mut self, is_again: bool, call: impl FnOnce(&mut Handle) -> u32) -> u32 {
+        let has_room = self.makes_room();
+        if !has_room && !is_again {
+            return code::NOT_KEPT;
+        }
+        self.calls += 1;
+        let code = call(&mut self.handle);
+        self.parked =
+            (self.parked + u64::from(code == code::PARKED)).saturating_sub(u64::from(is_again));
+        match code {
+            code::JOURNAL_FULL if !has_room => code::NOT_KEPT,
+            _ => code,
+        }
+    }
+
+    /// Makes a call at the end of a wait. If it parks its seat, this withdraws it before others have
+    /// the lock.
+    pub fn ask_at_last(
+        &mut self,
+        seat: u64,
+        is_again: bool,
+        call: impl FnOnce(&mut Handle) -> u32,
+    ) -> u32 {
+        let code = self.ask(is_again, call);
+        if code == code::PARKED {
+            self.withdraw(seat);
+        }
+        code
+    }
+
+    /// Withdraws the call of a seat, if it is parked.
+    pub fn withdraw(&mut self, seat: u64) {
+        let code = raw::seryugo_withdraw(&mut self.handle, seat);
+        self.parked = self.parked.saturating_sub(u64::from(code == code::DONE));
+    }
+
+    /// Moves what is seen of an open lane into the journal, up to the first message that is
+    /// refused.
+    pub fn drain(&mut self, lane: u64) -> Result<u64, Error> {
+        self.move_seen(|state| state.drain_unkept(lane))
+    }
+
+    /// Drains a lane, also while the sink refuses the entries of the last full journal. The next call
+    /// still hands them over first.
+    fn drain_unkept(&mut self, lane: u64) -> Result<u64, Error> {
+        let count = written(|count| raw::seryugo_lane_drain(&mut self.handle, lane, count))?;
+        if let Some(lane) = self.lanes.get_mut(&lane) {
+            lane.moved = lane.moved.saturating_add(count);
+        }
+        Ok(count)
+    }
+
+    /// Receives what a feed is owed, up to the first message that is refused.
+    pub fn pump(&mut self, feed: u64) -> Result<u64, Error> {
+        self.move_seen(|state| {
+            written(|count| raw::seryugo_feed_pump(&mut state.handle, feed, count))
+        })
+    }
+
+    /// Makes a call that moves what it sees. If it stops at a full journal, and room is made there,
+    /// it goes on.
+    fn move_seen(&mut self, call: impl Fn(&mut Self) -> Result<u64, Error>) -> Result<u64, Error> {
+        let mut last = self.move_once(&call)?;
+        let mut moved = last;
+        while last != 0 && moved < MOST_MOVED && self.cuts_now() {
+            // If a message after the first is refused, the call returns how many moved.
+            last = self.move_once(&call).unwrap_or_default();
+            moved += last;
+        }
+        Ok(moved)
+    }
+
+    fn move_once(&mut self, call: impl Fn(&mut Self) -> Result<u64, Error>) -> Result<u64, Error> {
+        if !self.makes_room() {
+            return Err(Error::NotKept);
+        }
+        if self.pending.is_some() {
+            // It has an entry for each message.
+            self.spare = 0;
+        }
+        call(self)
+    }
+
+    /// Whether the journal is full, and the next call cuts it.
+    fn cuts_now(&mut self) -> bool {
+        self.pending.is_some() && self.spare_now() == 0
+    }
+
+    /// Drains a lane until nothing more moves.
+    pub fn drain_all(&mut self, lane: u64) -> Result<(), Error> {
+        while self.drain(lane)? != 0 {}
+        Ok(())
+    }
+
+    /// Closes a lane that has ended, once all of its messages have moved.
+    pub fn close_lane(&mut self, number: u64, lane: &mut Handle) -> Result<(), Error> {
+        self.drain_all(number)?;
+        done(raw::seryugo_lane_close(&mut self.handle, lane))?;
+        self.lanes.remove(&number);
+        Ok(())
+    }
+
+    /// Moves what it can of an open lane on which this many messages were sent, and closes the lane:
+    /// how many are lost.
+    pub fn end_lane(&mut self, lane: u64, sent: u64) -> u64 {
+        // A lane may end as its thread panics, so that no panic of a sink may leave this: the sink
+        // has failed.
+        let drained = panic::catch_unwind(AssertUnwindSafe(|| self.drain_all(lane)));
+        // Messages that are refused are lost.
+        if !matches!(drained, Ok(Ok(()))) {
+            while self.drain_unkept(lane).is_ok_and(|count| count != 0) {}
+        }
+        raw::seryugo_lane_abandon(&mut self.handle, lane);
+        let moved = self.lanes.remove(&lane).map_or(0, |lane| lane.moved);
+        let lost = sent.saturating_sub(moved);
+        self.lost = self.lost.saturating_add(lost);
+        lost
+    }
+}
+
+/// Why there is no short journal.
+fn uncompacted(error: Error) -> io::Error {
+    match error {
+        Error::NoMemory => ErrorKind::OutOfMemory.into(),
+        error => io::Error::other(error),
+    }
+}
+
+#[cfg(test)]
+mod tests {
+    use super::*;
+    use crate::calls::{Calls, Give, Read};
+    use crate::message::carries::Numbers;
+
+    const SEATS: u64 = 4;
+    const MAILBOX: u64 = 0;
+
+    /// Pseudorandom numbers, by a linear congruential generator.
+    struct Random(u64);
+
+    impl Random {
+        fn below(&mut self, limit: u64) -> u64 {
+            self.0 = self
+                .0
+                .wrapping_mul(6_364_136_223_846_793_005)
+                .wrapping_add(1_442_695_040_888_963_407);
+            (self.0 >> 33) % limit
+        }
+    }
+
+    /// A room with a mailbox and some seats, whose journal has room for few entries.
+    fn room() -> State<Numbers> {
+        let mut state = State::new(Handle::opened(|room| Numbers::open(9, room)).unwrap(), 9);
+        for _ in 0..SEATS {
+            state.new_seat().unwrap();
+        }
+        let made = written(|name| raw::seryugo_new_mailbox(&mut state.handle, 0, name));
+        assert_eq!(made, Ok(MAILBOX));
+        state
+    }
+
+    fn receive(state: &mut State<Numbers>, seat: u64, is_again: bool) {
+        state.ask(is_again, |room| Numbers::ask(Read::Recv, room, seat, MAILBOX, is_again, &mut 0));
+    }
+
+    /// Makes some calls, and wakes each seat that is due.
+    fn call(state: &mut State<Numbers>, random: &mut Random) {
+        for _ in 0..random.below(20) {
+            let seat = random.below(SEATS);
+            match random.below(4) {
+                0 | 1 => receive(state, seat, false),
+                2 => state.withdraw(seat),
+                _ => {
+                    Numbers::give(Give::Send, &mut state.handle, seat, MAILBOX, 5);
+                }
+            }
+            while let Some(due) = state.next_due() {
+                receive(state, due, true);
+            }
+        }
+    }
+
+    #[test]
+    fn parked_seats_are_counted() {
+        let mut random = Random(1);
+        let mut most = 0;
+        for _ in 0..1_000 {
+            let mut state = room();
+            call(&mut state, &mut random);
+            let parked = state.parked;
+            let is_parked =
+                |seat: &u64| raw::seryugo_withdraw(&mut state.handle, *seat) == code::DONE;
+            assert_eq!(parked, (0..SEATS).filter(is_parked).count() as u64);
+            most = most.max(parked);
+        }
+        assert_eq!(most, SEATS - 1);
+    }
+}
