@@ -69,7 +69,7 @@ enum seryugo_code {
     /* The handle leads to something that takes no such call, such as a lane in place of a room. Nothing was changed. */
     SERYUGO_WRONG_HANDLE = 15,
     /* Nothing was changed. A limit isn't from 1 to 2^32, a capacity isn't from 1 to 1024, a message has more than 2^32 - 1 bytes,
-     * a null pointer has a length, or a kind in an entry is none. */
+     * a null pointer has a length, or a kind in an entry or a number for what is wanted is none. */
     SERYUGO_OUT_OF_BOUNDS = 16,
     /* A checked journal is unlawful. */
     SERYUGO_UNLAWFUL = 17,
@@ -161,12 +161,23 @@ uint32_t seryugo_version(void);
 
 /* ---- rooms and seats ---- */
 
-/* Opens a room of numbers with no objects and no seats. Its journal takes `limit` entries between two cuts. If the call fails
- * with SERYUGO_OUT_OF_BOUNDS or SERYUGO_NO_MEMORY, *room is as it was. */
-uint32_t seryugo_room_open(uint64_t limit, struct seryugo *room);
+/* Which messages a room, a checker or a reading has. */
+enum seryugo_messages { SERYUGO_NUMBERS = 0, SERYUGO_BYTES = 1 };
 
-/* Opens a room of bytes. It differs from one of numbers only in the calls that have a message. */
-uint32_t seryugo_bytes_room_open(uint64_t limit, struct seryugo *room);
+/* Opens a room of these messages with no objects and no seats. Its journal takes `limit` entries between two cuts. A room of bytes
+ * differs from one of numbers only in the calls that have a message. If the call fails with SERYUGO_OUT_OF_BOUNDS or SERYUGO_NO_MEMORY,
+ * *room is as it was. */
+uint32_t seryugo_open_room(uint32_t messages, uint64_t limit, struct seryugo *room);
+
+static inline uint32_t seryugo_room_open(uint64_t limit, struct seryugo *room)
+{
+    return seryugo_open_room(SERYUGO_NUMBERS, limit, room);
+}
+
+static inline uint32_t seryugo_bytes_room_open(uint64_t limit, struct seryugo *room)
+{
+    return seryugo_open_room(SERYUGO_BYTES, limit, room);
+}
 
 /* Closes a room, a lane, a feed, a checker, a reading or a taken journal, and frees its memory. A room doesn't close its lanes,
  * its feeds and its taken journals. Close each of these handles too, before the room or after it. */
@@ -429,12 +440,20 @@ uint32_t seryugo_feed_end(struct seryugo *room, uint64_t feed_number);
 uint32_t seryugo_reserve(struct seryugo *room, size_t entries);
 
 /* Cuts the journal: drops its entries, so that it takes as many again. Objects stay, and names and positions go on counting. What
- * was reserved stays reserved. The only refusal is SERYUGO_BUSY: a lane or a feed is open. */
-uint32_t seryugo_cut(struct seryugo *room);
+ * was reserved stays reserved. If is_open, lanes and feeds may be open, and the call is never refused: their rings go on, and if you
+ * close a lane later, seryugo_lane_close counts what was cut away too. Else the only refusal is SERYUGO_BUSY: a lane or a feed is
+ * open. */
+uint32_t seryugo_cut_by(struct seryugo *room, bool is_open);
 
-/* Cuts the journal while lanes and feeds are open, and is never refused. Their rings go on. If you close a lane later,
- * seryugo_lane_close counts what was cut away too. What was reserved stays reserved. */
-uint32_t seryugo_cut_open(struct seryugo *room);
+static inline uint32_t seryugo_cut(struct seryugo *room)
+{
+    return seryugo_cut_by(room, false);
+}
+
+static inline uint32_t seryugo_cut_open(struct seryugo *room)
+{
+    return seryugo_cut_by(room, true);
+}
 
 enum seryugo_maker_kind { SERYUGO_SEAT = 0, SERYUGO_LANE = 1, SERYUGO_FEED = 2 };
 
@@ -512,13 +531,35 @@ struct seryugo_bytes_entry {
     struct seryugo owner;
 };
 
-/* Writes the journal's entry at this position, counted from 0 since the room was opened. SERYUGO_NO_SUCH: there is none yet, or it
- * was cut away. */
-uint32_t seryugo_entry(const struct seryugo *room, uint64_t at, struct seryugo_entry *entry);
+/* Where an entry is looked for: in a room's journal, or in a taken one. */
+enum seryugo_entry_source { SERYUGO_OF_ROOM = 0, SERYUGO_OF_JOURNAL = 1 };
 
-/* The same of a room of bytes: hands the entry over. Free it by seryugo_bytes_entry_free. SERYUGO_NO_MEMORY: nothing is
- * written. */
-uint32_t seryugo_bytes_entry(const struct seryugo *room, uint64_t at, struct seryugo_bytes_entry *entry);
+/* Writes an entry: of a room the one at this position, counted from 0 since the room was opened, and of a taken journal the one at this
+ * place, from 0. SERYUGO_NO_SUCH: there is none (yet), or it was cut away. SERYUGO_OUT_OF_BOUNDS: there is no such source. */
+uint32_t seryugo_entry_at(const struct seryugo *handle, uint32_t source, uint64_t at, struct seryugo_entry *entry);
+
+/* Hands over an entry of bytes. Free it by seryugo_bytes_entry_free. SERYUGO_NO_MEMORY: nothing is written. */
+uint32_t seryugo_bytes_entry_at(const struct seryugo *handle, uint32_t source, uint64_t at, struct seryugo_bytes_entry *entry);
+
+static inline uint32_t seryugo_entry(const struct seryugo *room, uint64_t at, struct seryugo_entry *entry)
+{
+    return seryugo_entry_at(room, SERYUGO_OF_ROOM, at, entry);
+}
+
+static inline uint32_t seryugo_bytes_entry(const struct seryugo *room, uint64_t at, struct seryugo_bytes_entry *entry)
+{
+    return seryugo_bytes_entry_at(room, SERYUGO_OF_ROOM, at, entry);
+}
+
+static inline uint32_t seryugo_taken_entry(const struct seryugo *journal, uint64_t place, struct seryugo_entry *entry)
+{
+    return seryugo_entry_at(journal, SERYUGO_OF_JOURNAL, place, entry);
+}
+
+static inline uint32_t seryugo_bytes_taken_entry(const struct seryugo *journal, uint64_t place, struct seryugo_bytes_entry *entry)
+{
+    return seryugo_bytes_entry_at(journal, SERYUGO_OF_JOURNAL, place, entry);
+}
 
 /* Frees an entry that was handed over, with its messages. Call it once for each. */
 static inline void seryugo_bytes_entry_free(struct seryugo_bytes_entry entry)
@@ -526,37 +567,48 @@ static inline void seryugo_bytes_entry_free(struct seryugo_bytes_entry entry)
     seryugo_close(entry.owner);
 }
 
-/* Cuts the journal, and writes a handle to its entries, oldest first, and how many they are. Unlike seryugo_cut it takes what was
- * reserved along with them: reserve again. SERYUGO_NO_MEMORY or SERYUGO_BUSY: nothing is cut, and *journal is as it was. Use the
- * handle without the room's lock, and close it like any other. */
-uint32_t seryugo_take_journal(struct seryugo *room, struct seryugo *journal, uint64_t *count);
+/* What is taken out of a room. */
+enum seryugo_taking {
+    /* The entries since the last cut, oldest first. The journal is cut. Unlike seryugo_cut this takes what was reserved along with them:
+     * reserve again. SERYUGO_NO_MEMORY or SERYUGO_BUSY: nothing is cut. */
+    SERYUGO_TAKE_CUT = 0,
+    /* The same while lanes and feeds are open, as seryugo_cut_open. The only refusal is SERYUGO_NO_MEMORY: nothing is cut. */
+    SERYUGO_TAKE_CUT_OPEN = 1,
+    /* A short journal. It leaves what all calls of the room leave: the same objects, with the same messages still to be received.
+     * Whatever may follow these calls may follow it, with the same replies. The room's last seat makes all its entries, even if it has
+     * made none so far. (seryugo_reading_compact takes the last seat that has made one.) The room stays as it was. It takes time for
+     * each object and each message that is kept, under the room's lock. SERYUGO_NO_MEMORY, or SERYUGO_JOURNAL_FULL for more than 2^32
+     * entries. */
+    SERYUGO_TAKE_SHORT = 2,
+    /* The same, and the room's journal is cut as by seryugo_cut_open. So the short journal stands for all entries before. Its text begins
+     * at position 0. The text of a later journal follows it from position seryugo_cut_at - cut + *count, where `cut` is what
+     * seryugo_cut_at wrote after this call, under the same lock. SERYUGO_NO_MEMORY: nothing is cut. */
+    SERYUGO_TAKE_SHORT_AND_CUT = 3
+};
 
-/* The same while lanes and feeds are open, as seryugo_cut_open. The only refusal is SERYUGO_NO_MEMORY: nothing is cut, and
- * *journal is as it was. */
-uint32_t seryugo_take_journal_open(struct seryugo *room, struct seryugo *journal, uint64_t *count);
+/* Writes a handle to what is taken, and how many entries it has. If it is refused, *journal and *count are as they were.
+ * SERYUGO_OUT_OF_BOUNDS: there is no such taking. Use the handle without the room's lock, and close it like any other. */
+uint32_t seryugo_take_by(struct seryugo *room, uint32_t taking, struct seryugo *journal, uint64_t *count);
 
-/*
- * Writes a handle to a short journal, and how many entries it has. It leaves what all calls of the room leave: the same objects, with
- * the same messages still to be received. Whatever may follow these calls may follow it, with the same replies. The room's last seat
- * makes all its entries, even if it has made none so far. (seryugo_reading_compact takes the last seat that has made one.) The room stays
- * as it was. It takes time for each object and each message that is kept, under the room's lock.
- *
- * SERYUGO_NO_MEMORY, or SERYUGO_JOURNAL_FULL for more than 2^32 entries: *journal and *count are as they were.
- */
-uint32_t seryugo_compact(struct seryugo *room, struct seryugo *journal, uint64_t *count);
+static inline uint32_t seryugo_take_journal(struct seryugo *room, struct seryugo *journal, uint64_t *count)
+{
+    return seryugo_take_by(room, SERYUGO_TAKE_CUT, journal, count);
+}
 
-/*
- * The same, and cuts the room's journal as seryugo_cut_open does. So the short journal stands for all entries before. Its text begins
- * at position 0. The text of a later journal follows it from position seryugo_cut_at - cut + *count, where `cut` is what
- * seryugo_cut_at wrote after this call, under the same lock. SERYUGO_NO_MEMORY: nothing is cut.
- */
-uint32_t seryugo_compact_and_cut(struct seryugo *room, struct seryugo *journal, uint64_t *count);
+static inline uint32_t seryugo_take_journal_open(struct seryugo *room, struct seryugo *journal, uint64_t *count)
+{
+    return seryugo_take_by(room, SERYUGO_TAKE_CUT_OPEN, journal, count);
+}
 
-/* Writes the entry at this place, from 0, of a taken journal. SERYUGO_NO_SUCH: the place is after the last entry. */
-uint32_t seryugo_taken_entry(const struct seryugo *journal, uint64_t place, struct seryugo_entry *entry);
+static inline uint32_t seryugo_compact(struct seryugo *room, struct seryugo *journal, uint64_t *count)
+{
+    return seryugo_take_by(room, SERYUGO_TAKE_SHORT, journal, count);
+}
 
-/* The same of a room of bytes: hands the entry over. */
-uint32_t seryugo_bytes_taken_entry(const struct seryugo *journal, uint64_t place, struct seryugo_bytes_entry *entry);
+static inline uint32_t seryugo_compact_and_cut(struct seryugo *room, struct seryugo *journal, uint64_t *count)
+{
+    return seryugo_take_by(room, SERYUGO_TAKE_SHORT_AND_CUT, journal, count);
+}
 
 /*
  * Hands over the entries of a taken journal, of numbers or of bytes, as text: one piece, whose first entry is at position `from`.
@@ -598,9 +650,18 @@ uint32_t seryugo_sealed_text(struct seryugo *journal, uint64_t from, struct sery
  * too. SERYUGO_NO_MEMORY: some of the entries were seen. seryugo_checker_verdict says how many in all: go on after them.
  */
 
-/* Opens a checker of journals of numbers, or of bytes. SERYUGO_NO_MEMORY: *checker is as it was. */
-uint32_t seryugo_checker_open(struct seryugo *checker);
-uint32_t seryugo_bytes_checker_open(struct seryugo *checker);
+/* Opens a checker of journals with these messages. SERYUGO_NO_MEMORY: *checker is as it was. */
+uint32_t seryugo_open_checker(uint32_t messages, struct seryugo *checker);
+
+static inline uint32_t seryugo_checker_open(struct seryugo *checker)
+{
+    return seryugo_open_checker(SERYUGO_NUMBERS, checker);
+}
+
+static inline uint32_t seryugo_bytes_checker_open(struct seryugo *checker)
+{
+    return seryugo_open_checker(SERYUGO_BYTES, checker);
+}
 
 /* Checks one entry of numbers, as seryugo_entry and seryugo_taken_entry write it. It doesn't read what the entry's kinds don't
  * have. SERYUGO_OUT_OF_BOUNDS: one of the kinds is none, and nothing is changed. */
@@ -630,8 +691,17 @@ uint32_t seryugo_checker_verdict(const struct seryugo *checker, uint64_t *count)
 /* Opens a reading of a journal of numbers, whose first line is `journal 1` or begins with `journal 3`, or of one of bytes, which has
  * 2 or 4 there. A journal of the other kind, or of a version to come, has a fault on its first line. SERYUGO_NO_MEMORY: *reading is as
  * it was. */
-uint32_t seryugo_reading_open(struct seryugo *reading);
-uint32_t seryugo_bytes_reading_open(struct seryugo *reading);
+uint32_t seryugo_open_reading(uint32_t messages, struct seryugo *reading);
+
+static inline uint32_t seryugo_reading_open(struct seryugo *reading)
+{
+    return seryugo_open_reading(SERYUGO_NUMBERS, reading);
+}
+
+static inline uint32_t seryugo_bytes_reading_open(struct seryugo *reading)
+{
+    return seryugo_open_reading(SERYUGO_BYTES, reading);
+}
 
 /* Reads the next part of the text. The buffer stays yours.
  *
@@ -641,15 +711,35 @@ uint32_t seryugo_bytes_reading_open(struct seryugo *reading);
  * pointer is null and the length isn't 0. Then nothing is changed. */
 static inline uint32_t seryugo_reading_take(struct seryugo *reading, const void *at, size_t length);
 
-/* Writes how many entries were read and are lawful. */
-uint32_t seryugo_reading_entries(const struct seryugo *reading, uint64_t *count);
+enum seryugo_reading_wanted {
+    /* How many entries were read and are lawful. */
+    SERYUGO_READING_ENTRIES = 0,
+    /* How many lines were read to their ends, modulo 2^64. */
+    SERYUGO_READING_LINES = 1,
+    /* Ask this once the text is at its end. It writes nothing. SERYUGO_DONE: the last piece has its end. SERYUGO_TORN: it has none, or
+     * the text is empty. */
+    SERYUGO_READING_END = 2
+};
 
-/* Writes how many lines were read to their ends, modulo 2^64. */
-uint32_t seryugo_reading_lines(const struct seryugo *reading, uint64_t *lines);
+/* Writes what is wanted of a reading, which stays as it was. SERYUGO_OUT_OF_BOUNDS: nothing has this number. */
+uint32_t seryugo_reading_state(const struct seryugo *reading, uint32_t wanted, uint64_t *number);
 
-/* Ask this once the text is at its end. It changes nothing. SERYUGO_DONE: the last piece has its end. SERYUGO_TORN: it has none,
- * or the text is empty. */
-uint32_t seryugo_reading_end(const struct seryugo *reading);
+static inline uint32_t seryugo_reading_entries(const struct seryugo *reading, uint64_t *count)
+{
+    return seryugo_reading_state(reading, SERYUGO_READING_ENTRIES, count);
+}
+
+static inline uint32_t seryugo_reading_lines(const struct seryugo *reading, uint64_t *lines)
+{
+    return seryugo_reading_state(reading, SERYUGO_READING_LINES, lines);
+}
+
+static inline uint32_t seryugo_reading_end(const struct seryugo *reading)
+{
+    uint64_t unwritten = 0;
+
+    return seryugo_reading_state(reading, SERYUGO_READING_END, &unwritten);
+}
 
 /* Writes the sum of the last piece that was read. If the text is torn, and its last piece has no end yet, writes the sum of that
  * piece's whole lines: end it by a line `end N` with this sum, in 64 hex digits. SERYUGO_NOTHING: the text has no sums, nothing was read,
@@ -704,40 +794,103 @@ enum seryugo_object_kind {
     SERYUGO_MVAR = 4
 };
 
-/* An object's kind. */
-uint32_t seryugo_kind(const struct seryugo *room, uint64_t object, uint64_t *kind);
+/* What is read of an object, or of the journal. */
+enum seryugo_reader {
+    /* How many messages were sent to a mailbox, or multicast on a channel. */
+    SERYUGO_READ_SENT = 0,
+    /* How many were received from a mailbox or a port. */
+    SERYUGO_READ_GOT = 1,
+    /* How many wait in a mailbox, or are owed to an open port. */
+    SERYUGO_READ_OWED = 2,
+    /* How many messages of a mailbox or a channel are kept, and the place of the first of these. */
+    SERYUGO_READ_KEPT = 3,
+    SERYUGO_READ_FIRST = 4,
+    /* An object's kind. */
+    SERYUGO_READ_KIND = 5,
+    /* A port's channel; and how many messages were multicast on that channel before the first that the port receives. */
+    SERYUGO_READ_CHANNEL = 6,
+    SERYUGO_READ_START = 7,
+    /* 1 if a port is open, and else 0. */
+    SERYUGO_READ_IS_OPEN = 8,
+    /* How many calls were accepted since the room was opened; how many of these entries were cut away; and how many entries the journal
+     * takes between two cuts. These take no object: any number will do. */
+    SERYUGO_READ_ENTRIES = 9,
+    SERYUGO_READ_CUT_AT = 10,
+    SERYUGO_READ_LIMIT = 11
+};
 
-/* A port's channel; and how many messages were multicast on that channel before the first that the port receives. */
-uint32_t seryugo_channel_of(const struct seryugo *room, uint64_t port, uint64_t *channel);
-uint32_t seryugo_start_of(const struct seryugo *room, uint64_t port, uint64_t *start);
+/* Writes what this reads. SERYUGO_OUT_OF_BOUNDS: no reader has this number. */
+uint32_t seryugo_read(const struct seryugo *room, uint32_t reader, uint64_t object, uint64_t *number);
 
-/* How many messages were sent to a mailbox, or multicast on a channel. */
-uint32_t seryugo_sent(const struct seryugo *room, uint64_t object, uint64_t *count);
+static inline uint32_t seryugo_sent(const struct seryugo *room, uint64_t object, uint64_t *count)
+{
+    return seryugo_read(room, SERYUGO_READ_SENT, object, count);
+}
 
-/* How many were received from a mailbox or a port. */
-uint32_t seryugo_got(const struct seryugo *room, uint64_t object, uint64_t *count);
+static inline uint32_t seryugo_got(const struct seryugo *room, uint64_t object, uint64_t *count)
+{
+    return seryugo_read(room, SERYUGO_READ_GOT, object, count);
+}
 
-/* How many wait in a mailbox, or are owed to an open port. */
-uint32_t seryugo_owed(const struct seryugo *room, uint64_t object, uint64_t *count);
+static inline uint32_t seryugo_owed(const struct seryugo *room, uint64_t object, uint64_t *count)
+{
+    return seryugo_read(room, SERYUGO_READ_OWED, object, count);
+}
 
-/* How many messages of a mailbox or a channel are kept, and the place of the first of these. */
-uint32_t seryugo_kept(const struct seryugo *room, uint64_t object, uint64_t *count);
-uint32_t seryugo_first(const struct seryugo *room, uint64_t object, uint64_t *count);
+static inline uint32_t seryugo_kept(const struct seryugo *room, uint64_t object, uint64_t *count)
+{
+    return seryugo_read(room, SERYUGO_READ_KEPT, object, count);
+}
+
+static inline uint32_t seryugo_first(const struct seryugo *room, uint64_t object, uint64_t *count)
+{
+    return seryugo_read(room, SERYUGO_READ_FIRST, object, count);
+}
+
+static inline uint32_t seryugo_kind(const struct seryugo *room, uint64_t object, uint64_t *kind)
+{
+    return seryugo_read(room, SERYUGO_READ_KIND, object, kind);
+}
+
+static inline uint32_t seryugo_channel_of(const struct seryugo *room, uint64_t port, uint64_t *channel)
+{
+    return seryugo_read(room, SERYUGO_READ_CHANNEL, port, channel);
+}
+
+static inline uint32_t seryugo_start_of(const struct seryugo *room, uint64_t port, uint64_t *start)
+{
+    return seryugo_read(room, SERYUGO_READ_START, port, start);
+}
+
+static inline uint32_t seryugo_entries(const struct seryugo *room, uint64_t *count)
+{
+    return seryugo_read(room, SERYUGO_READ_ENTRIES, 0, count);
+}
+
+static inline uint32_t seryugo_cut_at(const struct seryugo *room, uint64_t *count)
+{
+    return seryugo_read(room, SERYUGO_READ_CUT_AT, 0, count);
+}
+
+static inline uint32_t seryugo_limit(const struct seryugo *room, uint64_t *count)
+{
+    return seryugo_read(room, SERYUGO_READ_LIMIT, 0, count);
+}
+
+/* Returns SERYUGO_DONE if a port is open, and else SERYUGO_CLOSED. */
+static inline uint32_t seryugo_is_open(const struct seryugo *room, uint64_t port)
+{
+    uint64_t is_open = 1;
+    uint32_t code = seryugo_read(room, SERYUGO_READ_IS_OPEN, port, &is_open);
+
+    return is_open != 0 ? code : (uint32_t)SERYUGO_CLOSED;
+}
 
 /* The message that a variable holds. SERYUGO_NOTHING: it is empty. */
 uint32_t seryugo_held(const struct seryugo *room, uint64_t variable, uint64_t *message);
 
 /* The same of a room of bytes: hands the message over. */
 uint32_t seryugo_bytes_held(const struct seryugo *room, uint64_t variable, struct seryugo_bytes *message);
-
-/* Returns SERYUGO_DONE if a port is open, and else SERYUGO_CLOSED. */
-uint32_t seryugo_is_open(const struct seryugo *room, uint64_t port);
-
-/* How many calls were accepted since the room was opened; how many of these entries were cut away; and how many entries the
- * journal takes between two cuts. */
-uint32_t seryugo_entries(const struct seryugo *room, uint64_t *count);
-uint32_t seryugo_cut_at(const struct seryugo *room, uint64_t *count);
-uint32_t seryugo_limit(const struct seryugo *room, uint64_t *count);
 
 /* Returns SERYUGO_DONE if the journal takes more entries, and else SERYUGO_JOURNAL_FULL. */
 uint32_t seryugo_is_full(const struct seryugo *room);
@@ -754,7 +907,7 @@ uint32_t seryugo_is_full(const struct seryugo *room);
  *
  *     do {
  *         code = seryugo_send(&room, seat, mailbox, message);
- *     } while (seryugo_makes_room(&keeper, &room, &code));
+ *     } while (seryugo_cut_for_retry(&keeper, &room, &code));
  *
  * Lanes and feeds may be open. A parked seat that is refused with SERYUGO_JOURNAL_FULL is free: its call is made again without is_again.
  *
@@ -837,13 +990,19 @@ static inline uint32_t seryugo_shorten(struct seryugo_keeper *keeper, struct ser
 
 /* Says whether a call that returned this code is to be made again: the journal was full, and has room now. If it has none, *code is what
  * seryugo_keep returned. */
-static inline bool seryugo_makes_room(struct seryugo_keeper *keeper, struct seryugo *room, uint32_t *code)
+static inline bool seryugo_cut_for_retry(struct seryugo_keeper *keeper, struct seryugo *room, uint32_t *code)
 {
     if (*code != SERYUGO_JOURNAL_FULL) {
         return false;
     }
     *code = seryugo_keep(keeper, room);
     return *code == SERYUGO_DONE;
+}
+
+/* The old name of seryugo_cut_for_retry. */
+static inline bool seryugo_makes_room(struct seryugo_keeper *keeper, struct seryugo *room, uint32_t *code)
+{
+    return seryugo_cut_for_retry(keeper, room, code);
 }
 
 /*

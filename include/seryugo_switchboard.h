@@ -210,8 +210,8 @@ static inline uint32_t seryugo_switchboard_keep(struct seryugo_switchboard *boar
 
 /* ---- seats ---- */
 
-/* Sees that a seat of this number has a place in the list. */
-static inline bool seryugo_has_place(struct seryugo_switchboard *board, uint64_t number)
+/* Grows the list to hold a seat of this number. */
+static inline bool seryugo_grow_seats(struct seryugo_switchboard *board, uint64_t number)
 {
     size_t needed;
     size_t capacity = board->capacity == 0 ? 8 : 2 * board->capacity;
@@ -260,7 +260,7 @@ static inline uint32_t seryugo_seat_open(struct seryugo_switchboard *board, stru
     }
     seryugo_switchboard_lock(board);
     code = seryugo_new_seat(&board->room, &seat->number);
-    if (code == SERYUGO_DONE && !seryugo_has_place(board, seat->number)) {
+    if (code == SERYUGO_DONE && !seryugo_grow_seats(board, seat->number)) {
         (void)seryugo_leave(&board->room, seat->number);
         code = SERYUGO_NO_MEMORY;
     }
@@ -331,7 +331,7 @@ static inline void seryugo_take_back(void *given)
 }
 
 /* Sleeps until the seat's thread is signalled. Returns false at the deadline. */
-static inline bool seryugo_sleeps(struct seryugo_seat *seat, const struct timespec *deadline)
+static inline bool seryugo_wait_once(struct seryugo_seat *seat, const struct timespec *deadline)
 {
     /* In C pthread_cleanup_push may be a setjmp. */
     volatile int failure = 0;
@@ -347,7 +347,7 @@ static inline bool seryugo_sleeps(struct seryugo_seat *seat, const struct timesp
 }
 
 /* Waits until the seat is due, and returns true; or returns false at the deadline. */
-static inline bool seryugo_waits(struct seryugo_turn *turn)
+static inline bool seryugo_wait_until_due(struct seryugo_turn *turn)
 {
     struct seryugo_seat *seat = turn->seat;
     bool has_time = true;
@@ -356,13 +356,13 @@ static inline bool seryugo_waits(struct seryugo_turn *turn)
         if (!has_time) {
             return false;
         }
-        has_time = seryugo_sleeps(seat, turn->deadline);
+        has_time = seryugo_wait_once(seat, turn->deadline);
     }
     return true;
 }
 
 /* Makes room in a full journal, if that is wanted. A sink that writes would be a point at which its thread may be cancelled. */
-static inline bool seryugo_has_room(struct seryugo_turn *turn)
+static inline bool seryugo_cut_if_full(struct seryugo_turn *turn)
 {
     struct seryugo_switchboard *board = turn->seat->board;
     int state = 0;
@@ -372,25 +372,25 @@ static inline bool seryugo_has_room(struct seryugo_turn *turn)
         return false;
     }
     pthread_setcancelstate(PTHREAD_CANCEL_DISABLE, &state);
-    has_room = seryugo_makes_room(&board->keeper, &board->room, &turn->code);
+    has_room = seryugo_cut_for_retry(&board->keeper, &board->room, &turn->code);
     pthread_setcancelstate(state, &state);
     return has_room;
 }
 
 /* Returns true if the call has to be made again: the journal was full and has room now, or the call had to wait. Else it unlocks the
  * switchboard. */
-static inline bool seryugo_goes_on(struct seryugo_turn *turn)
+static inline bool seryugo_finish_or_repeat(struct seryugo_turn *turn)
 {
     struct seryugo_switchboard *board = turn->seat->board;
     bool was_again = turn->is_again;
 
     turn->is_again = false;
-    if (seryugo_has_room(turn)) {
+    if (seryugo_cut_if_full(turn)) {
         return true;
     }
     if (turn->code == SERYUGO_PARKED) {
         (void)seryugo_wakes_next(board);
-        if (seryugo_waits(turn)) {
+        if (seryugo_wait_until_due(turn)) {
             turn->is_again = true;
             return true;
         }
@@ -411,7 +411,7 @@ static inline bool seryugo_goes_on(struct seryugo_turn *turn)
                                                                   \
     do {                                                          \
         turn.code = (call);                                       \
-    } while (seryugo_goes_on(&turn));                             \
+    } while (seryugo_finish_or_repeat(&turn));                             \
     return turn.code
 
 /*

@@ -71,6 +71,27 @@ static void try_an_end_of_another_room(void)
     free_all();
 }
 
+/* A number that names nothing is refused, and nothing is written. */
+static void try_unknown_numbers(void)
+{
+    struct seryugo other;
+    struct seryugo_entry entry;
+    struct seryugo_bytes_entry bytes_entry;
+    uint64_t count = 77;
+
+    RETURNS(OUT_OF_BOUNDS, seryugo_open_room(2, 100, &other));
+    RETURNS(OUT_OF_BOUNDS, seryugo_open_checker(2, &other));
+    RETURNS(OUT_OF_BOUNDS, seryugo_open_reading(2, &other));
+    RETURNS(OUT_OF_BOUNDS, seryugo_read(&room, SERYUGO_READ_LIMIT + 1, 0, &count));
+    RETURNS(OUT_OF_BOUNDS, seryugo_read(&room, UINT32_MAX, 0, &count));
+    RETURNS(OUT_OF_BOUNDS, seryugo_entry_at(&room, SERYUGO_OF_JOURNAL + 1, 0, &entry));
+    RETURNS(OUT_OF_BOUNDS, seryugo_bytes_entry_at(&room, SERYUGO_OF_JOURNAL + 1, 0, &bytes_entry));
+    RETURNS(OUT_OF_BOUNDS, seryugo_take_by(&room, SERYUGO_TAKE_SHORT_AND_CUT + 1, &other, &count));
+    RETURNS(OUT_OF_BOUNDS, seryugo_reading_state(&room, SERYUGO_READING_END + 1, &count));
+    IS(77, count);
+    RETURNS(WRONG_HANDLE, seryugo_reading_end(&room));
+}
+
 static void try_rooms(uint64_t *one, uint64_t *two)
 {
     RETURNS(OUT_OF_BOUNDS, seryugo_room_open(0, &room));
@@ -82,6 +103,7 @@ static void try_rooms(uint64_t *one, uint64_t *two)
     IS(0, *one);
     IS(1, *two);
     RETURNS(GONE, seryugo_leave(&room, 2));
+    try_unknown_numbers();
 }
 
 static void try_mailboxes(uint64_t one, uint64_t two)

@@ -66,7 +66,7 @@ static uint32_t send(uint64_t message)
 
     do {
         code = seryugo_send(&room, 0, 0, message);
-    } while (seryugo_makes_room(&keeper, &room, &code));
+    } while (seryugo_cut_for_retry(&keeper, &room, &code));
     return code;
 }
 

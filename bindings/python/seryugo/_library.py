@@ -18,6 +18,7 @@ from ctypes import (
     c_uint64,
     c_void_p,
 )
+from functools import partial
 from typing import Any, Callable, Optional, cast
 
 from . import _version
@@ -167,6 +168,11 @@ def _long(name: str, *arguments: Any) -> Callable[..., int]:
     return named
 
 
+def _of(call: Callable[..., int], wanted: int, *others: int) -> Callable[..., int]:
+    """Name a call on a handle for what has this number in the header."""
+    return lambda handle, *arguments: call(handle, wanted, *others, *arguments)
+
+
 def _freeing(library: ctypes.CDLL, name: str, argument: Any) -> Callable[[Any], None]:
     function = _function(library, name)
     function.argtypes = (argument,)
@@ -182,8 +188,11 @@ _version.compare(version(), _PATH)
 _HANDLE = POINTER(Handle)
 _NUMBER = POINTER(c_uint64)
 
+# Which messages the library is asked for.
+_BYTES = 1
+
 # Rooms, and the seats that wait.
-room_open = _short("bytes_room_open", c_uint64, _HANDLE)
+room_open = partial(_short("open_room", c_uint32, c_uint64, _HANDLE), _BYTES)
 new_seat = _short("new_seat", _HANDLE, _NUMBER)
 withdraw = _short("withdraw", _HANDLE, c_uint64)
 next_due = quick("next_due")
@@ -193,44 +202,42 @@ close = _freeing(_FREE, "close", Handle)
 bytes_release = _freeing(_HELD, "bytes_release", Share)
 
 # What an object has.
-sent = _short("sent", _HANDLE, c_uint64, _NUMBER)
-got = _short("got", _HANDLE, c_uint64, _NUMBER)
-owed = _short("owed", _HANDLE, c_uint64, _NUMBER)
-kept = _short("kept", _HANDLE, c_uint64, _NUMBER)
+_read = _short("read", _HANDLE, c_uint32, c_uint64, _NUMBER)
+sent, got, owed, kept, is_open = (_of(_read, reader) for reader in (0, 1, 2, 3, 8))
+kind = _of(_read, 5)
 held = _short("bytes_held", _HANDLE, c_uint64, POINTER(Bytes))
-is_open = _short("is_open", _HANDLE, c_uint64)
-kind = _short("kind", _HANDLE, c_uint64, _NUMBER)
 
 # The journal.
-entries = _short("entries", _HANDLE, _NUMBER)
-cut_at = _short("cut_at", _HANDLE, _NUMBER)
-limit = _short("limit", _HANDLE, _NUMBER)
+entries, cut_at, limit = (_of(_read, reader, 0) for reader in (9, 10, 11))
 is_full = _short("is_full", _HANDLE)
-entry = _short("bytes_entry", _HANDLE, c_uint64, POINTER(Entry))
+_entry_at = _short("bytes_entry_at", _HANDLE, c_uint32, c_uint64, POINTER(Entry))
+entry, taken_entry = _of(_entry_at, 0), _of(_entry_at, 1)
 reserve = _long("reserve", _HANDLE, c_size_t)
-cut = _long("cut", _HANDLE)
-cut_open = _long("cut_open", _HANDLE)
-take_journal = _long("take_journal", _HANDLE, _HANDLE, _NUMBER)
-take_journal_open = _long("take_journal_open", _HANDLE, _HANDLE, _NUMBER)
-compact = _long("compact", _HANDLE, _HANDLE, _NUMBER)
-compact_and_cut = _long("compact_and_cut", _HANDLE, _HANDLE, _NUMBER)
+_cut_by = _long("cut_by", _HANDLE, c_bool)
+cut, cut_open = _of(_cut_by, False), _of(_cut_by, True)
+_take_by = _long("take_by", _HANDLE, c_uint32, _HANDLE, _NUMBER)
+take_journal, take_journal_open = _of(_take_by, 0), _of(_take_by, 1)
+compact, compact_and_cut = _of(_take_by, 2), _of(_take_by, 3)
 _close_entry = _freeing(_HELD, "close", Handle)
-taken_entry = _short("bytes_taken_entry", _HANDLE, c_uint64, POINTER(Entry))
-checker_open = _short("bytes_checker_open", _HANDLE)
+checker_open = partial(_short("open_checker", c_uint32, _HANDLE), _BYTES)
 checker_feed_journal = _long("checker_feed_journal", _HANDLE, _HANDLE, c_uint64)
 checker_verdict = _short("checker_verdict", _HANDLE, _NUMBER)
 
 # A journal as text.
 journal_text = _long("journal_text", _HANDLE, c_uint64, POINTER(Bytes))
 sealed_text = _long("sealed_text", _HANDLE, c_uint64, POINTER(Sum), POINTER(Bytes))
-reading_open = _short("bytes_reading_open", _HANDLE)
+reading_open = partial(_short("open_reading", c_uint32, _HANDLE), _BYTES)
 reading_take = _long("reading_take_from", _HANDLE, c_char_p, c_size_t)
-reading_entries = _short("reading_entries", _HANDLE, _NUMBER)
-reading_lines = _short("reading_lines", _HANDLE, _NUMBER)
-reading_end = _short("reading_end", _HANDLE)
+_reading_state = _short("reading_state", _HANDLE, c_uint32, _NUMBER)
+reading_entries, reading_lines = _of(_reading_state, 0), _of(_reading_state, 1)
 reading_sum = _short("reading_sum", _HANDLE, POINTER(Sum))
 room_restore = _long("room_restore", _HANDLE, c_uint64, _HANDLE)
 reading_compact = _long("reading_compact", _HANDLE, _HANDLE, _NUMBER)
+
+
+def reading_end(reading: Any) -> int:
+    """Return the code that says how the text ends that was read."""
+    return _reading_state(reading, 2, byref(c_uint64()))
 
 
 def taken_over(message: Bytes) -> bytes:

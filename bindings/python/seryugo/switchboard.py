@@ -10,8 +10,8 @@ from typing import Any, Callable, Iterable, Optional, Type, TypeVar, Union
 from . import _library as library
 from . import errors
 from ._keeping import Keeper, Sink
+from ._library import DONE, NOTHING
 from ._prefix import ValidPrefix
-from ._library import CLOSED, DONE, NOTHING
 from ._messages import Codec, T, codec_of
 from ._restoring import restored
 from ._room import Room
@@ -311,10 +311,7 @@ class Switchboard(Unpicklable):
 
     def is_open(self, port: Port[T]) -> bool:
         """Return whether a port is open."""
-        code = self._room.do(library.is_open, self._name(port))
-        if code not in (DONE, CLOSED):
-            raise errors.of_code(code)
-        return code == DONE
+        return self._room.count(library.is_open, self._name(port)) != 0
 
     def _keep_by(self, sink: Optional[Sink]) -> None:
         if sink is not None:

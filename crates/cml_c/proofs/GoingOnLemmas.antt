@@ -6,22 +6,22 @@ use Rattle.std_alloc.specs.Box.{with_value}
 use Rattle.cml_board.specs.{RestoredShown}
 use Rattle.cml_journal.specs.{Halt, Progress, IsSoFar, IsRestored}
 use Rattle.cml_c.specs.declared.code.Code.TheVariants.{Unlawful}
-use Rattle.cml_c.specs.{Slot, Kept, Resource, Stocked, number, IsLimit, Writes, IsRoomOn, OpensOn, RestoresBy, left_stopped, told_stopped}
-use Rattle.cml_c.specs.declared.kept.Resource.TheVariants.{Room, Reading, Spent}
+use Rattle.cml_c.specs.{Slot, Owned, Resource, RoomWithSpare, number, IsLimit, Writes, IsRoomOn, OpensOn, RestoresBy, left_stopped, told_stopped}
+use Rattle.cml_c.specs.declared.owned.Resource.TheVariants.{Room, JournalCheck, Spent}
 
 -- a handle to a room on this board is written
-pub opens_on : {M : Type 0} (wrap : Resource M → Kept) (restored : RestoredShown M) (from to : Slot) (told : ℕ)
-    (kept : Kept) (room : Box (Stocked M) Global)
-    → IsRoomOn restored room.value.room → kept ≡ wrap (Room room) → Writes kept told from to → OpensOn wrap restored from to told
-opens_on wrap restored from to told kept room on is (inl written) = inl (record {
+pub opens_on : {M : Type 0} (wrap : Resource M → Owned) (restored : RestoredShown M) (from to : Slot) (told : ℕ)
+    (owned : Owned) (room : Box (RoomWithSpare M) Global)
+    → IsRoomOn restored room.value.room → owned ≡ wrap (Room room) → Writes owned told from to → OpensOn wrap restored from to told
+opens_on wrap restored from to told owned room on is (inl written) = inl (record {
   done = written.0;
   opened = room;
   such = on;
-  written = written.1 ∙ ap (λ (k : Kept). Some k) is;
+  written = written.1 ∙ ap (λ (k : Owned). Some k) is;
 })
-opens_on wrap restored from to told kept room on is (inr none) = inr none
+opens_on wrap restored from to told owned room on is (inr none) = inr none
 
-module _ {M : Type 0} (version : ℕ) (meaning : List ℕ → Option M) (wrap : Resource M → Kept) (limit : ℕ) (from : Slot)
+module _ {M : Type 0} (version : ℕ) (meaning : List ℕ → Option M) (wrap : Resource M → Owned) (limit : ℕ) (from : Slot)
     (reading : Box (Progress M) Global) where
   -- a reading gave a board, and so it goes
   pub goes_on : (now : Progress M) (restored : RestoredShown M) (to : Slot) (told : ℕ) → IsLimit limit → now ≡ reading.value
@@ -51,7 +51,7 @@ module _ {M : Type 0} (version : ℕ) (meaning : List ℕ → Option M) (wrap : 
   -- it gave none, and is as it was
   pub gives_none : (now new : Progress M) (told : ℕ) → IsLimit limit → now ≡ reading.value → reading.value.halt ≡ None
       → (new ≡ now) × ((bytes : List ℕ) → IsSoFar version meaning bytes now → ⊥) → told ≡ number Unlawful
-      → RestoresBy version meaning wrap limit from from reading (Reading (with_value reading new)) told
+      → RestoresBy version meaning wrap limit from from reading (JournalCheck (with_value reading new)) told
   gives_none now new told limited same running stopped code =
       inr (
         limited,
@@ -59,7 +59,7 @@ module _ {M : Type 0} (version : ℕ) (meaning : List ℕ → Option M) (wrap : 
           never = subst (λ (p : Progress M). (bytes : List ℕ) → IsSoFar version meaning bytes p → ⊥) same stopped.1;
           none = record {
             code = code ∙ ap (λ (h : Option Halt). number (told_stopped h)) (sym running);
-            kept = ap (λ (p : Progress M). Reading (with_value reading p)) (stopped.0 ∙ same)
+            kept = ap (λ (p : Progress M). JournalCheck (with_value reading p)) (stopped.0 ∙ same)
                 ∙ ap (λ (h : Option Halt). left_stopped reading h) (sym running);
             slot = refl;
           };

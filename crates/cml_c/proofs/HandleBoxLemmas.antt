@@ -9,22 +9,22 @@ use denote.RawPtr.{Ptr}
 use Rattle.std.specs.declared.alloc.Global.{Global}
 use Rattle.std_alloc.proofs.BoxSteps.Form.{Bx, B, D}
 use Rattle.cml_log.proofs.HeapBoxLemmas.{on_heap}
-pub use Rattle.cml_c.specs.contracts.kept.Kept.{the_row as Room}
-use Rattle.cml_c.specs.{Kept}
-use Rattle.cml_c.proofs.kept.Kept.TheLaws as kept_laws
+pub use Rattle.cml_c.specs.contracts.owned.Owned.{the_row as Room}
+use Rattle.cml_c.specs.{Owned}
+use Rattle.cml_c.proofs.owned.Owned.TheLaws as owned_laws
 
 abbrev pub E : Bx
-E = on_heap "cml_c::Destruct++none::drop" Room kept_laws.the_row_laws
+E = on_heap "cml_c::Destruct++none::drop" Room owned_laws.the_row_laws
 
 abbrev pub Boxed : RattleType
 Boxed = B E
 
-abbrev pub boxed : Ptr → Global → Kept → D E
-boxed at alloc kept = record { ptr = at; alloc = alloc; value = kept }
+abbrev pub boxed : Ptr → Global → Owned → D E
+boxed at alloc owned = record { ptr = at; alloc = alloc; value = owned }
 
 -- the row of what lies in it, as a call is given it: at its type without names
 abbrev pub Given : RattleType
 Given = arg (bare (layout Room)) no Room
 
 abbrev pub given_laws : Laws Given
-given_laws = arg_laws (bare (layout Room)) no Room kept_laws.the_row_laws refl
+given_laws = arg_laws (bare (layout Room)) no Room owned_laws.the_row_laws refl

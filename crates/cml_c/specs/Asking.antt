@@ -10,12 +10,12 @@ use Rattle.cml_room.specs.declared.state.State.TheVariants.{Parked}
 use Rattle.cml_board.specs.declared.outcome.Outcome.TheVariants as outcome
 use Rattle.cml_c.specs.declared.code.Code.{Code}
 use Rattle.cml_c.specs.declared.code.Code.TheVariants.{Done, Nothing, Put, Closed, Parked}
-use Rattle.cml_c.specs.declared.kept.Kept.{Kept}
+use Rattle.cml_c.specs.declared.owned.Owned.{Owned}
 use Rattle.cml_c.specs.Codes.{number, of_refusal}
 use Rattle.cml_c.specs.declared.sending.Sending.{Sending}
 use Rattle.cml_c.specs.declared.sending.Sending.TheVariants as sending
-use Rattle.cml_c.specs.declared.kept.Resource.{Resource}
-use Rattle.cml_c.specs.Handles.{OnEither, OnNumbers, OnRoom}
+use Rattle.cml_c.specs.declared.owned.Resource.{Resource}
+use Rattle.cml_c.specs.Handles.{OnAnyMessages, OnNumbers, OnRoom}
 
 -- how many messages a room's chunks hold
 abbrev pub chunk : ℕ
@@ -87,18 +87,18 @@ Gives sure seat call before after same code old new =
     OnRoom (Makes sure false seat call code (λ becomes. after ≡ named_outcome before becomes)) same code old new
 
 -- this call in whichever room a handle leads to, with the content before and after of the place where a name is written
-abbrev pub Names : ℕ → ((M : Type 0) → Call M) → Kept → Kept → ℕ → ℕ → ℕ → Type 0
-Names seat call old new code before after = OnEither (λ M sure. Gives sure seat (call M) before after) (after ≡ before) code old new
+abbrev pub Names : ℕ → ((M : Type 0) → Call M) → Owned → Owned → ℕ → ℕ → ℕ → Type 0
+Names seat call old new code before after = OnAnyMessages (λ M sure. Gives sure seat (call M) before after) (after ≡ before) code old new
 
 -- the same where nothing is written
-abbrev pub NamesNothing : ℕ → ((M : Type 0) → Call M) → Kept → Kept → ℕ → Type 0
+abbrev pub NamesNothing : ℕ → ((M : Type 0) → Call M) → Owned → Owned → ℕ → Type 0
 NamesNothing seat call old new code = (after : ℕ) × Names seat call old new code 0 after
 
 -- a call in a room of numbers, with the content before and after of the place where a number is written
-abbrev pub Calls : Bool → ℕ → Call ℕ → Kept → Kept → ℕ → ℕ → ℕ → Type 0
+abbrev pub Calls : Bool → ℕ → Call ℕ → Owned → Owned → ℕ → ℕ → ℕ → Type 0
 Calls again seat call old new code before after =
     OnNumbers (OnRoom (Makes true again seat call code (λ becomes. after ≡ written_outcome before becomes))) (after ≡ before) code old new
 
 -- the same of a call that gives no number
-abbrev pub CallsPlain : Bool → ℕ → Call ℕ → Kept → Kept → ℕ → Type 0
+abbrev pub CallsPlain : Bool → ℕ → Call ℕ → Owned → Owned → ℕ → Type 0
 CallsPlain again seat call old new code = (after : ℕ) × Calls again seat call old new code 0 after

@@ -13,9 +13,9 @@ use Rattle.cml_c.specs.declared.code.Code.{Code}
 use Rattle.cml_c.specs.declared.code.Code.TheVariants.{Done, NoSuch, NoMemory, OutOfBounds, Unlawful}
 use Rattle.cml_c.specs.declared.entries.SeryugoEntry.{SeryugoEntry}
 use Rattle.cml_c.specs.declared.entries.SeryugoMaker.{SeryugoMaker}
-use Rattle.cml_c.specs.declared.kept.Kept.{Kept}
-use Rattle.cml_c.specs.declared.kept.Resource.{Resource}
-use Rattle.cml_c.specs.declared.kept.Resource.TheVariants.{Journal}
+use Rattle.cml_c.specs.declared.owned.Owned.{Owned}
+use Rattle.cml_c.specs.declared.owned.Resource.{Resource}
+use Rattle.cml_c.specs.declared.owned.Resource.TheVariants.{Journal}
 use Rattle.cml_c.specs.Codes.{number}
 use Rattle.cml_c.specs.Entries.{maker_of, call_kind, call_object, reply_kind, reply_name, reply_message}
 use Rattle.cml_c.specs.Handles.{Seen, IsWrong, OnBytes, OnChecker}
@@ -110,11 +110,11 @@ FeedsEntry (Some entry) code old new = FeedsIn (entry ∷ []) code old new
 FeedsEntry None code old new = (code ≡ number OutOfBounds) × (new ≡ old)
 
 -- the same of bytes, which are copied first, or there is no memory for them, or they are too many
-pub record CopiesNeither (sent got : List ℕ) (code : ℕ) (old new : Kept) : Type 0 where
+pub record CopiesNeither (sent got : List ℕ) (code : ℕ) (old new : Owned) : Type 0 where
   pub refused : NotCopied sent code ⊎ NotCopied got code
   pub kept : new ≡ old
 
-abbrev pub FeedsParts : Parts → Kept → Kept → ℕ → Type 0
+abbrev pub FeedsParts : Parts → Owned → Owned → ℕ → Type 0
 FeedsParts given old new code = OnBytes (OnChecker (FeedsEntry (entry_with given) code)) ⊤ code old new
     ⊎ CopiesNeither given.sent given.got code old new
 

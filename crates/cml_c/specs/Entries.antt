@@ -1,19 +1,23 @@
 -- An entry of the journal, as C is shown it.
-use Rattle.std.specs.Prelude.{ℕ, ◌≡◌, ◌-◌, ◌<◌, ◌≤◌, ◌⊎◌, List, length, ◌++◌, reverse, slice_get, Option, Some, None, Box}
+use Rattle.std.specs.Prelude.{ℕ, ◌≡◌, ◌-◌, ◌<◌, ◌≤◌, ◌⊎◌, List, [], ◌∷◌, length, ◌++◌, reverse, slice_get, Option, Some, None, Box}
 use Rattle.std.specs.Option.{option_map_or}
 use Rattle.std.specs.declared.alloc.Global.{Global}
 use Rattle.cml_board.specs.{Call, Entry, Reply, Who, object_in, message_of, row_of, entries_in}
 use Rattle.cml_board.specs.declared.entry.Reply.TheVariants as reply
 use Rattle.cml_board.specs.declared.entry.Who.TheVariants.{Seat, Lane, Feed}
 use Rattle.cml_room.specs.{RoomShown}
-use Rattle.cml_c.specs.declared.code.Code.TheVariants.{Done, NoSuch, NoMemory}
+use Rattle.cml_c.specs.declared.code.Code.TheVariants.{Done, NoSuch, NoMemory, OutOfBounds}
+use Rattle.cml_c.specs.declared.entries.EntrySource.{EntrySource}
+use Rattle.cml_c.specs.declared.entries.EntrySource.TheVariants as source
 use Rattle.cml_c.specs.declared.entries.SeryugoCall.{SeryugoCall}
 use Rattle.cml_c.specs.declared.entries.SeryugoEntry.{SeryugoEntry}
 use Rattle.cml_c.specs.declared.entries.SeryugoMaker.{SeryugoMaker}
 use Rattle.cml_c.specs.declared.entries.SeryugoReply.{SeryugoReply}
-use Rattle.cml_c.specs.declared.kept.Kept.TheVariants as kept
-use Rattle.cml_c.specs.declared.kept.Resource.TheVariants as resource
+use Rattle.cml_c.specs.declared.owned.Owned.TheVariants as owned
+use Rattle.cml_c.specs.declared.owned.Resource.TheVariants as resource
+use Rattle.cml_c.specs.declared.owned.Owned.{Owned}
 use Rattle.cml_c.specs.Codes.{number}
+use Rattle.cml_c.specs.Handles.{OnBytes, OnJournal, OnNumbers, OnRoom}
 use Rattle.cml_c.specs.declared.bytes_entries.SeryugoBytesEntry.{SeryugoBytesEntry}
 
 abbrev pub maker_of : Who → SeryugoMaker
@@ -81,7 +85,7 @@ count_of None = 0
 -- a handle to this entry is written, with all that isn't bytes, and how many these are
 pub record IsShown (entry : Entry (List ℕ)) (to : SeryugoBytesEntry) : Type 0 where
   pub owner : Box (Entry (List ℕ)) Global
-  pub owns : to.owner.kept ≡ Some (kept.Bytes (resource.Entry owner))
+  pub owns : to.owner.owned ≡ Some (owned.Bytes (resource.Entry owner))
   pub shows : owner.value ≡ entry
   pub maker : to.maker ≡ maker_of entry.who
   pub call : to.call.kind ≡ call_kind entry.call
@@ -124,3 +128,20 @@ pub record FindsBytesIn (at code : ℕ) (from to : SeryugoBytesEntry) (old new :
   pub found : Option (Entry (List ℕ))
   pub is : IsAt at old found
   pub finds : FindsBytes found code from to
+
+-- where an entry is looked for, in the order of the numbers
+abbrev pub entry_sources : List EntrySource
+entry_sources = source.Room ∷ source.Journal ∷ []
+
+-- the same of the room or the taken journal that a handle leads to; or no source has such a number, and nothing is changed
+abbrev pub FindsAt : Option EntrySource → ℕ → SeryugoEntry → SeryugoEntry → ℕ → Owned → Owned → Type 0
+FindsAt (Some source.Room) at before after code old new = OnNumbers (OnRoom (FindsIn at code before after)) (after ≡ before) code old new
+FindsAt (Some source.Journal) place before after code old new =
+    OnNumbers (OnJournal (λ entries. Finds (slice_get entries place) code before after)) (after ≡ before) code old new
+FindsAt None at before after code old new = (code ≡ number OutOfBounds) × (after ≡ before) × (new ≡ old)
+
+abbrev pub FindsBytesAt : Option EntrySource → ℕ → SeryugoBytesEntry → SeryugoBytesEntry → ℕ → Owned → Owned → Type 0
+FindsBytesAt (Some source.Room) at from to code old new = OnBytes (OnRoom (FindsBytesIn at code from to)) (to ≡ from) code old new
+FindsBytesAt (Some source.Journal) place from to code old new =
+    OnBytes (OnJournal (λ entries. FindsBytes (slice_get entries place) code from to)) (to ≡ from) code old new
+FindsBytesAt None at from to code old new = (code ≡ number OutOfBounds) × (to ≡ from) × (new ≡ old)

@@ -7,9 +7,9 @@ use Rattle.cml_room.specs.{RoomShown, floor_of, KeepsSeats, Stirs, MakesNoneDue}
 use Rattle.cml_c.specs.declared.code.Code.{Code}
 use Rattle.cml_c.specs.declared.code.Code.TheVariants.{Done, Nothing, NoMemory}
 use Rattle.cml_c.specs.declared.handle.Slot.{Slot}
-use Rattle.cml_c.specs.declared.kept.Kept.{Kept}
-use Rattle.cml_c.specs.declared.kept.Resource.{Resource}
-use Rattle.cml_c.specs.declared.kept.Resource.TheVariants.{Feed}
+use Rattle.cml_c.specs.declared.owned.Owned.{Owned}
+use Rattle.cml_c.specs.declared.owned.Resource.{Resource}
+use Rattle.cml_c.specs.declared.owned.Resource.TheVariants.{Feed}
 use Rattle.cml_c.specs.Codes.{number, told_outcome}
 use Rattle.cml_c.specs.Asking.{chunk}
 use Rattle.cml_c.specs.Lanes.{OpensIn}
@@ -21,7 +21,7 @@ pub record KeepsFeedRings {M : Type 0} (old new : RoomShown M) : Type 0 where
   pub rings : (number : ℕ) → number < length old.feeds → SameFeedRing number (floor_of old) (floor_of new)
   pub stirs : Stirs MakesNoneDue old new
 
-abbrev pub OpensFeed : {M : Type 0} → (Resource M → Kept) → Bool → Name → ℕ → Slot → Slot → ℕ → ℕ → ℕ → RoomShown M → RoomShown M → Type 0
+abbrev pub OpensFeed : {M : Type 0} → (Resource M → Owned) → Bool → Name → ℕ → Slot → Slot → ℕ → ℕ → ℕ → RoomShown M → RoomShown M → Type 0
 OpensFeed wrap sure channel capacity =
     OpensIn (λ feed. wrap (Feed feed)) (λ old new outcome. OpensAFeed chunk sure old new channel capacity outcome) KeepsFeedRings capacity
 

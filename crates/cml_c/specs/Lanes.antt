@@ -6,9 +6,9 @@ use Rattle.cml_room.specs.{RoomShown, floor_of, KeepsSeats, Stirs, MakesFewByOne
 use Rattle.cml_c.specs.declared.code.Code.{Code}
 use Rattle.cml_c.specs.declared.code.Code.TheVariants.{Done, Gone, NoMemory, Full, StillOpen, OutOfBounds}
 use Rattle.cml_c.specs.declared.handle.Slot.{Slot}
-use Rattle.cml_c.specs.declared.kept.Kept.{Kept}
-use Rattle.cml_c.specs.declared.kept.Resource.{Resource}
-use Rattle.cml_c.specs.declared.kept.Resource.TheVariants.{Lane, LaneEnd, Spent}
+use Rattle.cml_c.specs.declared.owned.Owned.{Owned}
+use Rattle.cml_c.specs.declared.owned.Resource.{Resource}
+use Rattle.cml_c.specs.declared.owned.Resource.TheVariants.{Lane, LaneEnd, Spent}
 use Rattle.cml_c.specs.Codes.{number, of_refusal, told_outcome}
 use Rattle.cml_c.specs.Handles.{IsWrong, OnBytes, OnRoom, OnLane}
 use Rattle.cml_c.specs.Asking.{chunk}
@@ -24,12 +24,12 @@ written_opened before (Ok opened) = opened.1
 written_opened before (Err refusal) = before
 
 -- what the slot holds then: a handle to what was opened, or what it held before
-abbrev pub LeavesOpened : {X : Type 0} → (X → Kept) → Slot → Slot → Result (X × ℕ) Refusal → Type 0
-LeavesOpened wrap from to (Ok opened) = to.kept ≡ Some (wrap opened.0)
+abbrev pub LeavesOpened : {X : Type 0} → (X → Owned) → Slot → Slot → Result (X × ℕ) Refusal → Type 0
+LeavesOpened wrap from to (Ok opened) = to.owned ≡ Some (wrap opened.0)
 LeavesOpened wrap from to (Err refusal) = to ≡ from
 
 -- this became of the opening, and of the rings and the seats
-pub record Opens {M X : Type 0} (wrap : X → Kept) (becomes : FloorShown M → FloorShown M → Result (X × ℕ) Refusal → Type 0)
+pub record Opens {M X : Type 0} (wrap : X → Owned) (becomes : FloorShown M → FloorShown M → Result (X × ℕ) Refusal → Type 0)
     (Leaves : RoomShown M → RoomShown M → Type 0) (from to : Slot) (code before after : ℕ) (old new : RoomShown M) : Type 0 where
   pub outcome : Result (X × ℕ) Refusal
   pub floor : becomes (floor_of old) (floor_of new) outcome
@@ -46,7 +46,7 @@ pub record NotOpened {M : Type 0} (reason : Code) (from to : Slot) (code before 
   pub slot : to ≡ from
 
 -- the capacity is in its bounds, and this became of the opening, or there is no memory for the handle; or it is out of them
-abbrev pub OpensIn : {M X : Type 0} → (X → Kept) → (FloorShown M → FloorShown M → Result (X × ℕ) Refusal → Type 0)
+abbrev pub OpensIn : {M X : Type 0} → (X → Owned) → (FloorShown M → FloorShown M → Result (X × ℕ) Refusal → Type 0)
     → (RoomShown M → RoomShown M → Type 0) → ℕ → Slot → Slot → ℕ → ℕ → ℕ → RoomShown M → RoomShown M → Type 0
 OpensIn wrap becomes Leaves capacity from to code before after old new =
     (IsCapacity capacity
@@ -58,7 +58,7 @@ pub record KeepsLaneRings {M : Type 0} (old new : RoomShown M) : Type 0 where
   pub rings : (number : ℕ) → number < length old.lanes → SameRing number (floor_of old) (floor_of new)
   pub kept : KeepsSeats old new
 
-abbrev pub OpensLane : {M : Type 0} → (Resource M → Kept) → Name → ℕ → Slot → Slot → ℕ → ℕ → ℕ → RoomShown M → RoomShown M → Type 0
+abbrev pub OpensLane : {M : Type 0} → (Resource M → Owned) → Name → ℕ → Slot → Slot → ℕ → ℕ → ℕ → RoomShown M → RoomShown M → Type 0
 OpensLane wrap target capacity =
     OpensIn (λ lane. wrap (Lane lane)) (λ old new outcome. OpensALane old new target capacity outcome) KeepsLaneRings capacity
 
@@ -89,7 +89,7 @@ pub record NotSent {M : Type 0} (bytes : List ℕ) (told : ℕ) (old new : LaneS
 abbrev pub SendsCopied : List ℕ → ℕ → LaneShown (List ℕ) → LaneShown (List ℕ) → Type 0
 SendsCopied message told old new = (Accepts message told old new ⊎ IsFull told old new) ⊎ NotSent message told old new
 
-abbrev pub SendsBytes : List ℕ → Kept → Kept → ℕ → Type 0
+abbrev pub SendsBytes : List ℕ → Owned → Owned → ℕ → Type 0
 SendsBytes message old new told = OnBytes (OnLane (SendsCopied message told)) ⊤ told old new
 
 -- the lane has finished: all that was sent on it is known; or its room has let go of it

@@ -7,7 +7,7 @@ use Rattle.cml_board.specs.declared.entry.Reply.TheVariants as reply
 use Rattle.cml_room.specs.{RoomShown}
 use Rattle.cml_board.specs.declared.outcome.Outcome.TheVariants as outcome
 use Rattle.cml_c.specs.declared.code.Code.TheVariants.{Done, Nothing, NoSuch, NoMemory, OutOfBounds}
-use Rattle.cml_c.specs.declared.kept.Kept.{Kept}
+use Rattle.cml_c.specs.declared.owned.Owned.{Owned}
 use Rattle.cml_c.specs.declared.messages.SeryugoBytes.{SeryugoBytes}
 use Rattle.cml_c.specs.Codes.{number}
 use Rattle.cml_c.specs.Handles.{OnBytes, OnRoom}
@@ -61,7 +61,7 @@ pub record MakesBytes (again : Bool) (seat : ℕ) (call : Call (List ℕ)) (code
   pub becomes : Makes false again seat call code (HandsOutcome from to) old new ⊎ HasNoMemory again seat call from to code old new
 
 -- a call in a room of bytes, with the content before and after of the place where a message is handed over
-abbrev pub CallsBytes : Bool → ℕ → Call (List ℕ) → Kept → Kept → ℕ → SeryugoBytes → SeryugoBytes → Type 0
+abbrev pub CallsBytes : Bool → ℕ → Call (List ℕ) → Owned → Owned → ℕ → SeryugoBytes → SeryugoBytes → Type 0
 CallsBytes again seat call old new code from to = OnBytes (OnRoom (MakesBytes again seat call code from to)) (to ≡ from) code old new
 
 -- the bytes were not copied: they are too many, or there is no memory for them
@@ -83,12 +83,12 @@ MakesCopied seat bytes call code before after old new =
     ⊎ CopiesNone false seat bytes call (after ≡ before) code old new
 
 -- the same in the room that a handle leads to
-abbrev pub FillsBytes : ℕ → List ℕ → Call (List ℕ) → Kept → Kept → ℕ → ℕ → ℕ → Type 0
+abbrev pub FillsBytes : ℕ → List ℕ → Call (List ℕ) → Owned → Owned → ℕ → ℕ → ℕ → Type 0
 FillsBytes seat bytes call old new code before after =
     OnBytes (OnRoom (MakesCopied seat bytes call code before after)) (after ≡ before) code old new
 
 -- the same of a call that gives none, and of one that gives a message
-abbrev pub SendsBytes : ℕ → List ℕ → Call (List ℕ) → Kept → Kept → ℕ → Type 0
+abbrev pub SendsBytes : ℕ → List ℕ → Call (List ℕ) → Owned → Owned → ℕ → Type 0
 SendsBytes seat bytes call old new code = (after : ℕ) × FillsBytes seat bytes call old new code 0 after
 
 abbrev pub SwapsCopied : Bool → ℕ → List ℕ → Call (List ℕ) → ℕ → SeryugoBytes → SeryugoBytes
@@ -96,6 +96,6 @@ abbrev pub SwapsCopied : Bool → ℕ → List ℕ → Call (List ℕ) → ℕ �
 SwapsCopied again seat bytes call code from to old new =
     MakesBytes again seat call code from to old new ⊎ CopiesNone again seat bytes call (to ≡ from) code old new
 
-abbrev pub SwapsBytes : Bool → ℕ → List ℕ → Call (List ℕ) → Kept → Kept → ℕ → SeryugoBytes → SeryugoBytes → Type 0
+abbrev pub SwapsBytes : Bool → ℕ → List ℕ → Call (List ℕ) → Owned → Owned → ℕ → SeryugoBytes → SeryugoBytes → Type 0
 SwapsBytes again seat bytes call old new code from to =
     OnBytes (OnRoom (SwapsCopied again seat bytes call code from to)) (to ≡ from) code old new

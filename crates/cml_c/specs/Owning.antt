@@ -10,15 +10,15 @@ use Rattle.std.specs.declared.alloc.Global.{Global}
 use Rattle.std.specs.contracts.impls.GlobalAllocator.TheImpl.{ghosts}
 
 module _ (row : RattleType) where
-  abbrev pub kept_coded : Coded row.Denot
-  kept_coded = row.coded
+  abbrev pub owned_coded : Coded row.Denot
+  owned_coded = row.coded
 
   abbrev pub handle_owns : Global → Ptr → row.Denot → Fml
-  handle_owns alloc at kept = box_owns (ghosts.dealloc_token alloc) row at kept
+  handle_owns alloc at owned = box_owns (ghosts.dealloc_token alloc) row at owned
 
   abbrev pub slot_coded : Coded (Option row.Denot)
   slot_coded = coded_option row.coded
 
   abbrev pub slot_owns : Global → Ptr → Option row.Denot → Fml
   slot_owns alloc at None = ftrue
-  slot_owns alloc at (Some kept) = handle_owns alloc at kept
+  slot_owns alloc at (Some owned) = handle_owns alloc at owned

@@ -1,18 +1,22 @@
 -- What C gets of a journal whose text is read back.
-use Rattle.std.specs.Prelude.{ℕ, ◌≡◌, ◌⊎◌, ◌↔◌, Bool, true, false, List, [], ◌++◌, Option, Some, None, ⊤}
+use Rattle.std.specs.Prelude.{ℕ, ◌≡◌, ◌⊎◌, ◌↔◌, Bool, true, false, List, [], ◌∷◌, ◌++◌, Option, Some, None, ⊤}
 use Rattle.cml_board.specs.{count_of}
 use Rattle.cml_journal.specs.{Halt, Progress, IsSoFar, HaltTells, IsLawfulJournal, is_whole, message_of_word, number_of}
 use Rattle.cml_journal.specs.declared.stop.Halt.TheVariants as halt
 use Rattle.cml_c.specs.declared.code.Code.{Code}
-use Rattle.cml_c.specs.declared.code.Code.TheVariants.{Done, NoMemory, Unlawful, Fault, Torn}
+use Rattle.cml_c.specs.declared.code.Code.TheVariants.{Done, NoMemory, OutOfBounds, Unlawful, Fault, Torn}
 use Rattle.cml_c.specs.declared.handle.Slot.{Slot}
-use Rattle.cml_c.specs.declared.kept.Kept.{Kept}
-use Rattle.cml_c.specs.declared.kept.Kept.TheVariants.{Numbers, Bytes}
-use Rattle.cml_c.specs.declared.kept.Resource.{Resource}
-use Rattle.cml_c.specs.declared.kept.Resource.TheVariants.{Reading}
+use Rattle.cml_c.specs.declared.message_kind.MessageKind.{MessageKind}
+use Rattle.cml_c.specs.declared.message_kind.MessageKind.TheVariants as messages
+use Rattle.cml_c.specs.declared.owned.Owned.{Owned}
+use Rattle.cml_c.specs.declared.owned.Owned.TheVariants.{Numbers, Bytes}
+use Rattle.cml_c.specs.declared.owned.Resource.{Resource}
+use Rattle.cml_c.specs.declared.owned.Resource.TheVariants.{JournalCheck}
+use Rattle.cml_c.specs.declared.read_journals.ReadingState.{ReadingState}
+use Rattle.cml_c.specs.declared.read_journals.ReadingState.TheVariants as wanted
 use Rattle.cml_c.specs.Codes.{number}
 use Rattle.cml_c.specs.Handles.{OnReading}
-use Rattle.cml_c.specs.Opening.{WritesNew}
+use Rattle.cml_c.specs.Opening.{OpensNothing, WritesNew}
 
 -- the code of what a reading stopped by
 abbrev pub told_halt : Halt → Code
@@ -21,15 +25,21 @@ told_halt (halt.Fault line what) = Fault
 told_halt halt.NoMemory = NoMemory
 
 -- a handle to a reading of nothing is written; or there is no memory, and the slot is as it was
-abbrev pub OpensAReading : {M : Type 0} → ℕ → (List ℕ → Option M) → (Resource M → Kept) → ℕ → Slot → Slot → Type 0
+abbrev pub OpensAReading : {M : Type 0} → ℕ → (List ℕ → Option M) → (Resource M → Owned) → ℕ → Slot → Slot → Type 0
 OpensAReading version meaning wrap told old new =
-    WritesNew (IsSoFar version meaning []) (λ reading. wrap (Reading reading)) told new ⊎ ((told ≡ number NoMemory) × (new ≡ old))
+    WritesNew (IsSoFar version meaning []) (λ reading. wrap (JournalCheck reading)) told new ⊎ ((told ≡ number NoMemory) × (new ≡ old))
 
 abbrev pub OpensNumbers : ℕ → Slot → Slot → Type 0
 OpensNumbers = OpensAReading 1 number_of Numbers
 
 abbrev pub OpensBytes : ℕ → Slot → Slot → Type 0
 OpensBytes = OpensAReading 2 message_of_word Bytes
+
+-- the same by the kind of the messages
+abbrev pub OpensReadingOf : Option MessageKind → ℕ → Slot → Slot → Type 0
+OpensReadingOf (Some messages.Numbers) told old new = OpensNumbers told old new
+OpensReadingOf (Some messages.Bytes) told old new = OpensBytes told old new
+OpensReadingOf None told old new = OpensNothing told old new
 
 -- the code of a reading that goes on, or has stopped
 abbrev pub told_so_far : Option Halt → Code
@@ -48,7 +58,7 @@ pub record Takes {M : Type 0} (version : ℕ) (meaning : List ℕ → Option M) 
   pub spent : (halted : Halt) → old.halt ≡ Some halted → new ≡ old
 
 -- the same of whichever reading a handle leads to
-abbrev pub TakesPart : List ℕ → ℕ → Kept → Kept → Type 0
+abbrev pub TakesPart : List ℕ → ℕ → Owned → Owned → Type 0
 TakesPart bytes code (Numbers old) new = (left : Resource ℕ) × (new ≡ Numbers left)
     × OnReading (Takes 1 number_of bytes code) ⊤ code old left
 TakesPart bytes code (Bytes old) new = (left : Resource (List ℕ)) × (new ≡ Bytes left)
@@ -80,7 +90,23 @@ pub record EndsSo {M : Type 0} (version : ℕ) (meaning : List ℕ → Option M)
   pub whole : (bytes : List ℕ) → IsSoFar version meaning bytes old
       → (code ≡ number Done) ↔ IsLawfulJournal version meaning bytes (count_of old.checker)
 
--- the same of whichever reading a handle leads to
-abbrev pub TellsEnd : ℕ → Kept → Kept → Type 0
-TellsEnd code (Numbers old) new = (left : Resource ℕ) × (new ≡ Numbers left) × OnReading (EndsSo 1 number_of code) ⊤ code old left
-TellsEnd code (Bytes old) new = (left : Resource (List ℕ)) × (new ≡ Bytes left) × OnReading (EndsSo 2 message_of_word code) ⊤ code old left
+-- what is read off a reading, in the order of the numbers
+abbrev pub reading_states : List ReadingState
+reading_states = wanted.Entries ∷ wanted.Lines ∷ wanted.End ∷ []
+
+-- this of a reading is told: a count, which is written, or how its text ends
+abbrev pub IsTold : {M : Type 0} → ℕ → (List ℕ → Option M) → ReadingState → ℕ → ℕ → ℕ → Progress M → Progress M → Type 0
+IsTold version meaning wanted.Entries before after code old new = Tells entries_read code after old new
+IsTold version meaning wanted.Lines before after code old new = Tells lines_read code after old new
+IsTold version meaning wanted.End before after code old new = EndsSo version meaning code old new × (after ≡ before)
+
+-- the same of whichever reading a handle leads to; or no state has such a number, and nothing is changed
+abbrev pub TellsThis : ReadingState → ℕ → ℕ → ℕ → Owned → Owned → Type 0
+TellsThis what before after code (Numbers old) new = (left : Resource ℕ) × (new ≡ Numbers left)
+    × OnReading (IsTold 1 number_of what before after code) (after ≡ before) code old left
+TellsThis what before after code (Bytes old) new = (left : Resource (List ℕ)) × (new ≡ Bytes left)
+    × OnReading (IsTold 2 message_of_word what before after code) (after ≡ before) code old left
+
+abbrev pub TellsState : Option ReadingState → ℕ → ℕ → ℕ → Owned → Owned → Type 0
+TellsState (Some what) before after code old new = TellsThis what before after code old new
+TellsState None before after code old new = (code ≡ number OutOfBounds) × (after ≡ before) × (new ≡ old)

@@ -5,13 +5,13 @@ use Rattle.cml_board.specs.{Entry}
 use Rattle.cml_journal.specs.{AreShort, Progress, bytes_text, kept_sum, piece_sum, sealed_piece_lines, text_of, Sum}
 use Rattle.cml_c.specs.declared.code.Code.TheVariants.{Done, NoMemory, Nothing, OutOfBounds}
 use Rattle.cml_c.specs.declared.code.Code.{Code}
-use Rattle.cml_c.specs.declared.kept.Kept.{Kept}
-use Rattle.cml_c.specs.declared.kept.Kept.TheVariants.{Numbers, Bytes}
-use Rattle.cml_c.specs.declared.kept.Resource.{Resource}
+use Rattle.cml_c.specs.declared.owned.Owned.{Owned}
+use Rattle.cml_c.specs.declared.owned.Owned.TheVariants.{Numbers, Bytes}
+use Rattle.cml_c.specs.declared.owned.Resource.{Resource}
 use Rattle.cml_c.specs.declared.messages.SeryugoBytes.{SeryugoBytes}
 use Rattle.cml_c.specs.declared.sealed_texts.SeryugoSum.{SeryugoSum}
 use Rattle.cml_c.specs.Codes.{number}
-use Rattle.cml_c.specs.Handles.{OnEither, OnJournal, OnReading}
+use Rattle.cml_c.specs.Handles.{OnAnyMessages, OnJournal, OnReading}
 use Rattle.cml_c.specs.Messages.{IsHanded}
 use Rattle.cml_c.specs.Texts.{IsUnwritten}
 
@@ -42,7 +42,7 @@ HandsSealedTaken version text at before after from to code old new =
     OnJournal (HandsSealed version text at code before after from to) ((after ≡ before) × (to ≡ from)) code old new
 
 -- the same of whichever journal a handle leads to
-abbrev pub HandsSealedJournal : ℕ → SeryugoSum → SeryugoSum → SeryugoBytes → SeryugoBytes → ℕ → Kept → Kept → Type 0
+abbrev pub HandsSealedJournal : ℕ → SeryugoSum → SeryugoSum → SeryugoBytes → SeryugoBytes → ℕ → Owned → Owned → Type 0
 HandsSealedJournal at before after from to code (Numbers old) new = (left : Resource ℕ) × (new ≡ Numbers left)
     × HandsSealedTaken 1 decimal at before after from to code old left
 HandsSealedJournal at before after from to code (Bytes old) new = (left : Resource (List ℕ)) × (new ≡ Bytes left)
@@ -58,6 +58,6 @@ abbrev pub TellsSumOf : {M : Type 0} → SeryugoSum → SeryugoSum → ℕ → P
 TellsSumOf before after told progress = IsSum (kept_sum progress.state) told before after ⊎ ((told ≡ number NoMemory) × (after ≡ before))
 
 -- and the reading stays as it was
-abbrev pub TellsSum : SeryugoSum → SeryugoSum → ℕ → Kept → Kept → Type 0
-TellsSum before after told = OnEither (λ (M : Type 0) (sure : Bool).
+abbrev pub TellsSum : SeryugoSum → SeryugoSum → ℕ → Owned → Owned → Type 0
+TellsSum before after told = OnAnyMessages (λ (M : Type 0) (sure : Bool).
     OnReading (λ (old new : Progress M). (new ≡ old) × TellsSumOf before after told old)) (after ≡ before) told

@@ -7,7 +7,7 @@ ghost use Rattle.cml_c.specs.Asking.{told_outcome};
 
 use crate::code::Code;
 use crate::handle::Handle;
-use crate::kept::{RoomOf, on_one};
+use crate::owned::{RoomOf, with_kind};
 use cml_board::{Call, Message, Reply, Response};
 
 /// Makes a call, again if it had parked its seat.
@@ -75,15 +75,15 @@ pub(crate) fn make_call(
     call: Call<u64>,
     given: &mut u64,
 ) -> u32
-    ensures { Calls is_again seat call handle.old.kept handle.new.kept result given.old given.new }
+    ensures { Calls is_again seat call handle.old.owned handle.new.owned result given.old given.new }
 {
-    on_one!(handle, Numbers(Room(room)) => tell(ask(&mut room.room, seat, is_again, call), given))
+    with_kind!(handle, Numbers(Room(room)) => tell(ask(&mut room.room, seat, is_again, call), given))
 }
 
 /// Makes a call that gives none.
 #[inline(always)]
 pub(crate) fn make_plain_call(handle: &mut Handle, seat: u64, call: Call<u64>) -> u32
-    ensures { CallsPlain false seat call handle.old.kept handle.new.kept result }
+    ensures { CallsPlain false seat call handle.old.owned handle.new.owned result }
 {
     let mut given = 0;
     make_call(handle, seat, false, call, &mut given)

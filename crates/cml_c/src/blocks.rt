@@ -3,8 +3,8 @@ ghost use Rattle.std.specs.Prelude.{◌≡◌, Decides};
 ghost use Rattle.cml_board.specs.{owed_count, held_by, Fits, HasRoom};
 ghost use Rattle.cml_c.specs.{MayWant, NeedsBlock, WouldGive, IsOwed, HoldsLong, IsThere};
 
-use crate::kept::{BoardOf, RoomOf};
 use crate::messages::IN_PLACE;
+use crate::owned::{BoardOf, RoomOf};
 use cml_board::{Bytes, Call, Name, Want};
 use cml_room::State;
 

@@ -7,8 +7,8 @@ ghost use Rattle.cml_c.specs.{CallsBytes, FillsBytes, SwapsBytes};
 use crate::bytes_asking::make_call;
 use crate::bytes_sending::{make_nameless_sending_call, make_sending_call, swap};
 use crate::handle::Handle;
-use crate::kept::on_one;
 use crate::messages::SeryugoBytes;
+use crate::owned::with_kind;
 use crate::sending::Sending;
 use cml_board::{Call, Name};
 use std::alloc::Global;
@@ -22,7 +22,7 @@ pub extern "C" fn seryugo_bytes_send_from(
     mailbox: u64,
     message: &[u8],
 ) -> u32
-    ensures { SendsBytes seat message.now (Send (record { 0 = mailbox }) message.now) room.old.kept room.new.kept result }
+    ensures { SendsBytes seat message.now (Send (record { 0 = mailbox }) message.now) room.old.owned room.new.owned result }
 {
     make_nameless_sending_call(alloc, room, seat, Sending::Send(Name(mailbox)), message)
 }
@@ -36,7 +36,7 @@ pub extern "C" fn seryugo_bytes_multicast_from(
     channel: u64,
     message: &[u8],
 ) -> u32
-    ensures { SendsBytes seat message.now (Cast (record { 0 = channel }) message.now) room.old.kept room.new.kept result }
+    ensures { SendsBytes seat message.now (Cast (record { 0 = channel }) message.now) room.old.owned room.new.owned result }
 {
     make_nameless_sending_call(alloc, room, seat, Sending::Cast(Name(channel)), message)
 }
@@ -51,7 +51,7 @@ pub extern "C" fn seryugo_bytes_recv(
     is_again: bool,
     message: &mut SeryugoBytes,
 ) -> u32
-    ensures { CallsBytes is_again seat (Recv (record { 0 = source })) room.old.kept room.new.kept result message.old message.new }
+    ensures { CallsBytes is_again seat (Recv (record { 0 = source })) room.old.owned room.new.owned result message.old message.new }
 {
     let call = Call::Recv(Name(source));
     make_call(alloc, room, seat, is_again, call, message)
@@ -66,7 +66,7 @@ pub extern "C" fn seryugo_bytes_recv_poll(
     source: u64,
     message: &mut SeryugoBytes,
 ) -> u32
-    ensures { CallsBytes false seat (Poll (record { 0 = source })) room.old.kept room.new.kept result message.old message.new }
+    ensures { CallsBytes false seat (Poll (record { 0 = source })) room.old.owned room.new.owned result message.old message.new }
 {
     make_call(alloc, room, seat, false, Call::Poll(Name(source)), message)
 }
@@ -80,7 +80,7 @@ pub extern "C" fn seryugo_bytes_mvar_init_from(
     message: &[u8],
     variable: &mut u64,
 ) -> u32
-    ensures { FillsBytes seat message.now (MVarInit message.now) room.old.kept room.new.kept result variable.old variable.new }
+    ensures { FillsBytes seat message.now (MVarInit message.now) room.old.owned room.new.owned result variable.old variable.new }
 {
     make_sending_call(alloc, room, seat, Sending::MVarInit, message, variable)
 }
@@ -94,7 +94,7 @@ pub extern "C" fn seryugo_bytes_put_from(
     variable: u64,
     message: &[u8],
 ) -> u32
-    ensures { SendsBytes seat message.now (Put (record { 0 = variable }) message.now) room.old.kept room.new.kept result }
+    ensures { SendsBytes seat message.now (Put (record { 0 = variable }) message.now) room.old.owned room.new.owned result }
 {
     make_nameless_sending_call(alloc, room, seat, Sending::Put(Name(variable)), message)
 }
@@ -109,7 +109,7 @@ pub extern "C" fn seryugo_bytes_get(
     is_again: bool,
     message: &mut SeryugoBytes,
 ) -> u32
-    ensures { CallsBytes is_again seat (Get (record { 0 = variable })) room.old.kept room.new.kept result message.old message.new }
+    ensures { CallsBytes is_again seat (Get (record { 0 = variable })) room.old.owned room.new.owned result message.old message.new }
 {
     let call = Call::Get(Name(variable));
     make_call(alloc, room, seat, is_again, call, message)
@@ -124,7 +124,7 @@ pub extern "C" fn seryugo_bytes_get_poll(
     variable: u64,
     message: &mut SeryugoBytes,
 ) -> u32
-    ensures { CallsBytes false seat (GetPoll (record { 0 = variable })) room.old.kept room.new.kept result message.old message.new }
+    ensures { CallsBytes false seat (GetPoll (record { 0 = variable })) room.old.owned room.new.owned result message.old message.new }
 {
     let call = Call::GetPoll(Name(variable));
     make_call(alloc, room, seat, false, call, message)
@@ -140,7 +140,7 @@ pub extern "C" fn seryugo_bytes_take(
     is_again: bool,
     message: &mut SeryugoBytes,
 ) -> u32
-    ensures { CallsBytes is_again seat (Take (record { 0 = variable })) room.old.kept room.new.kept result message.old message.new }
+    ensures { CallsBytes is_again seat (Take (record { 0 = variable })) room.old.owned room.new.owned result message.old message.new }
 {
     let call = Call::Take(Name(variable));
     make_call(alloc, room, seat, is_again, call, message)
@@ -155,7 +155,7 @@ pub extern "C" fn seryugo_bytes_take_poll(
     variable: u64,
     message: &mut SeryugoBytes,
 ) -> u32
-    ensures { CallsBytes false seat (TakePoll (record { 0 = variable })) room.old.kept room.new.kept result message.old message.new }
+    ensures { CallsBytes false seat (TakePoll (record { 0 = variable })) room.old.owned room.new.owned result message.old message.new }
 {
     let call = Call::TakePoll(Name(variable));
     make_call(alloc, room, seat, false, call, message)
@@ -173,7 +173,7 @@ pub extern "C" fn seryugo_bytes_swap_from(
     held: &mut SeryugoBytes,
 ) -> u32
     ensures { SwapsBytes is_again seat message.now
-        (Swap (record { 0 = variable }) message.now) room.old.kept room.new.kept result held.old held.new }
+        (Swap (record { 0 = variable }) message.now) room.old.owned room.new.owned result held.old held.new }
 {
-    on_one!(room, Bytes(Room(room)) => swap(alloc, room, seat, is_again, Name(variable), message, held))
+    with_kind!(room, Bytes(Room(room)) => swap(alloc, room, seat, is_again, Name(variable), message, held))
 }

@@ -9,8 +9,8 @@ use crate::blocks::needs_block;
 use crate::code::Code;
 use crate::handle::Handle;
 use crate::keeper::Held;
-use crate::kept::{Kept, Resource, RoomOf, Stocked};
 use crate::messages::{SeryugoBytes, hand_over, new_block, show_short};
+use crate::owned::{Owned, Resource, RoomOf, RoomWithSpare};
 use cml_board::{Bytes, Call, Reply, Response};
 use std::alloc::{AllocError, Global};
 
@@ -24,10 +24,12 @@ pub(crate) fn make_call(
     call: Call<Bytes>,
     given: &mut SeryugoBytes,
 ) -> u32
-    ensures { CallsBytes is_again seat call handle.old.kept handle.new.kept result given.old given.new }
+    ensures { CallsBytes is_again seat call handle.old.owned handle.new.owned result given.old given.new }
 {
     match handle.as_mut() {
-        Kept::Bytes(Resource::Room(room)) => make_in_room(alloc, room, seat, is_again, call, given),
+        Owned::Bytes(Resource::Room(room)) => make_in_room(
+            alloc, room, seat, is_again, call, given,
+        ),
         _ => {
             drop(call);
             Code::WrongHandle.number()
@@ -38,20 +40,20 @@ pub(crate) fn make_call(
 #[inline(always)]
 pub(crate) fn make_in_room(
     alloc: Global,
-    stocked: &mut Stocked<Bytes>,
+    room: &mut RoomWithSpare<Bytes>,
     seat: u64,
     is_again: bool,
     call: Call<Bytes>,
     given: &mut SeryugoBytes,
 ) -> u32
-    ensures { MakesBytes is_again seat call result given.old given.new stocked.old.room stocked.new.room }
+    ensures { MakesBytes is_again seat call result given.old given.new room.old.room room.new.room }
 {
     // The memory that keeps a long message is there first, so that none is received without it.
-    if stock(alloc, &mut stocked.spare).is_err() {
-        return make_without_block(&mut stocked.room, seat, is_again, call, given);
+    if stock(alloc, &mut room.spare).is_err() {
+        return make_without_block(&mut room.room, seat, is_again, call, given);
     }
-    let response = ask(&mut stocked.room, seat, is_again, call);
-    tell(&mut stocked.spare, response, given)
+    let response = ask(&mut room.room, seat, is_again, call);
+    tell(&mut room.spare, response, given)
 }
 
 /// Makes a call though there is no memory to keep a long message. If the call needs some, nothing is changed.

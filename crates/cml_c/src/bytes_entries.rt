@@ -1,14 +1,16 @@
 //! Entries of a journal whose messages are bytes.
-ghost use Rattle.std.specs.Prelude.{◌≡◌, IfOk, option_copied};
+ghost use Rattle.std.specs.Prelude.{◌≡◌, IfOk, option_copied, slice_get};
 ghost use Rattle.cml_board.specs.{message_of};
 ghost use Rattle.cml_c.specs.{call_kind, call_object, count_of, reply_kind, reply_name, reply_message, IsShown, FindsBytes, FindsBytesIn};
-ghost use Rattle.cml_c.specs.{OnBytes, OnRoom};
+ghost use Rattle.cml_c.specs.{FindsBytesAt, entry_sources, OnBytes, OnRoom, OnJournal};
 
 use crate::code::Code;
-use crate::entries::{SeryugoMaker, entry_at, kind_and_object, maker_of, reply_parts};
+use crate::entries::{
+    EntrySource, SeryugoMaker, entry_at, entry_of_place, kind_and_object, maker_of, reply_parts,
+};
 use crate::handle::{Handle, Slot};
-use crate::kept::{Kept, Resource, RoomOf, on_one};
 use crate::messages::place_of;
+use crate::owned::{Owned, Resource, RoomOf, with_kind};
 use cml_board::{Bytes, Call, Entry, Message, Reply};
 use std::alloc::{AllocError, Global};
 use std::ptr;
@@ -49,18 +51,47 @@ pub struct SeryugoBytesEntry {
     pub owner: Slot,
 }
 
-/// Hands over the journal's entry at this position, counted from 0 since the room was opened. Fails with `NoSuch` if there is
-/// none yet, or if it was cut away.
+/// Hands over the entry at this position of a room's journal, or at this place of a taken one. Fails as `seryugo_entry_at` does.
 #[unsafe(no_mangle)]
-pub extern "C" fn seryugo_bytes_entry(
+pub extern "C" fn seryugo_bytes_entry_at(
     alloc: Global,
-    room: &mut Handle,
+    handle: &mut Handle,
+    source: u32,
     at: u64,
     entry: &mut SeryugoBytesEntry,
 ) -> u32
-    ensures { OnBytes (OnRoom (FindsBytesIn at result entry.old entry.new)) (entry.new ≡ entry.old) result room.old.kept room.new.kept }
+    ensures { FindsBytesAt (slice_get entry_sources source) at entry.old entry.new result handle.old.owned handle.new.owned }
 {
-    on_one!(room, Bytes(Room(room)) => find_in(alloc, &mut room.room, at, entry))
+    find(alloc, handle, EntrySource::of(source), at, entry)
+}
+
+fn find(
+    alloc: Global,
+    handle: &mut Handle,
+    source: Option<EntrySource>,
+    at: u64,
+    entry: &mut SeryugoBytesEntry,
+) -> u32
+    ensures { FindsBytesAt source at entry.old entry.new result handle.old.owned handle.new.owned }
+{
+    match source {
+        Some(EntrySource::Room) => find_in_room(alloc, handle, at, entry),
+        Some(EntrySource::Journal) => find_taken(alloc, handle, at, entry),
+        None => Code::OutOfBounds.number(),
+    }
+}
+
+fn find_in_room(alloc: Global, room: &mut Handle, at: u64, entry: &mut SeryugoBytesEntry) -> u32
+    ensures { OnBytes (OnRoom (FindsBytesIn at result entry.old entry.new)) (entry.new ≡ entry.old) result room.old.owned room.new.owned }
+{
+    with_kind!(room, Bytes(Room(room)) => find_in(alloc, &mut room.room, at, entry))
+}
+
+fn find_taken(alloc: Global, journal: &mut Handle, place: u64, entry: &mut SeryugoBytesEntry) -> u32
+    ensures { OnBytes (OnJournal (λ entries. FindsBytes (slice_get entries place) result entry.old entry.new))
+        (entry.new ≡ entry.old) result journal.old.owned journal.new.owned }
+{
+    with_kind!(journal, Bytes(Journal(journal)) => hand_over_found(alloc, entry_of_place(journal, place), entry))
 }
 
 fn find_in(alloc: Global, room: &mut RoomOf<Bytes>, at: u64, entry: &mut SeryugoBytesEntry) -> u32
@@ -70,7 +101,7 @@ fn find_in(alloc: Global, room: &mut RoomOf<Bytes>, at: u64, entry: &mut Seryugo
 }
 
 /// Hands over an entry that was found.
-pub(crate) fn hand_over_found(
+fn hand_over_found(
     alloc: Global,
     found: Option<&Entry<Bytes>>,
     entry: &mut SeryugoBytesEntry,
@@ -98,10 +129,10 @@ fn shown(alloc: Global, entry: &Entry<Bytes>) -> Result<SeryugoBytesEntry, Alloc
         call: entry.call.share(alloc)?,
         reply: share_reply(alloc, &entry.reply)?,
     };
-    let shared = Kept::Bytes(Resource::Entry(Box::new(alloc, shared)?));
+    let shared = Owned::Bytes(Resource::Entry(Box::new(alloc, shared)?));
     let mut owner = Handle::new(alloc, shared)?;
     let (call, reply) = match owner.as_mut() {
-        Kept::Bytes(Resource::Entry(kept)) => (shown_call(&kept.call), shown_reply(&kept.reply)),
+        Owned::Bytes(Resource::Entry(kept)) => (shown_call(&kept.call), shown_reply(&kept.reply)),
         _ => unreachable!(),
     };
     Ok(SeryugoBytesEntry {

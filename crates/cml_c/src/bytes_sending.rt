@@ -8,8 +8,8 @@ use crate::blocks::may_make;
 use crate::bytes_asking::make_in_room;
 use crate::code::Code;
 use crate::handle::Handle;
-use crate::kept::{RoomOf, Stocked, on_one};
 use crate::messages::{SeryugoBytes, copied};
+use crate::owned::{RoomOf, RoomWithSpare, with_kind};
 use crate::sending::Sending;
 use cml_board::{Bytes, Call, Name, Want};
 use std::alloc::Global;
@@ -24,9 +24,9 @@ pub(crate) fn make_sending_call(
     message: &[u8],
     name: &mut u64,
 ) -> u32
-    ensures { FillsBytes seat message.now (sending_call sending message.now) handle.old.kept handle.new.kept result name.old name.new }
+    ensures { FillsBytes seat message.now (sending_call sending message.now) handle.old.owned handle.new.owned result name.old name.new }
 {
-    on_one!(handle, Bytes(Room(room)) => send_in(alloc, &mut room.room, seat, sending, message, name))
+    with_kind!(handle, Bytes(Room(room)) => send_in(alloc, &mut room.room, seat, sending, message, name))
 }
 
 /// Copies a message and makes the call that sends it. The call gives no name.
@@ -38,7 +38,7 @@ pub(crate) fn make_nameless_sending_call(
     sending: Sending,
     message: &[u8],
 ) -> u32
-    ensures { SendsBytes seat message.now (sending_call sending message.now) handle.old.kept handle.new.kept result }
+    ensures { SendsBytes seat message.now (sending_call sending message.now) handle.old.owned handle.new.owned result }
 {
     let mut name = 0;
     make_sending_call(alloc, handle, seat, sending, message, &mut name)
@@ -69,22 +69,22 @@ fn send_in(
 /// Copies a message and makes the call that swaps it for another, and hands that over.
 pub(crate) fn swap(
     alloc: Global,
-    stocked: &mut Stocked<Bytes>,
+    room: &mut RoomWithSpare<Bytes>,
     seat: u64,
     is_again: bool,
     variable: Name,
     message: &[u8],
     held: &mut SeryugoBytes,
 ) -> u32
-    ensures { SwapsCopied is_again seat message.now (Swap variable message.now) result held.old held.new stocked.old.room stocked.new.room }
+    ensures { SwapsCopied is_again seat message.now (Swap variable message.now) result held.old held.new room.old.room room.new.room }
 {
     match copied(alloc, message) {
         Ok(bytes) => {
             let call = Call::Swap(variable, bytes);
-            make_in_room(alloc, stocked, seat, is_again, call, held)
+            make_in_room(alloc, room, seat, is_again, call, held)
         }
         Err(code) => {
-            if may_make(&stocked.room, seat, is_again, Some(Want::Swap(variable))) {
+            if may_make(&room.room, seat, is_again, Some(Want::Swap(variable))) {
                 return code.number();
             }
             Code::Gone.number()

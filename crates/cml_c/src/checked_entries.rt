@@ -7,8 +7,8 @@ use crate::checkers::feed;
 use crate::code::Code;
 use crate::entries::{SeryugoEntry, SeryugoMaker};
 use crate::handle::Handle;
-use crate::kept::{CheckerOf, Kept, Resource, on_one};
 use crate::messages::copied;
+use crate::owned::{CheckerOf, Owned, Resource, with_kind};
 use cml_board::{Ask, Bytes, Call, Entry, Give, Make, Message, Name, Reply, Who};
 use cml_calls::shape_of_filled;
 use std::alloc::Global;
@@ -16,9 +16,9 @@ use std::alloc::Global;
 /// Checks an entry of numbers after those before. What its kind doesn't have is not read.
 #[unsafe(no_mangle)]
 pub extern "C" fn seryugo_checker_feed(checker: &mut Handle, entry: &SeryugoEntry) -> u32
-    ensures { OnNumbers (OnChecker (FeedsEntry (entry_in entry.now) result)) ⊤ result checker.old.kept checker.new.kept }
+    ensures { OnNumbers (OnChecker (FeedsEntry (entry_in entry.now) result)) ⊤ result checker.old.owned checker.new.owned }
 {
-    on_one!(checker, Numbers(Checker(checker)) => feed_number(checker, entry_in(entry)))
+    with_kind!(checker, Numbers(Checker(checker)) => feed_number(checker, entry_in(entry)))
 }
 
 /// Copies an entry of bytes, and checks it after those before. What its kind doesn't have is not read.
@@ -36,7 +36,7 @@ pub extern "C" fn seryugo_bytes_checker_feed_from(
 ) -> u32
     ensures { FeedsParts
         (record { maker = maker.now; call = call; object = object; sent = sent.now; reply = reply; name = name; got = got.now })
-        checker.old.kept checker.new.kept result }
+        checker.old.owned checker.new.owned result }
 {
     let sent = match copied(alloc, sent) {
         Ok(sent) => sent,
@@ -90,11 +90,11 @@ fn feed_number(checker: &mut CheckerOf<u64>, entry: Option<Entry<u64>>) -> u32
     }
 }
 
-fn feed_bytes(checker: &mut Kept, entry: Option<Entry<Bytes>>) -> u32
+fn feed_bytes(checker: &mut Owned, entry: Option<Entry<Bytes>>) -> u32
     ensures { OnBytes (OnChecker (FeedsEntry entry result)) ⊤ result checker.old checker.new }
 {
     match checker {
-        Kept::Bytes(Resource::Checker(checker)) => feed_bytes_to(checker, entry),
+        Owned::Bytes(Resource::Checker(checker)) => feed_bytes_to(checker, entry),
         _ => {
             drop(entry);
             Code::WrongHandle.number()

@@ -1,35 +1,51 @@
 //! Journals are checked: a checker says how far one is a lawful history of one thread.
-ghost use Rattle.std.specs.Prelude.{◌≡◌, IfOk, Ok, ⊤};
+ghost use Rattle.std.specs.Prelude.{◌≡◌, IfOk, Ok, slice_get, ⊤};
 ghost use Rattle.cml_board.specs.{no_entries};
-ghost use Rattle.cml_c.specs.declared.kept.Kept.TheVariants as kept;
-ghost use Rattle.cml_c.specs.{OpensAChecker, FeedsIn, FeedsFrom, FeedsTaken, FeedsJournal, TellsVerdict, told_verdict, OnEither, OnBoth};
+ghost use Rattle.cml_c.specs.declared.owned.Owned.TheVariants as owned;
+ghost use Rattle.cml_c.specs.{OpensAChecker, OpensCheckerOf, FeedsIn, FeedsFrom, FeedsTaken, FeedsJournal, TellsVerdict, told_verdict, OnAnyMessages, OnBoth};
+ghost use Rattle.cml_c.specs.{message_kinds};
 ghost use Rattle.cml_c.specs.{OnChecker};
 
 use crate::code::Code;
 use crate::handle::{Handle, Slot};
-use crate::kept::{CheckerOf, Kept, Resource, on_both, on_either};
+use crate::message_kind::MessageKind;
+use crate::owned::{CheckerOf, Owned, Resource, on_any_messages, on_both};
 use crate::rooms::write_handle;
 use cml_board::{Entry, Message};
 use std::alloc::{AllocError, Global};
 
-/// Opens a checker of journals whose messages are numbers, and writes a handle to it.
+/// Opens a checker of journals with these messages, and writes a handle to it.
 #[unsafe(no_mangle)]
-pub extern "C" fn seryugo_checker_open(alloc: Global, checker: &mut Slot) -> u32
-    ensures { OpensAChecker kept.Numbers result checker.old checker.new }
+pub extern "C" fn seryugo_open_checker(alloc: Global, messages: u32, checker: &mut Slot) -> u32
+    ensures { OpensCheckerOf (slice_get message_kinds messages) result checker.old checker.new }
+{
+    open(alloc, MessageKind::of(messages), checker)
+}
+
+fn open(alloc: Global, messages: Option<MessageKind>, checker: &mut Slot) -> u32
+    ensures { OpensCheckerOf messages result checker.old checker.new }
+{
+    match messages {
+        Some(MessageKind::Numbers) => open_numbers(alloc, checker),
+        Some(MessageKind::Bytes) => open_bytes(alloc, checker),
+        None => Code::OutOfBounds.number(),
+    }
+}
+
+fn open_numbers(alloc: Global, checker: &mut Slot) -> u32
+    ensures { OpensAChecker owned.Numbers result checker.old checker.new }
 {
     match new_checker(alloc) {
-        Ok(opened) => write_handle(alloc, Kept::Numbers(Resource::Checker(opened)), checker),
+        Ok(opened) => write_handle(alloc, Owned::Numbers(Resource::Checker(opened)), checker),
         Err(_) => Code::NoMemory.number(),
     }
 }
 
-/// Opens a checker of journals whose messages are bytes, and writes a handle to it.
-#[unsafe(no_mangle)]
-pub extern "C" fn seryugo_bytes_checker_open(alloc: Global, checker: &mut Slot) -> u32
-    ensures { OpensAChecker kept.Bytes result checker.old checker.new }
+fn open_bytes(alloc: Global, checker: &mut Slot) -> u32
+    ensures { OpensAChecker owned.Bytes result checker.old checker.new }
 {
     match new_checker(alloc) {
-        Ok(opened) => write_handle(alloc, Kept::Bytes(Resource::Checker(opened)), checker),
+        Ok(opened) => write_handle(alloc, Owned::Bytes(Resource::Checker(opened)), checker),
         Err(_) => Code::NoMemory.number(),
     }
 }
@@ -47,7 +63,7 @@ pub extern "C" fn seryugo_checker_feed_journal(
     journal: &mut Handle,
     place: u64,
 ) -> u32
-    ensures { OnBoth (λ M sure. FeedsJournal place) result checker.old.kept checker.new.kept journal.old.kept journal.new.kept }
+    ensures { OnBoth (λ M sure. FeedsJournal place) result checker.old.owned checker.new.owned journal.old.owned journal.new.owned }
 {
     on_both!(checker, journal => feed_journal(checker, journal, place))
 }
@@ -116,10 +132,10 @@ fn code_of_verdict(verdict: Result<(), u64>) -> Code
 /// Writes how many entries were found lawful. Returns `Unlawful` if the entry after them is not.
 #[unsafe(no_mangle)]
 pub extern "C" fn seryugo_checker_verdict(checker: &mut Handle, count: &mut u64) -> u32
-    ensures { OnEither (λ M sure. OnChecker (TellsVerdict result count.new))
-        (count.new ≡ count.old) result checker.old.kept checker.new.kept }
+    ensures { OnAnyMessages (λ M sure. OnChecker (TellsVerdict result count.new))
+        (count.new ≡ count.old) result checker.old.owned checker.new.owned }
 {
-    on_either!(checker, Checker(checker) => tell_verdict(checker, count))
+    on_any_messages!(checker, Checker(checker) => tell_verdict(checker, count))
 }
 
 fn tell_verdict<M: Message>(checker: &mut CheckerOf<M>, count: &mut u64) -> u32

@@ -1,10 +1,10 @@
 //! Which of the waiting seats are due.
 ghost use Rattle.std.specs.Prelude.{◌≡◌, ⊤};
-ghost use Rattle.cml_c.specs.{GivesNext, TellsDue, OnEither, OnRoom};
+ghost use Rattle.cml_c.specs.{GivesNext, TellsDue, OnAnyMessages, OnRoom};
 
 use crate::code::Code;
 use crate::handle::Handle;
-use crate::kept::{RoomOf, on_either};
+use crate::owned::{RoomOf, on_any_messages};
 use crate::telling::write_number;
 use cml_board::Message;
 
@@ -12,9 +12,9 @@ use cml_board::Message;
 /// `Nothing` if each seat that is due was given.
 #[unsafe(no_mangle)]
 pub extern "C" fn seryugo_next_due(room: &mut Handle, seat: &mut u64) -> u32
-    ensures { OnEither (λ M sure. OnRoom (GivesNext result seat.old seat.new)) (seat.new ≡ seat.old) result room.old.kept room.new.kept }
+    ensures { OnAnyMessages (λ M sure. OnRoom (GivesNext result seat.old seat.new)) (seat.new ≡ seat.old) result room.old.owned room.new.owned }
 {
-    on_either!(room, Room(room) => give_next(&mut room.room, seat))
+    on_any_messages!(room, Room(room) => give_next(&mut room.room, seat))
 }
 
 fn give_next<M: Message>(room: &mut RoomOf<M>, seat: &mut u64) -> u32
@@ -29,9 +29,9 @@ fn give_next<M: Message>(room: &mut RoomOf<M>, seat: &mut u64) -> u32
 /// Returns `Done` if a seat is due, and else `Nothing`.
 #[unsafe(no_mangle)]
 pub extern "C" fn seryugo_is_due(room: &mut Handle, seat: u64) -> u32
-    ensures { OnEither (λ M sure. OnRoom (TellsDue seat result)) ⊤ result room.old.kept room.new.kept }
+    ensures { OnAnyMessages (λ M sure. OnRoom (TellsDue seat result)) ⊤ result room.old.owned room.new.owned }
 {
-    on_either!(room, Room(room) => tell_due(&mut room.room, seat))
+    on_any_messages!(room, Room(room) => tell_due(&mut room.room, seat))
 }
 
 fn tell_due<M: Message>(room: &mut RoomOf<M>, seat: u64) -> u32

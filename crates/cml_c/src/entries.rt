@@ -1,11 +1,11 @@
 //! Entries of the journal.
 ghost use Rattle.std.specs.Prelude.{◌≡◌, slice_get, option_copied};
 ghost use Rattle.cml_c.specs.{flat, maker_of, call_of, call_kind, call_object, reply_of, reply_kind, reply_name, reply_message, Finds};
-ghost use Rattle.cml_c.specs.{IsAt, FindsIn, OnNumbers, OnRoom};
+ghost use Rattle.cml_c.specs.{IsAt, FindsIn, FindsAt, entry_sources, OnNumbers, OnRoom, OnJournal};
 
 use crate::code::Code;
 use crate::handle::Handle;
-use crate::kept::{RoomOf, on_one};
+use crate::owned::{RoomOf, with_kind};
 use cml_board::{Call, Entry, Message, Reply, Who};
 
 /// Who made a call: a seat (0), a lane (1) or a feed (2), by its number.
@@ -42,13 +42,63 @@ pub struct SeryugoEntry {
     pub reply: SeryugoReply,
 }
 
-/// Writes the journal's entry at this position, counted from 0 since the room was opened. Fails with `NoSuch` if there is none
-/// yet, or if it was cut away.
+/// Where an entry is looked for.
+#[derive(Clone, Copy)]
+pub enum EntrySource {
+    /// In a room's journal, by its position, counted from 0 since the room was opened.
+    Room,
+    /// In a journal that was taken, by its place, from 0.
+    Journal,
+}
+
+impl EntrySource {
+    /// The source that has this number in the header.
+    pub(crate) fn of(number: u32) -> Option<EntrySource>
+        ensures { result ≡ slice_get entry_sources number }
+    {
+        match number {
+            0 => Some(EntrySource::Room),
+            1 => Some(EntrySource::Journal),
+            _ => None,
+        }
+    }
+}
+
+/// Writes the entry at this position of a room's journal, or at this place of a taken one. Fails with `NoSuch` if there is none, or if it
+/// was cut away, and with `OutOfBounds` if no source has the number.
 #[unsafe(no_mangle)]
-pub extern "C" fn seryugo_entry(room: &mut Handle, at: u64, entry: &mut SeryugoEntry) -> u32
-    ensures { OnNumbers (OnRoom (FindsIn at result entry.old entry.new)) (entry.new ≡ entry.old) result room.old.kept room.new.kept }
+pub extern "C" fn seryugo_entry_at(
+    handle: &mut Handle,
+    source: u32,
+    at: u64,
+    entry: &mut SeryugoEntry,
+) -> u32
+    ensures { FindsAt (slice_get entry_sources source) at entry.old entry.new result handle.old.owned handle.new.owned }
 {
-    on_one!(room, Numbers(Room(room)) => find_in(&mut room.room, at, entry))
+    find(handle, EntrySource::of(source), at, entry)
+}
+
+fn find(handle: &mut Handle, source: Option<EntrySource>, at: u64, entry: &mut SeryugoEntry) -> u32
+    ensures { FindsAt source at entry.old entry.new result handle.old.owned handle.new.owned }
+{
+    match source {
+        Some(EntrySource::Room) => find_in_room(handle, at, entry),
+        Some(EntrySource::Journal) => find_taken(handle, at, entry),
+        None => Code::OutOfBounds.number(),
+    }
+}
+
+fn find_in_room(room: &mut Handle, at: u64, entry: &mut SeryugoEntry) -> u32
+    ensures { OnNumbers (OnRoom (FindsIn at result entry.old entry.new)) (entry.new ≡ entry.old) result room.old.owned room.new.owned }
+{
+    with_kind!(room, Numbers(Room(room)) => find_in(&mut room.room, at, entry))
+}
+
+fn find_taken(journal: &mut Handle, place: u64, entry: &mut SeryugoEntry) -> u32
+    ensures { OnNumbers (OnJournal (λ entries. Finds (slice_get entries place) result entry.old entry.new))
+        (entry.new ≡ entry.old) result journal.old.owned journal.new.owned }
+{
+    with_kind!(journal, Numbers(Journal(journal)) => write_found(entry_of_place(journal, place), entry))
 }
 
 fn find_in(room: &mut RoomOf<u64>, at: u64, entry: &mut SeryugoEntry) -> u32
@@ -76,7 +126,7 @@ pub(crate) fn entry_of_place<M>(journal: &[Entry<M>], place: u64) -> Option<&Ent
 }
 
 /// Writes an entry that was found.
-pub(crate) fn write_found(found: Option<&Entry<u64>>, entry: &mut SeryugoEntry) -> u32
+fn write_found(found: Option<&Entry<u64>>, entry: &mut SeryugoEntry) -> u32
     ensures { Finds (option_copied found.entry) result entry.old entry.new }
 {
     match found {

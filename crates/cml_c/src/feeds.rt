@@ -2,14 +2,14 @@
 ghost use Rattle.std.specs.Prelude.{◌≡◌, ⊤};
 ghost use Rattle.cml_lanes.specs.{Pumps};
 ghost use Rattle.cml_room.specs.{Stirs, MakesNoneDue};
-ghost use Rattle.cml_c.specs.{chunk, Counts, OnEither, OnEitherKept, OnNumbers, OnBytes, OnRoom, OnFeed, OpensFeed, TakesNumber};
+ghost use Rattle.cml_c.specs.{chunk, Counts, OnAnyMessages, OnAnyOwned, OnNumbers, OnBytes, OnRoom, OnFeed, OpensFeed, TakesNumber};
 ghost use Rattle.cml_c.specs.{TakesBytes, TellsPort, EndsFeed};
 
 use crate::code::Code;
 use crate::handle::{Handle, Slot};
-use crate::kept::{Kept, Resource, RoomOf, Sort, for_both, on_either, on_one};
 use crate::lanes::tell_count;
 use crate::messages::{SeryugoBytes, hand_over, new_block};
+use crate::owned::{Owned, Payload, Resource, RoomOf, for_both, on_any_messages, with_kind};
 use crate::rooms::code_of;
 use crate::telling::write_number;
 use cml_board::{Bytes, Message, Name};
@@ -27,14 +27,14 @@ pub extern "C" fn seryugo_feed_open(
     feed: &mut Slot,
     feed_number: &mut u64,
 ) -> u32
-    ensures { OnEitherKept (λ M sure wrap.
+    ensures { OnAnyOwned (λ M sure wrap.
         OnRoom (OpensFeed wrap sure (record { 0 = channel }) capacity feed.old feed.new result feed_number.old feed_number.new))
-        ((feed_number.new ≡ feed_number.old) × (feed.new ≡ feed.old)) result room.old.kept room.new.kept }
+        ((feed_number.new ≡ feed_number.old) × (feed.new ≡ feed.old)) result room.old.owned room.new.owned }
 {
     for_both!(room.as_mut(), resource => open(alloc, resource, Name(channel), capacity, feed, feed_number))
 }
 
-fn open<M: Sort>(
+fn open<M: Payload>(
     alloc: Global,
     resource: &mut Resource<M>,
     channel: Name,
@@ -42,7 +42,7 @@ fn open<M: Sort>(
     feed: &mut Slot,
     feed_number: &mut u64,
 ) -> u32
-    ensures { OnRoom (OpensFeed M.KEPT M.SURE channel capacity feed.old feed.new result feed_number.old feed_number.new)
+    ensures { OnRoom (OpensFeed M.OWNED M.SURE channel capacity feed.old feed.new result feed_number.old feed_number.new)
         ((feed_number.new ≡ feed_number.old) × (feed.new ≡ feed.old)) result resource.old resource.new }
 {
     match resource {
@@ -58,7 +58,7 @@ fn open<M: Sort>(
     }
 }
 
-fn open_in<M: Sort>(
+fn open_in<M: Payload>(
     alloc: Global,
     room: &mut RoomOf<M>,
     channel: Name,
@@ -66,18 +66,18 @@ fn open_in<M: Sort>(
     feed: &mut Slot,
     feed_number: &mut u64,
 ) -> u32
-    ensures { OpensFeed M.KEPT M.SURE channel capacity feed.old feed.new result feed_number.old feed_number.new room.old room.new }
+    ensures { OpensFeed M.OWNED M.SURE channel capacity feed.old feed.new result feed_number.old feed_number.new room.old room.new }
 {
     if capacity < 1 || capacity > MAX_CAPACITY {
         return Code::OutOfBounds.number();
     }
     // The handle's memory is taken first, so that no feed is open without one.
-    let Ok(mut handle) = Handle::new(alloc, Kept::Numbers(Resource::Spent)) else {
+    let Ok(mut handle) = Handle::new(alloc, Owned::Numbers(Resource::Spent)) else {
         return Code::NoMemory.number();
     };
     match room.open_feed(channel, capacity) {
         Ok((opened, number)) => {
-            handle.set(M::keep_feed(opened));
+            handle.set(M::own_feed(opened));
             *feed = handle.into_slot();
             *feed_number = number;
             Code::Done.number()
@@ -89,10 +89,10 @@ fn open_in<M: Sort>(
 /// Receives what an open feed is owed into its ring, while that has a free slot, and writes how many messages.
 #[unsafe(no_mangle)]
 pub extern "C" fn seryugo_feed_pump(room: &mut Handle, feed_number: u64, count: &mut u64) -> u32
-    ensures { OnEither (λ M sure. OnRoom (Counts (Pumps chunk sure feed_number) (Stirs MakesNoneDue) result count.old count.new))
-        (count.new ≡ count.old) result room.old.kept room.new.kept }
+    ensures { OnAnyMessages (λ M sure. OnRoom (Counts (Pumps chunk sure feed_number) (Stirs MakesNoneDue) result count.old count.new))
+        (count.new ≡ count.old) result room.old.owned room.new.owned }
 {
-    on_either!(room, Room(room) => pump(&mut room.room, feed_number, count))
+    on_any_messages!(room, Room(room) => pump(&mut room.room, feed_number, count))
 }
 
 fn pump<M: Message>(room: &mut RoomOf<M>, feed_number: u64, count: &mut u64) -> u32
@@ -105,9 +105,9 @@ fn pump<M: Message>(room: &mut RoomOf<M>, feed_number: u64, count: &mut u64) -> 
 #[unsafe(no_mangle)]
 pub extern "C" fn seryugo_feed_recv(feed: &mut Handle, message: &mut u64) -> u32
     ensures { OnNumbers (OnFeed (TakesNumber result message.old message.new))
-        (message.new ≡ message.old) result feed.old.kept feed.new.kept }
+        (message.new ≡ message.old) result feed.old.owned feed.new.owned }
 {
-    on_one!(feed, Numbers(Feed(feed)) => match feed.recv() {
+    with_kind!(feed, Numbers(Feed(feed)) => match feed.recv() {
         Some(taken) => write_number(taken, message),
         None => Code::Nothing.number(),
     })
@@ -120,9 +120,9 @@ pub extern "C" fn seryugo_bytes_feed_recv(
     feed: &mut Handle,
     message: &mut SeryugoBytes,
 ) -> u32
-    ensures { OnBytes (OnFeed (TakesBytes result message.old message.new)) (message.new ≡ message.old) result feed.old.kept feed.new.kept }
+    ensures { OnBytes (OnFeed (TakesBytes result message.old message.new)) (message.new ≡ message.old) result feed.old.owned feed.new.owned }
 {
-    on_one!(feed, Bytes(Feed(feed)) => take_bytes(alloc, feed, message))
+    with_kind!(feed, Bytes(Feed(feed)) => take_bytes(alloc, feed, message))
 }
 
 fn take_bytes(alloc: Global, feed: &mut Feed<Bytes>, message: &mut SeryugoBytes) -> u32
@@ -144,17 +144,17 @@ fn take_bytes(alloc: Global, feed: &mut Feed<Bytes>, message: &mut SeryugoBytes)
 /// Writes the name of a feed's port.
 #[unsafe(no_mangle)]
 pub extern "C" fn seryugo_feed_port(feed: &mut Handle, port: &mut u64) -> u32
-    ensures { OnEither (λ M sure. OnFeed (TellsPort result port.new)) (port.new ≡ port.old) result feed.old.kept feed.new.kept }
+    ensures { OnAnyMessages (λ M sure. OnFeed (TellsPort result port.new)) (port.new ≡ port.old) result feed.old.owned feed.new.owned }
 {
-    on_either!(feed, Feed(feed) => write_number(feed.port().0, port))
+    on_any_messages!(feed, Feed(feed) => write_number(feed.port().0, port))
 }
 
 /// Ends an open feed for good: nothing more is pumped into it. What is left in it can still be taken.
 #[unsafe(no_mangle)]
 pub extern "C" fn seryugo_feed_end(room: &mut Handle, feed_number: u64) -> u32
-    ensures { OnEither (λ M sure. OnRoom (EndsFeed feed_number result)) ⊤ result room.old.kept room.new.kept }
+    ensures { OnAnyMessages (λ M sure. OnRoom (EndsFeed feed_number result)) ⊤ result room.old.owned room.new.owned }
 {
-    on_either!(room, Room(room) => end(&mut room.room, feed_number))
+    on_any_messages!(room, Room(room) => end(&mut room.room, feed_number))
 }
 
 fn end<M: Message>(room: &mut RoomOf<M>, feed_number: u64) -> u32

@@ -1,10 +1,10 @@
 //! What C holds: where a room, a lane or a feed lies.
 ghost use Rattle.std.specs.Prelude.{◌≡◌, Option, Some, IfOk};
-ghost use Rattle.cml_c.specs.declared.kept.Kept.{Kept};
-ghost use Rattle.cml_c.specs.Owning.{kept_coded, slot_coded};
-ghost use Rattle.cml_c.specs.contracts.kept.Kept.{the_row as kept_row};
+ghost use Rattle.cml_c.specs.declared.owned.Owned.{Owned};
+ghost use Rattle.cml_c.specs.Owning.{owned_coded, slot_coded};
+ghost use Rattle.cml_c.specs.contracts.owned.Owned.{the_row as owned_row};
 
-use crate::kept::Kept;
+use crate::owned::Owned;
 use crate::raw::Loose;
 use std::alloc::{AllocError, Global};
 use std::marker::{Model, Send};
@@ -15,31 +15,31 @@ use std::mem;
 pub struct Handle {
     at: *mut u8,
     alloc: Global,
-    pub ghost kept: { Kept } by { kept_coded kept_row },
+    pub ghost owned: { Owned } by { owned_coded owned_row },
 }
 
 impl Model for Handle {
-    ghost use Rattle.cml_c.specs.contracts.kept.Kept.{the_row as kept_row};
+    ghost use Rattle.cml_c.specs.contracts.owned.Owned.{the_row as owned_row};
     ghost use Rattle.cml_c.specs.Owning.{handle_owns};
 
-    ghost also_owns = { λ handle. handle_owns kept_row handle.alloc handle.at handle.kept };
+    ghost also_owns = { λ handle. handle_owns owned_row handle.alloc handle.at handle.owned };
 }
 
-/// Where a handle is written. What C had there before is forgotten; once a handle was written, C has one there, and `kept` is
+/// Where a handle is written. What C had there before is forgotten; once a handle was written, C has one there, and `owned` is
 /// what it leads to.
 #[repr(C)]
 #[derive(Drop)]
 pub struct Slot {
     at: *mut u8,
     alloc: Global,
-    pub ghost kept: { Option Kept } by { slot_coded kept_row },
+    pub ghost owned: { Option Owned } by { slot_coded owned_row },
 }
 
 impl Model for Slot {
-    ghost use Rattle.cml_c.specs.contracts.kept.Kept.{the_row as kept_row};
+    ghost use Rattle.cml_c.specs.contracts.owned.Owned.{the_row as owned_row};
     ghost use Rattle.cml_c.specs.Owning.{slot_owns};
 
-    ghost also_owns = { λ slot. slot_owns kept_row slot.alloc slot.at slot.kept };
+    ghost also_owns = { λ slot. slot_owns owned_row slot.alloc slot.at slot.owned };
 }
 
 unsafe impl Send for Handle {}
@@ -55,45 +55,45 @@ impl Handle {
     ghost use Rattle.cml_c.specs.Lending.{handle_follows};
 
     /// Makes a handle to this. Fails only for want of memory, and then drops it.
-    pub(crate) fn new(alloc: Global, kept: Kept) -> Result<Handle, AllocError>
-        ensures { IfOk result (λ handle. handle.kept ≡ kept) }
+    pub(crate) fn new(alloc: Global, owned: Owned) -> Result<Handle, AllocError>
+        ensures { IfOk result (λ handle. handle.owned ≡ owned) }
     {
-        Ok(Handle::of(Loose::of(Box::new(alloc, kept)?)))
+        Ok(Handle::of(Loose::of(Box::new(alloc, owned)?)))
     }
 
     /// Returns what it leads to, and frees the handle's memory.
-    pub(crate) fn into_kept(self) -> Kept
-        ensures { result ≡ self.kept }
+    pub(crate) fn into_owned(self) -> Owned
+        ensures { result ≡ self.owned }
     {
         Box::into_inner(self.into_box())
     }
 
     /// Hands the handle to C: the slot, written into C's memory, is a handle there.
     pub(crate) fn into_slot(self) -> Slot
-        ensures { result.kept ≡ Some self.kept }
+        ensures { result.owned ≡ Some self.owned }
     {
         let Handle { at, alloc } = self;
         Slot { at, alloc }
     }
 
     /// Lets it lead to this. What it led to before is dropped.
-    pub(crate) fn set(&mut self, kept: Kept)
-        ensures { self.new.kept ≡ kept }
+    pub(crate) fn set(&mut self, owned: Owned)
+        ensures { self.new.owned ≡ owned }
     {
-        drop(mem::replace(self.as_mut(), kept));
+        drop(mem::replace(self.as_mut(), owned));
     }
 
     /// Lends what it leads to.
     #[inline]
-    pub(crate) fn as_mut(&mut self) -> &mut Kept
+    pub(crate) fn as_mut(&mut self) -> &mut Owned
         ensures* writes_back { sem 𝓛 (handle_follows self.entry result) }
-        ensures value { result.now ≡ self.old.kept }
+        ensures value { result.now ≡ self.old.owned }
     {
-        unsafe { &mut *(self.at as *mut Kept) }
+        unsafe { &mut *(self.at as *mut Owned) }
     }
 
-    fn of(loose: Loose<Kept, Global>) -> Handle
-        ensures { result.kept ≡ loose.content }
+    fn of(loose: Loose<Owned, Global>) -> Handle
+        ensures { result.owned ≡ loose.content }
     {
         let Loose { at, alloc } = loose;
         Handle {
@@ -102,10 +102,10 @@ impl Handle {
         }
     }
 
-    fn into_box(self) -> Box<Kept, Global>
-        ensures { result.value ≡ self.kept }
+    fn into_box(self) -> Box<Owned, Global>
+        ensures { result.value ≡ self.owned }
     {
         let Handle { at, alloc } = self;
-        unsafe { Box::from_raw(alloc, at as *mut Kept) }
+        unsafe { Box::from_raw(alloc, at as *mut Owned) }
     }
 }

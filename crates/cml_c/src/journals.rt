@@ -1,14 +1,13 @@
-//! The journal: memory that is reserved for it, and its cuts.
+//! The journal: memory that is reserved for it, its cuts, and what is taken out of it.
 ghost use Rattle.std.specs.Prelude.{◌≡◌, slice_get, ⊤};
 ghost use Rattle.cml_room.specs.{KeepsSeats};
-ghost use Rattle.cml_c.specs.{Finds, FindsBytes, Does, OnEither, OnEitherKept, OnNumbers, OnBytes, OnRoom, OnJournal, ReservesSome};
-ghost use Rattle.cml_c.specs.{CutsOpen, CutsReserved, TakesJournal, TakesJournalOpen};
+ghost use Rattle.cml_c.specs.{Does, OnAnyMessages, OnAnyOwned, OnRoom, ReservesSome, CutsBy, CutsOpen, CutsReserved, TakesJournal};
+ghost use Rattle.cml_c.specs.{TakesJournalOpen, TakesBy, TakesOn, takings};
 
-use crate::bytes_entries::{SeryugoBytesEntry, hand_over_found};
 use crate::code::Code;
-use crate::entries::{SeryugoEntry, entry_of_place, write_found};
 use crate::handle::{Handle, Slot};
-use crate::kept::{Kept, Resource, RoomOf, Sort, for_both, on_either, on_one};
+use crate::owned::{Owned, Payload, Resource, RoomOf, for_both, on_any_messages};
+use crate::room_compacting::compact_in;
 use crate::rooms::code_of;
 use cml_board::Message;
 use std::alloc::Global;
@@ -16,9 +15,9 @@ use std::alloc::Global;
 /// Reserves memory for `entries` more entries.
 #[unsafe(no_mangle)]
 pub extern "C" fn seryugo_reserve(room: &mut Handle, entries: usize) -> u32
-    ensures { OnEither (λ M sure. OnRoom (Does (ReservesSome entries) KeepsSeats result)) ⊤ result room.old.kept room.new.kept }
+    ensures { OnAnyMessages (λ M sure. OnRoom (Does (ReservesSome entries) KeepsSeats result)) ⊤ result room.old.owned room.new.owned }
 {
-    on_either!(room, Room(room) => reserve(&mut room.room, entries))
+    on_any_messages!(room, Room(room) => reserve(&mut room.room, entries))
 }
 
 fn reserve<M: Message>(room: &mut RoomOf<M>, entries: usize) -> u32
@@ -27,26 +26,28 @@ fn reserve<M: Message>(room: &mut RoomOf<M>, entries: usize) -> u32
     code_of(room.reserve(entries))
 }
 
-/// Cuts the journal: drops its entries, so that it takes as many again. Keeps the reserved memory.
+/// Cuts the journal: drops its entries, so that it takes as many again. Keeps the reserved memory. If `is_open`, lanes and feeds may be
+/// open, and it is never refused.
 #[unsafe(no_mangle)]
-pub extern "C" fn seryugo_cut(room: &mut Handle) -> u32
-    ensures { OnEither (λ M sure. OnRoom (Does CutsReserved KeepsSeats result)) ⊤ result room.old.kept room.new.kept }
+pub extern "C" fn seryugo_cut_by(room: &mut Handle, is_open: bool) -> u32
+    ensures { OnAnyMessages (λ M sure. OnRoom (CutsBy is_open result)) ⊤ result room.old.owned room.new.owned }
 {
-    on_either!(room, Room(room) => cut(&mut room.room))
+    on_any_messages!(room, Room(room) => cut_by(&mut room.room, is_open))
+}
+
+fn cut_by<M: Message>(room: &mut RoomOf<M>, is_open: bool) -> u32
+    ensures { CutsBy is_open result room.old room.new }
+{
+    match is_open {
+        true => cut_open(room),
+        false => cut(room),
+    }
 }
 
 fn cut<M: Message>(room: &mut RoomOf<M>) -> u32
     ensures { Does CutsReserved KeepsSeats result room.old room.new }
 {
     code_of(room.cut())
-}
-
-/// Cuts the journal while lanes and feeds are open, and is never refused. Keeps the reserved memory.
-#[unsafe(no_mangle)]
-pub extern "C" fn seryugo_cut_open(room: &mut Handle) -> u32
-    ensures { OnEither (λ M sure. OnRoom (CutsOpen result)) ⊤ result room.old.kept room.new.kept }
-{
-    on_either!(room, Room(room) => cut_open(&mut room.room))
 }
 
 fn cut_open<M: Message>(room: &mut RoomOf<M>) -> u32
@@ -56,46 +57,126 @@ fn cut_open<M: Message>(room: &mut RoomOf<M>) -> u32
     Code::Done.number()
 }
 
-/// Cuts the journal, and writes a handle to the entries that it had, and how many they are. The reserved memory goes with them.
-#[unsafe(no_mangle)]
-pub extern "C" fn seryugo_take_journal(
-    alloc: Global,
-    room: &mut Handle,
-    journal: &mut Slot,
-    count: &mut u64,
-) -> u32
-    ensures { OnEitherKept (λ M sure wrap. OnRoom (TakesJournal wrap journal.old journal.new result count.old count.new))
-        ((count.new ≡ count.old) × (journal.new ≡ journal.old)) result room.old.kept room.new.kept }
-{
-    for_both!(room.as_mut(), resource => take(alloc, resource, journal, count))
+/// What becomes of the journal that a handle is written to.
+#[derive(Clone, Copy)]
+pub enum Taking {
+    /// The entries are taken out of the room's journal, which is cut.
+    Cut,
+    /// They are taken while lanes and feeds are open.
+    CutOpen,
+    /// A short journal is made, and the room stays as it was.
+    Short,
+    /// A short journal is made, and the room's journal is cut while lanes and feeds are open.
+    ShortAndCut,
 }
 
-fn take<M: Sort>(
+impl Taking {
+    /// The taking that has this number in the header.
+    fn of(number: u32) -> Option<Taking>
+        ensures { result ≡ slice_get takings number }
+    {
+        match number {
+            0 => Some(Taking::Cut),
+            1 => Some(Taking::CutOpen),
+            2 => Some(Taking::Short),
+            3 => Some(Taking::ShortAndCut),
+            _ => None,
+        }
+    }
+}
+
+/// Writes a handle to a journal of the room, and how many entries it has: to those since the last cut, whose memory goes with them, or to
+/// a short journal that leaves what all calls of the room leave. `OutOfBounds`: no taking has the number.
+#[unsafe(no_mangle)]
+pub extern "C" fn seryugo_take_by(
     alloc: Global,
-    resource: &mut Resource<M>,
+    room: &mut Handle,
+    taking: u32,
     journal: &mut Slot,
     count: &mut u64,
 ) -> u32
-    ensures { OnRoom (TakesJournal M.KEPT journal.old journal.new result count.old count.new)
+    ensures { TakesOn (slice_get takings taking) journal.old journal.new count.old count.new result room.old.owned room.new.owned }
+{
+    take(alloc, room, Taking::of(taking), journal, count)
+}
+
+fn take(
+    alloc: Global,
+    room: &mut Handle,
+    taking: Option<Taking>,
+    journal: &mut Slot,
+    count: &mut u64,
+) -> u32
+    ensures { TakesOn taking journal.old journal.new count.old count.new result room.old.owned room.new.owned }
+{
+    match taking {
+        Some(taking) => take_by(alloc, room, taking, journal, count),
+        None => Code::OutOfBounds.number(),
+    }
+}
+
+fn take_by(
+    alloc: Global,
+    room: &mut Handle,
+    taking: Taking,
+    journal: &mut Slot,
+    count: &mut u64,
+) -> u32
+    ensures { OnAnyOwned (λ M sure wrap. OnRoom (TakesBy taking wrap journal.old journal.new result count.old count.new))
+        ((count.new ≡ count.old) × (journal.new ≡ journal.old)) result room.old.owned room.new.owned }
+{
+    for_both!(room.as_mut(), resource => take_from(alloc, resource, taking, journal, count))
+}
+
+fn take_from<M: Payload>(
+    alloc: Global,
+    resource: &mut Resource<M>,
+    taking: Taking,
+    journal: &mut Slot,
+    count: &mut u64,
+) -> u32
+    ensures { OnRoom (TakesBy taking M.OWNED journal.old journal.new result count.old count.new)
         ((count.new ≡ count.old) × (journal.new ≡ journal.old)) result resource.old resource.new }
 {
     match resource {
-        Resource::Room(room) => take_in(alloc, &mut room.room, journal, count),
+        Resource::Room(room) => take_of(alloc, &mut room.room, taking, journal, count),
         _ => Code::WrongHandle.number(),
     }
 }
 
-fn take_in<M: Sort>(alloc: Global, room: &mut RoomOf<M>, journal: &mut Slot, count: &mut u64) -> u32
-    ensures { TakesJournal M.KEPT journal.old journal.new result count.old count.new room.old room.new }
+fn take_of<M: Payload>(
+    alloc: Global,
+    room: &mut RoomOf<M>,
+    taking: Taking,
+    journal: &mut Slot,
+    count: &mut u64,
+) -> u32
+    ensures { TakesBy taking M.OWNED journal.old journal.new result count.old count.new room.old room.new }
+{
+    match taking {
+        Taking::Cut => take_in(alloc, room, journal, count),
+        Taking::CutOpen => take_open_in(alloc, room, journal, count),
+        Taking::Short => compact_in(alloc, room, false, journal, count),
+        Taking::ShortAndCut => compact_in(alloc, room, true, journal, count),
+    }
+}
+
+fn take_in<M: Payload>(
+    alloc: Global,
+    room: &mut RoomOf<M>,
+    journal: &mut Slot,
+    count: &mut u64,
+) -> u32
+    ensures { TakesJournal M.OWNED journal.old journal.new result count.old count.new room.old room.new }
 {
     // The handle's memory is taken first, so that no entries are taken without one.
-    let Ok(mut handle) = Handle::new(alloc, Kept::Numbers(Resource::Spent)) else {
+    let Ok(mut handle) = Handle::new(alloc, Owned::Numbers(Resource::Spent)) else {
         return Code::NoMemory.number();
     };
     match room.take_journal() {
         Ok(entries) => {
             *count = entries.len() as u64;
-            handle.set(M::keep_journal(entries));
+            handle.set(M::own_journal(entries));
             *journal = handle.into_slot();
             Code::Done.number()
         }
@@ -103,78 +184,21 @@ fn take_in<M: Sort>(alloc: Global, room: &mut RoomOf<M>, journal: &mut Slot, cou
     }
 }
 
-/// Cuts the journal as `seryugo_cut_open` does, and writes a handle to the entries that it had, and how many they are. The reserved
-/// memory goes with them.
-#[unsafe(no_mangle)]
-pub extern "C" fn seryugo_take_journal_open(
-    alloc: Global,
-    room: &mut Handle,
-    journal: &mut Slot,
-    count: &mut u64,
-) -> u32
-    ensures { OnEitherKept (λ M sure wrap. OnRoom (TakesJournalOpen wrap journal.old journal.new result count.old count.new))
-        ((count.new ≡ count.old) × (journal.new ≡ journal.old)) result room.old.kept room.new.kept }
-{
-    for_both!(room.as_mut(), resource => take_open(alloc, resource, journal, count))
-}
-
-fn take_open<M: Sort>(
-    alloc: Global,
-    resource: &mut Resource<M>,
-    journal: &mut Slot,
-    count: &mut u64,
-) -> u32
-    ensures { OnRoom (TakesJournalOpen M.KEPT journal.old journal.new result count.old count.new)
-        ((count.new ≡ count.old) × (journal.new ≡ journal.old)) result resource.old resource.new }
-{
-    match resource {
-        Resource::Room(room) => take_open_in(alloc, &mut room.room, journal, count),
-        _ => Code::WrongHandle.number(),
-    }
-}
-
-fn take_open_in<M: Sort>(
+fn take_open_in<M: Payload>(
     alloc: Global,
     room: &mut RoomOf<M>,
     journal: &mut Slot,
     count: &mut u64,
 ) -> u32
-    ensures { TakesJournalOpen M.KEPT journal.old journal.new result count.old count.new room.old room.new }
+    ensures { TakesJournalOpen M.OWNED journal.old journal.new result count.old count.new room.old room.new }
 {
     // As in `take_in`: no entries are taken without a handle.
-    let Ok(mut handle) = Handle::new(alloc, Kept::Numbers(Resource::Spent)) else {
+    let Ok(mut handle) = Handle::new(alloc, Owned::Numbers(Resource::Spent)) else {
         return Code::NoMemory.number();
     };
     let entries = room.take_journal_open();
     *count = entries.len() as u64;
-    handle.set(M::keep_journal(entries));
+    handle.set(M::own_journal(entries));
     *journal = handle.into_slot();
     Code::Done.number()
-}
-
-/// Writes the entry of this place, from 0, of a journal that was taken. Fails with `NoSuch` after the last one.
-#[unsafe(no_mangle)]
-pub extern "C" fn seryugo_taken_entry(
-    journal: &mut Handle,
-    place: u64,
-    entry: &mut SeryugoEntry,
-) -> u32
-    ensures { OnNumbers (OnJournal (λ entries. Finds (slice_get entries place) result entry.old entry.new))
-        (entry.new ≡ entry.old) result journal.old.kept journal.new.kept }
-{
-    on_one!(journal, Numbers(Journal(journal)) => write_found(entry_of_place(journal, place), entry))
-}
-
-/// Hands over the entry of this place, from 0, of a journal that was taken. Fails with `NoSuch` after the last one.
-#[unsafe(no_mangle)]
-pub extern "C" fn seryugo_bytes_taken_entry(
-    alloc: Global,
-    journal: &mut Handle,
-    place: u64,
-    entry: &mut SeryugoBytesEntry,
-) -> u32
-    ensures { OnBytes (OnJournal (λ entries. FindsBytes (slice_get entries place) result entry.old entry.new))
-        (entry.new ≡ entry.old) result journal.old.kept journal.new.kept }
-{
-    on_one!(journal, Bytes(Journal(journal)) => hand_over_found(alloc, entry_of_place(journal, place), entry))
 }

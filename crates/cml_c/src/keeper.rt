@@ -1,7 +1,7 @@
 //! What C holds of a message of more than 78 bytes.
 ghost use Rattle.std.specs.Prelude.{◌≡◌, Option, Some};
 ghost use Rattle.cml_c.specs.declared.keeper.Held.{Held};
-ghost use Rattle.cml_c.specs.Owning.{kept_coded, slot_coded};
+ghost use Rattle.cml_c.specs.Owning.{owned_coded, slot_coded};
 ghost use Rattle.cml_c.specs.contracts.keeper.Held.{the_row as held_row};
 
 use crate::raw::Loose;
@@ -20,7 +20,7 @@ pub struct Held {
 pub struct Keeper {
     at: *mut u8,
     alloc: Global,
-    pub ghost kept: { Held } by { kept_coded held_row },
+    pub ghost kept: { Held } by { owned_coded held_row },
 }
 
 impl Model for Keeper {

@@ -3,15 +3,17 @@ ghost use Rattle.std.specs.Prelude.{◌≡◌, ⊤};
 ghost use Rattle.cml_lanes.specs.{Drains, Abandons};
 ghost use Rattle.cml_room.specs.{Stirs, MakesFewByOne, MakesNoneDue};
 ghost use Rattle.cml_c.specs.Codes.{told_outcome};
-ghost use Rattle.cml_c.specs.{number, written_count, chunk, Does, Counts, OnEither, OnEitherKept, OnNumbers, OnBytes, OnBoth, OnRoom};
+ghost use Rattle.cml_c.specs.{number, written_count, chunk, Does, Counts, OnAnyMessages, OnAnyOwned, OnNumbers, OnBytes, OnBoth, OnRoom};
 ghost use Rattle.cml_c.specs.{OpensLane, Sends, SendsCopied, Finishes, Closes, ClosesLane, ClosesEnd, DropsLane, told_sent, told_dropped};
 ghost use Rattle.cml_c.specs.{written_dropped};
 ghost use Rattle.cml_c.specs.Lanes.{SendsBytes};
 
 use crate::code::Code;
 use crate::handle::{Handle, Slot};
-use crate::kept::{Kept, Resource, RoomOf, Sort, for_both, on_both, on_either, on_one};
 use crate::messages::copied;
+use crate::owned::{
+    Owned, Payload, Resource, RoomOf, for_both, on_any_messages, on_both, with_kind,
+};
 use crate::rooms::code_of;
 use crate::telling::write_number;
 use cml_board::{Bytes, Message, Name, Refusal};
@@ -29,14 +31,14 @@ pub extern "C" fn seryugo_lane_open(
     lane: &mut Slot,
     lane_number: &mut u64,
 ) -> u32
-    ensures { OnEitherKept
+    ensures { OnAnyOwned
         (λ M sure wrap. OnRoom (OpensLane wrap (record { 0 = target }) capacity lane.old lane.new result lane_number.old lane_number.new))
-        ((lane_number.new ≡ lane_number.old) × (lane.new ≡ lane.old)) result room.old.kept room.new.kept }
+        ((lane_number.new ≡ lane_number.old) × (lane.new ≡ lane.old)) result room.old.owned room.new.owned }
 {
     for_both!(room.as_mut(), resource => open(alloc, resource, Name(target), capacity, lane, lane_number))
 }
 
-fn open<M: Sort>(
+fn open<M: Payload>(
     alloc: Global,
     resource: &mut Resource<M>,
     target: Name,
@@ -44,7 +46,7 @@ fn open<M: Sort>(
     lane: &mut Slot,
     lane_number: &mut u64,
 ) -> u32
-    ensures { OnRoom (OpensLane M.KEPT target capacity lane.old lane.new result lane_number.old lane_number.new)
+    ensures { OnRoom (OpensLane M.OWNED target capacity lane.old lane.new result lane_number.old lane_number.new)
         ((lane_number.new ≡ lane_number.old) × (lane.new ≡ lane.old)) result resource.old resource.new }
 {
     match resource {
@@ -53,7 +55,7 @@ fn open<M: Sort>(
     }
 }
 
-fn open_in<M: Sort>(
+fn open_in<M: Payload>(
     alloc: Global,
     room: &mut RoomOf<M>,
     target: Name,
@@ -61,18 +63,18 @@ fn open_in<M: Sort>(
     lane: &mut Slot,
     lane_number: &mut u64,
 ) -> u32
-    ensures { OpensLane M.KEPT target capacity lane.old lane.new result lane_number.old lane_number.new room.old room.new }
+    ensures { OpensLane M.OWNED target capacity lane.old lane.new result lane_number.old lane_number.new room.old room.new }
 {
     if capacity < 1 || capacity > MAX_CAPACITY {
         return Code::OutOfBounds.number();
     }
     // The handle's memory is taken first, so that no lane is open without one.
-    let Ok(mut handle) = Handle::new(alloc, Kept::Numbers(Resource::Spent)) else {
+    let Ok(mut handle) = Handle::new(alloc, Owned::Numbers(Resource::Spent)) else {
         return Code::NoMemory.number();
     };
     match room.open_lane(target, capacity) {
         Ok((opened, number)) => {
-            handle.set(M::keep_lane(opened));
+            handle.set(M::own_lane(opened));
             *lane = handle.into_slot();
             *lane_number = number;
             Code::Done.number()
@@ -84,9 +86,9 @@ fn open_in<M: Sort>(
 /// Sends a number on a lane, which takes no lock. Fails with `Full` if no free slot is seen.
 #[unsafe(no_mangle)]
 pub extern "C" fn seryugo_lane_send(lane: &mut Handle, message: u64) -> u32
-    ensures { OnNumbers (Sends message result) ⊤ result lane.old.kept lane.new.kept }
+    ensures { OnNumbers (Sends message result) ⊤ result lane.old.owned lane.new.owned }
 {
-    on_one!(lane, Numbers(Lane(lane)) => tell_sent(lane.send(message)))
+    with_kind!(lane, Numbers(Lane(lane)) => tell_sent(lane.send(message)))
 }
 
 /// Copies a message, and sends it on a lane, which takes no lock. Fails with `Full` if no free slot is seen.
@@ -96,9 +98,9 @@ pub extern "C" fn seryugo_bytes_lane_send_from(
     lane: &mut Handle,
     message: &[u8],
 ) -> u32
-    ensures { SendsBytes message.now lane.old.kept lane.new.kept result }
+    ensures { SendsBytes message.now lane.old.owned lane.new.owned result }
 {
-    on_one!(lane, Bytes(Lane(lane)) => send_copy(alloc, lane, message))
+    with_kind!(lane, Bytes(Lane(lane)) => send_copy(alloc, lane, message))
 }
 
 fn send_copy(alloc: Global, lane: &mut Lane<Bytes>, message: &[u8]) -> u32
@@ -123,7 +125,7 @@ fn tell_sent<T: Drop>(outcome: Result<(), T>) -> u32
 /// Ends a lane: nothing more is sent on it. Fails with `Gone` if its room has dropped it before.
 #[unsafe(no_mangle)]
 pub extern "C" fn seryugo_lane_finish(lane: &mut Handle) -> u32
-    ensures { OnEither (λ M sure. Finishes) ⊤ result lane.old.kept lane.new.kept }
+    ensures { OnAnyMessages (λ M sure. Finishes) ⊤ result lane.old.owned lane.new.owned }
 {
     for_both!(lane.as_mut(), resource => finish(resource))
 }
@@ -146,7 +148,7 @@ fn finish<M: Message>(resource: &mut Resource<M>) -> u32
 /// as were sent on it. Otherwise its handle is as it was.
 #[unsafe(no_mangle)]
 pub extern "C" fn seryugo_lane_close(room: &mut Handle, lane: &mut Handle) -> u32
-    ensures { OnBoth (λ M sure. Closes sure) result room.old.kept room.new.kept lane.old.kept lane.new.kept }
+    ensures { OnBoth (λ M sure. Closes sure) result room.old.owned room.new.owned lane.old.owned lane.new.owned }
 {
     on_both!(room, lane => close(room, lane))
 }
@@ -184,10 +186,10 @@ fn close_end<M: Message>(room: &mut RoomOf<M>, end: LaneEnd<M>) -> (Resource<M>,
 /// Moves the messages that it sees on an open lane into the journal, and writes how many.
 #[unsafe(no_mangle)]
 pub extern "C" fn seryugo_lane_drain(room: &mut Handle, lane_number: u64, count: &mut u64) -> u32
-    ensures { OnEither (λ M sure. OnRoom (Counts (Drains chunk sure lane_number) (Stirs MakesFewByOne) result count.old count.new))
-        (count.new ≡ count.old) result room.old.kept room.new.kept }
+    ensures { OnAnyMessages (λ M sure. OnRoom (Counts (Drains chunk sure lane_number) (Stirs MakesFewByOne) result count.old count.new))
+        (count.new ≡ count.old) result room.old.owned room.new.owned }
 {
-    on_either!(room, Room(room) => drain(&mut room.room, lane_number, count))
+    on_any_messages!(room, Room(room) => drain(&mut room.room, lane_number, count))
 }
 
 fn drain<M: Message>(room: &mut RoomOf<M>, lane_number: u64, count: &mut u64) -> u32
@@ -200,10 +202,10 @@ fn drain<M: Message>(room: &mut RoomOf<M>, lane_number: u64, count: &mut u64) ->
 /// if one was, but not the first.
 #[unsafe(no_mangle)]
 pub extern "C" fn seryugo_lane_drop(room: &mut Handle, lane_number: u64, count: &mut u64) -> u32
-    ensures { OnEither (λ M sure. OnRoom (DropsLane sure lane_number result count.old count.new))
-        (count.new ≡ count.old) result room.old.kept room.new.kept }
+    ensures { OnAnyMessages (λ M sure. OnRoom (DropsLane sure lane_number result count.old count.new))
+        (count.new ≡ count.old) result room.old.owned room.new.owned }
 {
-    on_either!(room, Room(room) => drop_lane(&mut room.room, lane_number, count))
+    on_any_messages!(room, Room(room) => drop_lane(&mut room.room, lane_number, count))
 }
 
 fn drop_lane<M: Message>(room: &mut RoomOf<M>, lane_number: u64, count: &mut u64) -> u32
@@ -230,9 +232,9 @@ fn tell_dropped(outcome: Result<(usize, bool), Refusal>, count: &mut u64) -> u32
 /// Closes an open lane at once, and drops the messages left on it.
 #[unsafe(no_mangle)]
 pub extern "C" fn seryugo_lane_abandon(room: &mut Handle, lane_number: u64) -> u32
-    ensures { OnEither (λ M sure. OnRoom (Does (Abandons lane_number) (Stirs MakesNoneDue) result)) ⊤ result room.old.kept room.new.kept }
+    ensures { OnAnyMessages (λ M sure. OnRoom (Does (Abandons lane_number) (Stirs MakesNoneDue) result)) ⊤ result room.old.owned room.new.owned }
 {
-    on_either!(room, Room(room) => abandon(&mut room.room, lane_number))
+    on_any_messages!(room, Room(room) => abandon(&mut room.room, lane_number))
 }
 
 fn abandon<M: Message>(room: &mut RoomOf<M>, lane_number: u64) -> u32

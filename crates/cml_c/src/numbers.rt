@@ -10,7 +10,7 @@ use cml_board::{Call, Name};
 /// Sends a message to a mailbox.
 #[unsafe(no_mangle)]
 pub extern "C" fn seryugo_send(room: &mut Handle, seat: u64, mailbox: u64, message: u64) -> u32
-    ensures { CallsPlain false seat (Send (record { 0 = mailbox }) message) room.old.kept room.new.kept result }
+    ensures { CallsPlain false seat (Send (record { 0 = mailbox }) message) room.old.owned room.new.owned result }
 {
     make_plain_call(room, seat, Call::Send(Name(mailbox), message))
 }
@@ -18,7 +18,7 @@ pub extern "C" fn seryugo_send(room: &mut Handle, seat: u64, mailbox: u64, messa
 /// Sends a message to every port of a channel.
 #[unsafe(no_mangle)]
 pub extern "C" fn seryugo_multicast(room: &mut Handle, seat: u64, channel: u64, message: u64) -> u32
-    ensures { CallsPlain false seat (Cast (record { 0 = channel }) message) room.old.kept room.new.kept result }
+    ensures { CallsPlain false seat (Cast (record { 0 = channel }) message) room.old.owned room.new.owned result }
 {
     make_plain_call(room, seat, Call::Cast(Name(channel), message))
 }
@@ -33,7 +33,7 @@ pub extern "C" fn seryugo_recv(
     is_again: bool,
     message: &mut u64,
 ) -> u32
-    ensures { Calls is_again seat (Recv (record { 0 = source })) room.old.kept room.new.kept result message.old message.new }
+    ensures { Calls is_again seat (Recv (record { 0 = source })) room.old.owned room.new.owned result message.old message.new }
 {
     make_call(room, seat, is_again, Call::Recv(Name(source)), message)
 }
@@ -46,7 +46,7 @@ pub extern "C" fn seryugo_recv_poll(
     source: u64,
     message: &mut u64,
 ) -> u32
-    ensures { Calls false seat (Poll (record { 0 = source })) room.old.kept room.new.kept result message.old message.new }
+    ensures { Calls false seat (Poll (record { 0 = source })) room.old.owned room.new.owned result message.old message.new }
 {
     make_call(room, seat, false, Call::Poll(Name(source)), message)
 }
@@ -59,7 +59,7 @@ pub extern "C" fn seryugo_mvar_init(
     message: u64,
     variable: &mut u64,
 ) -> u32
-    ensures { Calls false seat (MVarInit message) room.old.kept room.new.kept result variable.old variable.new }
+    ensures { Calls false seat (MVarInit message) room.old.owned room.new.owned result variable.old variable.new }
 {
     make_call(room, seat, false, Call::MVarInit(message), variable)
 }
@@ -67,7 +67,7 @@ pub extern "C" fn seryugo_mvar_init(
 /// Fills an empty variable.
 #[unsafe(no_mangle)]
 pub extern "C" fn seryugo_put(room: &mut Handle, seat: u64, variable: u64, message: u64) -> u32
-    ensures { CallsPlain false seat (Put (record { 0 = variable }) message) room.old.kept room.new.kept result }
+    ensures { CallsPlain false seat (Put (record { 0 = variable }) message) room.old.owned room.new.owned result }
 {
     make_plain_call(room, seat, Call::Put(Name(variable), message))
 }
@@ -81,7 +81,7 @@ pub extern "C" fn seryugo_get(
     is_again: bool,
     message: &mut u64,
 ) -> u32
-    ensures { Calls is_again seat (Get (record { 0 = variable })) room.old.kept room.new.kept result message.old message.new }
+    ensures { Calls is_again seat (Get (record { 0 = variable })) room.old.owned room.new.owned result message.old message.new }
 {
     make_call(room, seat, is_again, Call::Get(Name(variable)), message)
 }
@@ -94,7 +94,7 @@ pub extern "C" fn seryugo_get_poll(
     variable: u64,
     message: &mut u64,
 ) -> u32
-    ensures { Calls false seat (GetPoll (record { 0 = variable })) room.old.kept room.new.kept result message.old message.new }
+    ensures { Calls false seat (GetPoll (record { 0 = variable })) room.old.owned room.new.owned result message.old message.new }
 {
     make_call(room, seat, false, Call::GetPoll(Name(variable)), message)
 }
@@ -108,7 +108,7 @@ pub extern "C" fn seryugo_take(
     is_again: bool,
     message: &mut u64,
 ) -> u32
-    ensures { Calls is_again seat (Take (record { 0 = variable })) room.old.kept room.new.kept result message.old message.new }
+    ensures { Calls is_again seat (Take (record { 0 = variable })) room.old.owned room.new.owned result message.old message.new }
 {
     make_call(room, seat, is_again, Call::Take(Name(variable)), message)
 }
@@ -121,7 +121,7 @@ pub extern "C" fn seryugo_take_poll(
     variable: u64,
     message: &mut u64,
 ) -> u32
-    ensures { Calls false seat (TakePoll (record { 0 = variable })) room.old.kept room.new.kept result message.old message.new }
+    ensures { Calls false seat (TakePoll (record { 0 = variable })) room.old.owned room.new.owned result message.old message.new }
 {
     make_call(room, seat, false, Call::TakePoll(Name(variable)), message)
 }
@@ -136,7 +136,7 @@ pub extern "C" fn seryugo_swap(
     is_again: bool,
     held: &mut u64,
 ) -> u32
-    ensures { Calls is_again seat (Swap (record { 0 = variable }) message) room.old.kept room.new.kept result held.old held.new }
+    ensures { Calls is_again seat (Swap (record { 0 = variable }) message) room.old.owned room.new.owned result held.old held.new }
 {
     let call = Call::Swap(Name(variable), message);
     make_call(room, seat, is_again, call, held)

@@ -4,23 +4,23 @@ ghost use Rattle.cml_c.specs.{Names, NamesNothing};
 
 use crate::asking::tell_name;
 use crate::handle::Handle;
-use crate::kept::on_either;
+use crate::owned::on_any_messages;
 use cml_board::{Call, Name};
 
 /// Makes a mailbox, and writes its name.
 #[unsafe(no_mangle)]
 pub extern "C" fn seryugo_new_mailbox(room: &mut Handle, seat: u64, mailbox: &mut u64) -> u32
-    ensures { Names seat (λ M. NewMailbox) room.old.kept room.new.kept result mailbox.old mailbox.new }
+    ensures { Names seat (λ M. NewMailbox) room.old.owned room.new.owned result mailbox.old mailbox.new }
 {
-    on_either!(room, Room(room) => tell_name(room.room.call(seat, Call::NewMailbox), mailbox))
+    on_any_messages!(room, Room(room) => tell_name(room.room.call(seat, Call::NewMailbox), mailbox))
 }
 
 /// Makes a channel, and writes its name.
 #[unsafe(no_mangle)]
 pub extern "C" fn seryugo_new_channel(room: &mut Handle, seat: u64, channel: &mut u64) -> u32
-    ensures { Names seat (λ M. NewChannel) room.old.kept room.new.kept result channel.old channel.new }
+    ensures { Names seat (λ M. NewChannel) room.old.owned room.new.owned result channel.old channel.new }
 {
-    on_either!(room, Room(room) => tell_name(room.room.call(seat, Call::NewChannel), channel))
+    on_any_messages!(room, Room(room) => tell_name(room.room.call(seat, Call::NewChannel), channel))
 }
 
 /// Makes a port of a channel, which receives what is multicast from now on, and writes its name.
@@ -31,46 +31,46 @@ pub extern "C" fn seryugo_new_port(
     channel: u64,
     port: &mut u64,
 ) -> u32
-    ensures { Names seat (λ M. NewPort (record { 0 = channel })) room.old.kept room.new.kept result port.old port.new }
+    ensures { Names seat (λ M. NewPort (record { 0 = channel })) room.old.owned room.new.owned result port.old port.new }
 {
-    on_either!(room, Room(room) => tell_name(room.room.call(seat, Call::NewPort(Name(channel))), port))
+    on_any_messages!(room, Room(room) => tell_name(room.room.call(seat, Call::NewPort(Name(channel))), port))
 }
 
 /// Makes a port at this port's place, and writes its name.
 #[unsafe(no_mangle)]
 pub extern "C" fn seryugo_copy_port(room: &mut Handle, seat: u64, port: u64, copy: &mut u64) -> u32
-    ensures { Names seat (λ M. CopyPort (record { 0 = port })) room.old.kept room.new.kept result copy.old copy.new }
+    ensures { Names seat (λ M. CopyPort (record { 0 = port })) room.old.owned room.new.owned result copy.old copy.new }
 {
-    on_either!(room, Room(room) => tell_name(room.room.call(seat, Call::CopyPort(Name(port))), copy))
+    on_any_messages!(room, Room(room) => tell_name(room.room.call(seat, Call::CopyPort(Name(port))), copy))
 }
 
 /// Closes a port.
 #[unsafe(no_mangle)]
 pub extern "C" fn seryugo_close_port(room: &mut Handle, seat: u64, port: u64) -> u32
-    ensures { NamesNothing seat (λ M. ClosePort (record { 0 = port })) room.old.kept room.new.kept result }
+    ensures { NamesNothing seat (λ M. ClosePort (record { 0 = port })) room.old.owned room.new.owned result }
 {
     let mut name = 0;
     close_port(room, seat, Name(port), &mut name)
 }
 
 fn close_port(room: &mut Handle, seat: u64, port: Name, name: &mut u64) -> u32
-    ensures { Names seat (λ M. ClosePort port) room.old.kept room.new.kept result name.old name.new }
+    ensures { Names seat (λ M. ClosePort port) room.old.owned room.new.owned result name.old name.new }
 {
-    on_either!(room, Room(room) => tell_name(room.room.call(seat, Call::ClosePort(port)), name))
+    on_any_messages!(room, Room(room) => tell_name(room.room.call(seat, Call::ClosePort(port)), name))
 }
 
 /// Makes an empty i-variable, and writes its name.
 #[unsafe(no_mangle)]
 pub extern "C" fn seryugo_new_ivar(room: &mut Handle, seat: u64, variable: &mut u64) -> u32
-    ensures { Names seat (λ M. NewIVar) room.old.kept room.new.kept result variable.old variable.new }
+    ensures { Names seat (λ M. NewIVar) room.old.owned room.new.owned result variable.old variable.new }
 {
-    on_either!(room, Room(room) => tell_name(room.room.call(seat, Call::NewIVar), variable))
+    on_any_messages!(room, Room(room) => tell_name(room.room.call(seat, Call::NewIVar), variable))
 }
 
 /// Makes an empty m-variable, and writes its name.
 #[unsafe(no_mangle)]
 pub extern "C" fn seryugo_new_mvar(room: &mut Handle, seat: u64, variable: &mut u64) -> u32
-    ensures { Names seat (λ M. NewMVar) room.old.kept room.new.kept result variable.old variable.new }
+    ensures { Names seat (λ M. NewMVar) room.old.owned room.new.owned result variable.old variable.new }
 {
-    on_either!(room, Room(room) => tell_name(room.room.call(seat, Call::NewMVar), variable))
+    on_any_messages!(room, Room(room) => tell_name(room.room.call(seat, Call::NewMVar), variable))
 }

@@ -1,38 +1,56 @@
 //! A journal's text is read back, and checked as it comes.
-ghost use Rattle.std.specs.Prelude.{◌≡◌, [], IfOk, ⊤};
+ghost use Rattle.std.specs.Prelude.{◌≡◌, [], IfOk, slice_get};
 ghost use Rattle.cml_journal.specs.{IsSoFar};
-ghost use Rattle.cml_c.specs.declared.kept.Kept.TheVariants as kept;
-ghost use Rattle.cml_c.specs.{number, OnEither, OnReading, OpensNumbers, OpensBytes, TakesPart, Tells, TellsEnd, EndsSo, entries_read};
-ghost use Rattle.cml_c.specs.{lines_read, told_halt};
-ghost use Rattle.cml_c.specs.ReadJournals.{Takes};
+ghost use Rattle.cml_c.specs.{number, OpensNumbers, OpensBytes, OpensReadingOf, TakesPart, TellsState, TellsThis, IsTold, EndsSo, told_halt};
+ghost use Rattle.cml_c.specs.{message_kinds};
+ghost use Rattle.cml_c.specs.ReadJournals.{Takes, reading_states};
 
 use crate::code::Code;
 use crate::handle::{Handle, Slot};
-use crate::kept::{CheckOf, Kept, Resource, on_either};
+use crate::message_kind::MessageKind;
+use crate::owned::{CheckOf, Owned, Resource, on_any_messages};
 use crate::rooms::write_handle;
 use crate::telling::write_number;
 use cml_board::Message;
 use cml_journal::{Halt, Written};
 use std::alloc::{AllocError, Global};
 
-/// Opens a reading of a journal whose messages are numbers, and writes a handle to it.
+/// Opens a reading of a journal with these messages, and writes a handle to it.
 #[unsafe(no_mangle)]
-pub extern "C" fn seryugo_reading_open(alloc: Global, reading: &mut Slot) -> u32
+pub extern "C" fn seryugo_open_reading(alloc: Global, messages: u32, reading: &mut Slot) -> u32
+    ensures { OpensReadingOf (slice_get message_kinds messages) result reading.old reading.new }
+{
+    open(alloc, MessageKind::of(messages), reading)
+}
+
+fn open(alloc: Global, messages: Option<MessageKind>, reading: &mut Slot) -> u32
+    ensures { OpensReadingOf messages result reading.old reading.new }
+{
+    match messages {
+        Some(MessageKind::Numbers) => open_numbers(alloc, reading),
+        Some(MessageKind::Bytes) => open_bytes(alloc, reading),
+        None => Code::OutOfBounds.number(),
+    }
+}
+
+fn open_numbers(alloc: Global, reading: &mut Slot) -> u32
     ensures { OpensNumbers result reading.old reading.new }
 {
     match new_reading(alloc) {
-        Ok(opened) => write_handle(alloc, Kept::Numbers(Resource::Reading(opened)), reading),
+        Ok(opened) => write_handle(
+            alloc,
+            Owned::Numbers(Resource::JournalCheck(opened)),
+            reading,
+        ),
         Err(_) => Code::NoMemory.number(),
     }
 }
 
-/// Opens a reading of a journal whose messages are bytes, and writes a handle to it.
-#[unsafe(no_mangle)]
-pub extern "C" fn seryugo_bytes_reading_open(alloc: Global, reading: &mut Slot) -> u32
+fn open_bytes(alloc: Global, reading: &mut Slot) -> u32
     ensures { OpensBytes result reading.old reading.new }
 {
     match new_reading(alloc) {
-        Ok(opened) => write_handle(alloc, Kept::Bytes(Resource::Reading(opened)), reading),
+        Ok(opened) => write_handle(alloc, Owned::Bytes(Resource::JournalCheck(opened)), reading),
         Err(_) => Code::NoMemory.number(),
     }
 }
@@ -46,9 +64,9 @@ fn new_reading<M: Message + Written>(alloc: Global) -> Result<Box<CheckOf<M>>, A
 /// Reads the next part of a journal's text, and checks the entries whose lines end there.
 #[unsafe(no_mangle)]
 pub extern "C" fn seryugo_reading_take_from(reading: &mut Handle, text: &[u8]) -> u32
-    ensures { TakesPart text.now result reading.old.kept reading.new.kept }
+    ensures { TakesPart text.now result reading.old.owned reading.new.owned }
 {
-    on_either!(reading, Reading(reading) => take_part(reading, text))
+    on_any_messages!(reading, JournalCheck(reading) => take_part(reading, text))
 }
 
 fn take_part<M: Message + Written>(reading: &mut CheckOf<M>, text: &[u8]) -> u32
@@ -71,31 +89,67 @@ pub(crate) fn code_of_halt(halt: Halt) -> Code
     }
 }
 
-/// Writes how many entries were read and are lawful.
-#[unsafe(no_mangle)]
-pub extern "C" fn seryugo_reading_entries(reading: &mut Handle, count: &mut u64) -> u32
-    ensures { OnEither (λ M sure. OnReading (Tells entries_read result count.new))
-        (count.new ≡ count.old) result reading.old.kept reading.new.kept }
-{
-    on_either!(reading, Reading(reading) => write_number(reading.entries(), count))
+/// What is read off a reading.
+#[derive(Clone, Copy)]
+pub enum ReadingState {
+    /// How many entries were read and are lawful.
+    Entries,
+    /// How many lines were read to their ends, modulo 2^64.
+    Lines,
+    /// Whether the text so far is a whole journal.
+    End,
 }
 
-/// Writes how many lines were read to their ends, modulo 2^64.
-#[unsafe(no_mangle)]
-pub extern "C" fn seryugo_reading_lines(reading: &mut Handle, lines: &mut u64) -> u32
-    ensures { OnEither (λ M sure. OnReading (Tells lines_read result lines.new))
-        (lines.new ≡ lines.old) result reading.old.kept reading.new.kept }
-{
-    on_either!(reading, Reading(reading) => write_number(reading.lines(), lines))
+impl ReadingState {
+    /// The state that has this number in the header.
+    fn of(number: u32) -> Option<ReadingState>
+        ensures { result ≡ slice_get reading_states number }
+    {
+        match number {
+            0 => Some(ReadingState::Entries),
+            1 => Some(ReadingState::Lines),
+            2 => Some(ReadingState::End),
+            _ => None,
+        }
+    }
 }
 
-/// Whether the text so far is a whole journal. Fails with `Torn` if its last piece has no end, or with what the reading
-/// stopped by.
+/// Writes how many entries or lines were read. Or says whether the text so far is a whole journal, and writes nothing: it fails with
+/// `Torn` if the last piece has no end, or with what the reading stopped by. `OutOfBounds`: no state has the number `what`.
 #[unsafe(no_mangle)]
-pub extern "C" fn seryugo_reading_end(reading: &mut Handle) -> u32
-    ensures { TellsEnd result reading.old.kept reading.new.kept }
+pub extern "C" fn seryugo_reading_state(reading: &mut Handle, what: u32, number: &mut u64) -> u32
+    ensures { TellsState (slice_get reading_states what) number.old number.new result reading.old.owned reading.new.owned }
 {
-    on_either!(reading, Reading(reading) => tell_end(reading))
+    tell(reading, ReadingState::of(what), number)
+}
+
+fn tell(reading: &mut Handle, state: Option<ReadingState>, number: &mut u64) -> u32
+    ensures { TellsState state number.old number.new result reading.old.owned reading.new.owned }
+{
+    match state {
+        Some(state) => tell_by(reading, state, number),
+        None => Code::OutOfBounds.number(),
+    }
+}
+
+fn tell_by(reading: &mut Handle, state: ReadingState, number: &mut u64) -> u32
+    ensures { TellsThis state number.old number.new result reading.old.owned reading.new.owned }
+{
+    on_any_messages!(reading, JournalCheck(reading) => tell_state(reading, state, number))
+}
+
+fn tell_state<M: Message + Written>(
+    reading: &mut CheckOf<M>,
+    state: ReadingState,
+    number: &mut u64,
+) -> u32
+    ensures { IsTold M.VERSION M.meaning state number.old number.new result reading.old reading.new }
+{
+    match state {
+        ReadingState::Entries => write_number(reading.entries(), number),
+        ReadingState::Lines => write_number(reading.lines(), number),
+        ReadingState::End => tell_end(reading),
+    }
 }
 
 fn tell_end<M: Message + Written>(reading: &mut CheckOf<M>) -> u32

@@ -4,7 +4,7 @@ ghost use Rattle.cml_c.specs.{number, told_halt, IsRoomOn, OpensOn, Restores, Re
 
 use crate::code::Code;
 use crate::handle::{Handle, Slot};
-use crate::kept::{CheckOf, Kept, LogOf, Resource, Sort, Stocked, for_both};
+use crate::owned::{CheckOf, LogOf, Owned, Payload, Resource, RoomWithSpare, for_both};
 use crate::read_journals::code_of_halt;
 use crate::rooms::{MOST, write_handle};
 use cml_board::Restored;
@@ -21,21 +21,21 @@ pub extern "C" fn seryugo_room_restore(
     limit: u64,
     room: &mut Slot,
 ) -> u32
-    ensures { RestoresKept limit room.old room.new result reading.old.kept reading.new.kept }
+    ensures { RestoresKept limit room.old room.new result reading.old.owned reading.new.owned }
 {
     for_both!(reading.as_mut(), resource => restore(alloc, resource, limit, room))
 }
 
-fn restore<M: Sort + Written>(
+fn restore<M: Payload + Written>(
     alloc: Global,
     resource: &mut Resource<M>,
     limit: u64,
     room: &mut Slot,
 ) -> u32
-    ensures { Restores M.VERSION M.meaning M.KEPT limit room.old room.new result resource.old resource.new }
+    ensures { Restores M.VERSION M.meaning M.OWNED limit room.old room.new result resource.old resource.new }
 {
     let (left, code) = match mem::replace(resource, Resource::Spent) {
-        Resource::Reading(reading) => restore_by(alloc, reading, limit, room),
+        Resource::JournalCheck(reading) => restore_by(alloc, reading, limit, room),
         other => (other, Code::WrongHandle.number()),
     };
     *resource = left;
@@ -43,55 +43,55 @@ fn restore<M: Sort + Written>(
 }
 
 /// What a reading's handle leads to then, and the code that tells it.
-fn restore_by<M: Sort + Written>(
+fn restore_by<M: Payload + Written>(
     alloc: Global,
     mut reading: Box<CheckOf<M>>,
     limit: u64,
     room: &mut Slot,
 ) -> (Resource<M>, u32)
-    ensures { RestoresBy M.VERSION M.meaning M.KEPT limit room.old room.new reading result.0 result.1 }
+    ensures { RestoresBy M.VERSION M.meaning M.OWNED limit room.old room.new reading result.0 result.1 }
 {
     if limit < 1 || limit > MOST {
-        return (Resource::Reading(reading), Code::OutOfBounds.number());
+        return (Resource::JournalCheck(reading), Code::OutOfBounds.number());
     }
     if let Some(halt) = reading.halt() {
         return (left_of(reading, halt), code_of_halt(halt).number());
     }
     match reading.restore(limit) {
         Some(restored) => (Resource::Spent, open(alloc, restored, room)),
-        None => (Resource::Reading(reading), Code::Unlawful.number()),
+        None => (Resource::JournalCheck(reading), Code::Unlawful.number()),
     }
 }
 
 /// What is left of a reading that stopped so: nothing, if there was no memory.
-pub(crate) fn left_of<M: Sort>(reading: Box<CheckOf<M>>, halt: Halt) -> Resource<M>
+pub(crate) fn left_of<M: Payload>(reading: Box<CheckOf<M>>, halt: Halt) -> Resource<M>
     ensures { result ≡ left_halted reading halt }
 {
     match halt {
         Halt::NoMemory => Resource::Spent,
-        _ => Resource::Reading(reading),
+        _ => Resource::JournalCheck(reading),
     }
 }
 
 /// Opens a room on this board, and writes a handle to it.
-fn open<M: Sort>(alloc: Global, restored: Restored<M, LogOf<M>>, room: &mut Slot) -> u32
-    ensures { OpensOn M.KEPT restored room.old room.new result }
+fn open<M: Payload>(alloc: Global, restored: Restored<M, LogOf<M>>, room: &mut Slot) -> u32
+    ensures { OpensOn M.OWNED restored room.old room.new result }
 {
     match new_room(alloc, restored) {
-        Ok(opened) => write_handle(alloc, M::keep_room(opened), room),
+        Ok(opened) => write_handle(alloc, M::own_room(opened), room),
         Err(_) => Code::NoMemory.number(),
     }
 }
 
-fn new_room<M: Sort>(
+fn new_room<M: Payload>(
     alloc: Global,
     restored: Restored<M, LogOf<M>>,
-) -> Result<Box<Stocked<M>>, AllocError>
+) -> Result<Box<RoomWithSpare<M>>, AllocError>
     ensures { IfOk result (λ room. IsRoomOn restored room.value.room) }
 {
     Ok(Box::new(
         alloc,
-        Stocked {
+        RoomWithSpare {
             room: Room::restore(alloc, restored)?,
             spare: None,
         },

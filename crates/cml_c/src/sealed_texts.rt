@@ -5,8 +5,8 @@ ghost use Rattle.cml_c.specs.{HandsSealed, HandsSealedJournal, IsSum, IsUnwritte
 
 use crate::code::Code;
 use crate::handle::Handle;
-use crate::kept::{CheckOf, on_either};
 use crate::messages::{SeryugoBytes, hand_over_new};
+use crate::owned::{CheckOf, on_any_messages};
 use cml_board::{Bytes, Entry, Message};
 use cml_journal::{Sum, Unwritten, Written, add_sealed_piece};
 use std::alloc::Global;
@@ -29,9 +29,9 @@ pub extern "C" fn seryugo_sealed_text(
     sum: &mut SeryugoSum,
     text: &mut SeryugoBytes,
 ) -> u32
-    ensures { HandsSealedJournal from sum.old sum.new text.old text.new result journal.old.kept journal.new.kept }
+    ensures { HandsSealedJournal from sum.old sum.new text.old text.new result journal.old.owned journal.new.owned }
 {
-    on_either!(journal, Journal(journal) => hand_over_sealed(alloc, journal, from, sum, text))
+    on_any_messages!(journal, Journal(journal) => hand_over_sealed(alloc, journal, from, sum, text))
 }
 
 fn hand_over_sealed<M: Message + Written>(
@@ -112,9 +112,9 @@ fn shown(sum: Option<Sum>) -> SeryugoSum
 /// with `Nothing` if the text has no sums, or if its last line is a header.
 #[unsafe(no_mangle)]
 pub extern "C" fn seryugo_reading_sum(reading: &mut Handle, sum: &mut SeryugoSum) -> u32
-    ensures { TellsSum sum.old sum.new result reading.old.kept reading.new.kept }
+    ensures { TellsSum sum.old sum.new result reading.old.owned reading.new.owned }
 {
-    on_either!(reading, Reading(reading) => tell_sum(reading, sum))
+    on_any_messages!(reading, JournalCheck(reading) => tell_sum(reading, sum))
 }
 
 fn tell_sum<M: Message + Written>(reading: &CheckOf<M>, sum: &mut SeryugoSum) -> u32

@@ -1,7 +1,7 @@
 //! The codes of what was found.
 ghost use Rattle.std.specs.Prelude.{◌≡◌, MatchBool, option_map, option_copied};
 ghost use Rattle.cml_c.specs.declared.code.Code.TheVariants.{Done, JournalFull};
-ghost use Rattle.cml_c.specs.{number, told_found, written_found, told_held, written_held, told_open};
+ghost use Rattle.cml_c.specs.{number, told_found, written_found, told_held, written_held};
 
 use crate::code::Code;
 
@@ -33,16 +33,6 @@ pub fn tell_held(found: Option<Option<&u64>>, given: &mut u64) -> u32
     match found {
         Some(Some(message)) => write_number(*message, given),
         Some(None) => Code::Nothing.number(),
-        None => Code::NoSuch.number(),
-    }
-}
-
-pub fn tell_open(found: Option<bool>) -> u32
-    ensures { result ≡ number (told_open found) }
-{
-    match found {
-        Some(true) => Code::Done.number(),
-        Some(false) => Code::Closed.number(),
         None => Code::NoSuch.number(),
     }
 }

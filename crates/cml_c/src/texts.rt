@@ -5,8 +5,8 @@ ghost use Rattle.cml_c.specs.{HandsText, HandsJournal, IsUnwritten};
 
 use crate::code::Code;
 use crate::handle::Handle;
-use crate::kept::on_either;
 use crate::messages::{SeryugoBytes, hand_over_new};
+use crate::owned::on_any_messages;
 use cml_board::{Bytes, Entry, Message};
 use cml_journal::{Unwritten, Written, add_piece};
 use std::alloc::Global;
@@ -19,9 +19,9 @@ pub extern "C" fn seryugo_journal_text(
     from: u64,
     text: &mut SeryugoBytes,
 ) -> u32
-    ensures { HandsJournal from text.old text.new result journal.old.kept journal.new.kept }
+    ensures { HandsJournal from text.old text.new result journal.old.owned journal.new.owned }
 {
-    on_either!(journal, Journal(journal) => hand_over_text(alloc, journal, from, text))
+    on_any_messages!(journal, Journal(journal) => hand_over_text(alloc, journal, from, text))
 }
 
 fn hand_over_text<M: Message + Written>(

@@ -8,7 +8,7 @@ use crate::message::carries::{Bytes, Carries, MessageKind, Seal};
 use crate::message::received::{RawEntry, Received};
 use crate::message::sent_as::{Encoded, SentAs};
 use crate::message::Message;
-use crate::raw::{Handle, Opening};
+use crate::raw::{EntrySource, Handle, Messages};
 
 impl MessageKind for Bytes {
     type Message = Vec<u8>;
@@ -50,13 +50,7 @@ impl Calls for Bytes {
         kept
     }
 
-    fn open(limit: u64, room: &mut Opening) -> u32 {
-        seryugo_bytes_room_open(limit, room)
-    }
-
-    fn open_reading(reading: &mut Opening) -> u32 {
-        seryugo_bytes_reading_open(reading)
-    }
+    const MESSAGES: Messages = Messages::Bytes;
 
     #[inline]
     fn give(call: Give, room: &mut Handle, seat: u64, object: u64, message: &[u8]) -> u32 {
@@ -141,18 +135,12 @@ impl Calls for Bytes {
         explore::bytes_of(word)
     }
 
-    fn entry(room: &mut Handle, at: u64) -> Result<Entry<Bytes>, Error> {
-        RawEntry::copied(|entry| seryugo_bytes_entry(room, at, entry))
-    }
-
-    fn taken_entry(journal: &mut Handle, place: u64) -> Result<Entry<Bytes>, Error> {
-        RawEntry::copied(|entry| seryugo_bytes_taken_entry(journal, place, entry))
+    fn entry(handle: &mut Handle, source: EntrySource, at: u64) -> Result<Entry<Bytes>, Error> {
+        RawEntry::copied(|entry| seryugo_bytes_entry_at(handle, source, at, entry))
     }
 }
 
 unsafe extern "C" {
-    safe fn seryugo_bytes_room_open(limit: u64, room: &mut Opening) -> u32;
-    safe fn seryugo_bytes_reading_open(reading: &mut Opening) -> u32;
     fn seryugo_bytes_send_from(
         room: &mut Handle,
         seat: u64,
@@ -232,10 +220,10 @@ unsafe extern "C" {
     safe fn seryugo_bytes_held(room: &mut Handle, variable: u64, message: &mut Received) -> u32;
     fn seryugo_bytes_lane_send_from(lane: &mut Handle, at: *const u8, length: usize) -> u32;
     safe fn seryugo_bytes_feed_recv(feed: &mut Handle, message: &mut Received) -> u32;
-    safe fn seryugo_bytes_entry(room: &mut Handle, at: u64, entry: &mut RawEntry) -> u32;
-    safe fn seryugo_bytes_taken_entry(
-        journal: &mut Handle,
-        place: u64,
+    safe fn seryugo_bytes_entry_at(
+        handle: &mut Handle,
+        source: EntrySource,
+        at: u64,
         entry: &mut RawEntry,
     ) -> u32;
 }

@@ -3,7 +3,7 @@
 use crate::error::Error;
 use crate::journal::entry::Entry;
 use crate::message::carries::{Carries, MessageKind};
-use crate::raw::{done, Handle, Opening};
+use crate::raw::{done, EntrySource, Handle, Messages};
 
 /// A call that gives an object a message.
 #[derive(Clone, Copy)]
@@ -36,8 +36,9 @@ pub trait Calls: Sized {
 
     fn sent(kept: &Self::OwnedMessage) -> Self::Sent<'_>;
 
-    fn open(limit: u64, room: &mut Opening) -> u32;
-    fn open_reading(reading: &mut Opening) -> u32;
+    /// Which messages the library is asked for.
+    const MESSAGES: Messages;
+
     fn give(call: Give, room: &mut Handle, seat: u64, object: u64, message: Self::Sent<'_>) -> u32;
     /// A call that may block.
     fn ask(
@@ -76,13 +77,8 @@ pub trait Calls: Sized {
     where
         Self: MessageKind;
 
-    /// The entry at a position of a room's journal.
-    fn entry(room: &mut Handle, at: u64) -> Result<Entry<Self>, Error>
-    where
-        Self: MessageKind;
-
-    /// The entry at a place of a taken journal.
-    fn taken_entry(journal: &mut Handle, place: u64) -> Result<Entry<Self>, Error>
+    /// The entry at a position of a room's journal, or at a place of a taken one.
+    fn entry(handle: &mut Handle, source: EntrySource, at: u64) -> Result<Entry<Self>, Error>
     where
         Self: MessageKind;
 }

@@ -14,7 +14,7 @@ use crate::journal::entry::{found, Entry};
 use crate::journal::sum::Sum;
 use crate::message::carries::{Bytes, MessageKind};
 use crate::message::received::Received;
-use crate::raw::Handle;
+use crate::raw::{EntrySource, Handle};
 use std::cell::RefCell;
 use std::fmt;
 use std::io::{self, ErrorKind, Write};
@@ -120,7 +120,7 @@ impl<R: MessageKind> Journal<R> {
     /// # Ok::<(), seryugo::Error>(())
     /// ```
     pub fn entry(&self, place: usize) -> Option<Entry<R>> {
-        found(R::taken_entry(&mut self.handle.borrow_mut(), place as u64))
+        found(R::entry(&mut self.handle.borrow_mut(), EntrySource::Journal, place as u64))
     }
 
     /// Writes the entries as text: one piece, as `docs/FORMATS.md` says under "Journals". Write the

@@ -6,7 +6,7 @@ use crate::journal::entry::{Call, Entry, Reply, Who};
 use crate::message::carries::{Carries, MessageKind, Numbers, Seal};
 use crate::message::sent_as::{Encoded, SentAs};
 use crate::message::Message;
-use crate::raw::{done, Handle, Opening};
+use crate::raw::{done, EntrySource, Handle, Messages};
 
 impl MessageKind for Numbers {
     type Message = u64;
@@ -49,13 +49,7 @@ impl Calls for Numbers {
         *kept
     }
 
-    fn open(limit: u64, room: &mut Opening) -> u32 {
-        seryugo_room_open(limit, room)
-    }
-
-    fn open_reading(reading: &mut Opening) -> u32 {
-        seryugo_reading_open(reading)
-    }
+    const MESSAGES: Messages = Messages::Numbers;
 
     #[inline]
     fn give(call: Give, room: &mut Handle, seat: u64, object: u64, message: u64) -> u32 {
@@ -132,25 +126,16 @@ impl Calls for Numbers {
         word.parse().ok()
     }
 
-    fn entry(room: &mut Handle, at: u64) -> Result<Entry<Numbers>, Error> {
-        entry_of(|entry| seryugo_entry(room, at, entry))
+    fn entry(handle: &mut Handle, source: EntrySource, at: u64) -> Result<Entry<Numbers>, Error> {
+        let mut raw = RawEntry::default();
+        done(seryugo_entry_at(handle, source, at, &mut raw))?;
+        let RawEntry { maker, call, reply } = raw;
+        Ok(Entry {
+            who: Who::of(maker.kind, maker.number)?,
+            call: Call::of(call.kind, call.object, || call.message)?,
+            reply: Reply::of(reply.kind, reply.given, || reply.given)?,
+        })
     }
-
-    fn taken_entry(journal: &mut Handle, place: u64) -> Result<Entry<Numbers>, Error> {
-        entry_of(|entry| seryugo_taken_entry(journal, place, entry))
-    }
-}
-
-/// The entry that a call writes.
-fn entry_of(call: impl FnOnce(&mut RawEntry) -> u32) -> Result<Entry<Numbers>, Error> {
-    let mut raw = RawEntry::default();
-    done(call(&mut raw))?;
-    let RawEntry { maker, call, reply } = raw;
-    Ok(Entry {
-        who: Who::of(maker.kind, maker.number)?,
-        call: Call::of(call.kind, call.object, || call.message)?,
-        reply: Reply::of(reply.kind, reply.given, || reply.given)?,
-    })
 }
 
 #[repr(C)]
@@ -184,8 +169,6 @@ struct RawReply {
 }
 
 unsafe extern "C" {
-    safe fn seryugo_room_open(limit: u64, room: &mut Opening) -> u32;
-    safe fn seryugo_reading_open(reading: &mut Opening) -> u32;
     safe fn seryugo_send(room: &mut Handle, seat: u64, mailbox: u64, message: u64) -> u32;
     safe fn seryugo_multicast(room: &mut Handle, seat: u64, channel: u64, message: u64) -> u32;
     safe fn seryugo_put(room: &mut Handle, seat: u64, variable: u64, message: u64) -> u32;
@@ -236,6 +219,10 @@ unsafe extern "C" {
     safe fn seryugo_held(room: &mut Handle, variable: u64, message: &mut u64) -> u32;
     safe fn seryugo_lane_send(lane: &mut Handle, message: u64) -> u32;
     safe fn seryugo_feed_recv(feed: &mut Handle, message: &mut u64) -> u32;
-    safe fn seryugo_entry(room: &mut Handle, at: u64, entry: &mut RawEntry) -> u32;
-    safe fn seryugo_taken_entry(journal: &mut Handle, place: u64, entry: &mut RawEntry) -> u32;
+    safe fn seryugo_entry_at(
+        handle: &mut Handle,
+        source: EntrySource,
+        at: u64,
+        entry: &mut RawEntry,
+    ) -> u32;
 }

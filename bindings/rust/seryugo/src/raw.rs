@@ -34,6 +34,57 @@ pub mod code {
     pub const NOT_KEPT: u32 = u32::MAX - 1;
 }
 
+/// Which messages a room or a reading has.
+#[derive(Clone, Copy)]
+#[repr(u32)]
+pub enum Messages {
+    Numbers = 0,
+    Bytes = 1,
+}
+
+/// What is read of an object, or of a room's journal.
+#[derive(Clone, Copy)]
+#[repr(u32)]
+pub enum Reader {
+    Sent = 0,
+    Got = 1,
+    Owed = 2,
+    Kept = 3,
+    Kind = 5,
+    Channel = 6,
+    Start = 7,
+    IsOpen = 8,
+    Entries = 9,
+    CutAt = 10,
+}
+
+/// Where an entry is looked for.
+#[derive(Clone, Copy)]
+#[repr(u32)]
+pub enum EntrySource {
+    Room = 0,
+    Journal = 1,
+}
+
+/// What is taken out of a room.
+#[derive(Clone, Copy)]
+#[repr(u32)]
+pub enum Taking {
+    Cut = 0,
+    CutOpen = 1,
+    Short = 2,
+    ShortAndCut = 3,
+}
+
+/// What is read off a reading.
+#[derive(Clone, Copy)]
+#[repr(u32)]
+pub enum ReadingState {
+    Entries = 0,
+    Lines = 1,
+    End = 2,
+}
+
 /// A handle to a room, a lane, a feed, a reading or a taken journal, which is open until it is
 /// dropped. A thread that has it by `&mut` has it alone, which orders its calls.
 #[repr(C)]
@@ -114,13 +165,22 @@ pub fn written(call: impl FnOnce(&mut u64) -> u32) -> Result<u64, Error> {
     Ok(number)
 }
 
+/// A number of an object. One of the journal takes any number for the object.
+pub fn read(room: &mut Handle, reader: Reader, object: u64) -> Result<u64, Error> {
+    written(|number| seryugo_read(room, reader, object, number))
+}
+
 unsafe extern "C" {
     fn seryugo_close(handle: Closing);
     pub fn seryugo_reading_take_from(reading: &mut Handle, at: *const u8, length: usize) -> u32;
-    pub safe fn seryugo_reading_entries(reading: &mut Handle, count: &mut u64) -> u32;
-    pub safe fn seryugo_reading_lines(reading: &mut Handle, lines: &mut u64) -> u32;
+    pub safe fn seryugo_open_room(messages: Messages, limit: u64, room: &mut Opening) -> u32;
+    pub safe fn seryugo_open_reading(messages: Messages, reading: &mut Opening) -> u32;
+    pub safe fn seryugo_reading_state(
+        reading: &mut Handle,
+        state: ReadingState,
+        number: &mut u64,
+    ) -> u32;
     pub safe fn seryugo_reading_sum(reading: &mut Handle, sum: &mut RawSum) -> u32;
-    pub safe fn seryugo_reading_end(reading: &mut Handle) -> u32;
     pub safe fn seryugo_room_restore(reading: &mut Handle, limit: u64, room: &mut Opening) -> u32;
     pub safe fn seryugo_reading_compact(
         reading: &mut Handle,
@@ -161,32 +221,17 @@ unsafe extern "C" {
     pub safe fn seryugo_feed_port(feed: &mut Handle, port: &mut u64) -> u32;
     pub safe fn seryugo_feed_end(room: &mut Handle, feed: u64) -> u32;
     pub safe fn seryugo_reserve(room: &mut Handle, entries: usize) -> u32;
-    pub safe fn seryugo_cut(room: &mut Handle) -> u32;
-    pub safe fn seryugo_cut_open(room: &mut Handle) -> u32;
-    pub safe fn seryugo_take_journal(
+    pub safe fn seryugo_cut_by(room: &mut Handle, is_open: bool) -> u32;
+    pub safe fn seryugo_take_by(
         room: &mut Handle,
+        taking: Taking,
         journal: &mut Opening,
         count: &mut u64,
     ) -> u32;
-    pub safe fn seryugo_take_journal_open(
+    pub safe fn seryugo_read(
         room: &mut Handle,
-        journal: &mut Opening,
-        count: &mut u64,
+        reader: Reader,
+        object: u64,
+        number: &mut u64,
     ) -> u32;
-    pub safe fn seryugo_compact(room: &mut Handle, journal: &mut Opening, count: &mut u64) -> u32;
-    pub safe fn seryugo_compact_and_cut(
-        room: &mut Handle,
-        journal: &mut Opening,
-        count: &mut u64,
-    ) -> u32;
-    pub safe fn seryugo_kind(room: &mut Handle, object: u64, kind: &mut u64) -> u32;
-    pub safe fn seryugo_channel_of(room: &mut Handle, port: u64, channel: &mut u64) -> u32;
-    pub safe fn seryugo_start_of(room: &mut Handle, port: u64, start: &mut u64) -> u32;
-    pub safe fn seryugo_sent(room: &mut Handle, object: u64, count: &mut u64) -> u32;
-    pub safe fn seryugo_got(room: &mut Handle, object: u64, count: &mut u64) -> u32;
-    pub safe fn seryugo_owed(room: &mut Handle, object: u64, count: &mut u64) -> u32;
-    pub safe fn seryugo_kept(room: &mut Handle, object: u64, count: &mut u64) -> u32;
-    pub safe fn seryugo_is_open(room: &mut Handle, port: u64) -> u32;
-    pub safe fn seryugo_entries(room: &mut Handle, count: &mut u64) -> u32;
-    pub safe fn seryugo_cut_at(room: &mut Handle, count: &mut u64) -> u32;
 }

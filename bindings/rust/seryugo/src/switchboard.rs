@@ -15,7 +15,7 @@ use crate::message::kind::Missing;
 use crate::message::names::{Channel, Name, Named, Target};
 use crate::park::cache_padded::CachePadded;
 use crate::park::table::Parkers;
-use crate::raw::Handle;
+use crate::raw::{self, Handle};
 use crate::rings::feed::Feed;
 use crate::rings::lane::Lane;
 use crate::seat::Seat;
@@ -105,7 +105,8 @@ impl Switchboard<Numbers> {
 impl<R: MessageKind> Switchboard<R> {
     pub(crate) fn open(limit: u64) -> Result<Switchboard<R>, Error> {
         version::check()?;
-        Ok(Switchboard::over(Handle::opened(|room| R::open(limit, room))?, limit))
+        let room = Handle::opened(|room| raw::seryugo_open_room(R::MESSAGES, limit, room))?;
+        Ok(Switchboard::over(room, limit))
     }
 
     /// A switchboard over a room in which no seat was made yet, and whose journal takes this many

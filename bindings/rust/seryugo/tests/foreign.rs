@@ -16,18 +16,26 @@ const OPENING: &str = "SERYUGO_TEST_OPENING";
 const OTHER: &str = "SERYUGO_TEST_OTHER";
 
 /// The head of the library.
-const HEAD: &str = r"
+const HEAD: &str = r#"
 #include <stdbool.h>
 #include <stddef.h>
 #include <stdint.h>
 #include <stdlib.h>
 static uint32_t code(const char *of) { return (uint32_t)strtoul(getenv(of), NULL, 10); }
-uint32_t seryugo_kind(void *room, uint64_t object, uint64_t *kind)
+uint32_t seryugo_read(void *room, uint32_t reader, uint64_t object, uint64_t *number)
 {
-    *kind = object;
-    return 0;
+    if (reader == 5) {
+        *number = object;
+        return 0;
+    }
+    return code(reader == 10 ? "SERYUGO_TEST_OPENING" : "SERYUGO_TEST_OTHER");
 }
-";
+uint32_t seryugo_take_by(void *room, uint32_t taking, void **journal, uint64_t *count)
+{
+    *journal = journal;
+    return code(taking < 2 ? "SERYUGO_TEST_OPENING" : "SERYUGO_TEST_OTHER");
+}
+"#;
 
 /// The files that declare what the crate calls.
 const DECLARING: [&str; 5] = [
@@ -48,7 +56,7 @@ fn library_in_c() -> String {
     let declared = DECLARING.iter().flat_map(|file| file.split("fn seryugo_").skip(1));
     for function in declared {
         let (name, rest) = function.split_once('(').unwrap();
-        if !matches!(name, "version" | "kind") {
+        if !matches!(name, "version" | "read" | "take_by") {
             library += &function_in_c(name, rest.split_once(')').unwrap().0);
         }
     }
@@ -80,9 +88,8 @@ fn function_in_c(name: &str, declared: &str) -> String {
 /// Whether a call opens or makes something, or is needed for that.
 fn opens(name: &str) -> bool {
     match name {
-        "take_journal" | "room_restore" | "feed_port" | "cut_at" => true,
-        "is_open" | "cut_open" => false,
-        _ => name.ends_with("_open") || name.starts_with("new_"),
+        "room_restore" | "feed_port" | "lane_open" | "feed_open" => true,
+        _ => name.starts_with("open_") || name.starts_with("new_"),
     }
 }
 

@@ -5,8 +5,7 @@ use crate::calls::Read;
 use crate::journal::entry::Entry;
 use crate::message::carries::MessageKind;
 use crate::message::kind;
-use crate::raw::{self, code, written, Handle};
-use crate::switchboard::objects::Reader;
+use crate::raw::{self, code, EntrySource, Handle, Reader, Taking};
 use crate::switchboard::Switchboard;
 use std::hash::{DefaultHasher, Hash, Hasher};
 
@@ -103,37 +102,31 @@ impl<R: MessageKind> Board for Switchboard<R> {
     }
 
     fn channel(&self, port: u64) -> u64 {
-        let room = &mut self.lock().handle;
-        written(|channel| raw::seryugo_channel_of(room, port, channel)).unwrap_or(NONE)
+        raw::read(&mut self.lock().handle, Reader::Channel, port).unwrap_or(NONE)
     }
 
     fn counts(&self, object: u64) -> Option<u64> {
         let room = &mut self.lock().handle;
-        let readers: [Reader; 4] = [
-            raw::seryugo_sent,
-            raw::seryugo_got,
-            raw::seryugo_owed,
-            raw::seryugo_kept,
-        ];
-        let counts = readers.map(|read| written(|count| read(room, object, count)).ok());
-        let is_open = raw::seryugo_is_open(room, object);
+        let readers = [Reader::Sent, Reader::Got, Reader::Owed, Reader::Kept];
+        let counts = readers.map(|reader| raw::read(room, reader, object).ok());
+        let is_open = raw::read(room, Reader::IsOpen, object).ok();
         counts.iter().any(Option::is_some).then(|| sum_of(&(counts, is_open)))
     }
 
     fn entries(&self) -> (u64, u64) {
         let mut state = self.lock();
-        let (all, cut) = (state.count(raw::seryugo_entries), state.count(raw::seryugo_cut_at));
+        let (all, cut) = (state.count(Reader::Entries), state.count(Reader::CutAt));
         (all, all - cut)
     }
 
     fn entry_sums(&self, at: u64) -> Option<(u64, u64)> {
-        let entry: Entry<R> = R::entry(&mut self.lock().handle, at).ok()?;
+        let entry: Entry<R> = R::entry(&mut self.lock().handle, EntrySource::Room, at).ok()?;
         Some((sum_of(&entry.call), sum_of(&entry.reply)))
     }
 
     fn text(&self) -> String {
         let mut text = Vec::new();
-        let taken = self.lock().take_journal(raw::seryugo_take_journal_open);
+        let taken = self.lock().take_journal(Taking::CutOpen);
         match taken.map(|journal| journal.write_to(&mut text)) {
             Ok(Ok(())) => String::from_utf8_lossy(&text).into_owned(),
             Ok(Err(error)) => format!("the journal can't be written: {error}\n"),
@@ -174,7 +167,7 @@ fn is_free<R: MessageKind>(room: &mut Handle, seat: u64) -> bool {
 
 /// The step of a call that sends to this mailbox or channel.
 fn sends_to(room: &mut Handle, target: u64) -> Step {
-    let kind = written(|kind| raw::seryugo_kind(room, target, kind));
+    let kind = raw::read(room, Reader::Kind, target);
     match kind.and_then(kind::Kind::of) {
         Ok(kind::Kind::Mailbox) => StepKind::Send.on(target),
         _ => StepKind::Multicast.on(target),
@@ -184,14 +177,12 @@ fn sends_to(room: &mut Handle, target: u64) -> Step {
 /// Which message of its mailbox or channel a step sends or receives, or `NONE`.
 fn place(room: &mut Handle, step: Step) -> u64 {
     let object = step.object;
-    let mut count = |read: Reader| written(|count| read(room, object, count)).ok();
+    let mut count = |reader| raw::read(room, reader, object).ok();
     let place = match step.kind {
-        StepKind::Send | StepKind::Multicast => count(raw::seryugo_sent),
-        StepKind::Recv | StepKind::Poll
-            if count(raw::seryugo_owed).is_some_and(|owed| owed > 0) =>
-        {
-            let start = count(raw::seryugo_start_of).unwrap_or(0);
-            count(raw::seryugo_got).map(|got| start + got)
+        StepKind::Send | StepKind::Multicast => count(Reader::Sent),
+        StepKind::Recv | StepKind::Poll if count(Reader::Owed).is_some_and(|owed| owed > 0) => {
+            let start = count(Reader::Start).unwrap_or(0);
+            count(Reader::Got).map(|got| start + got)
         }
         _ => None,
     };
@@ -199,7 +190,7 @@ fn place(room: &mut Handle, step: Step) -> u64 {
 }
 
 fn is_closed(room: &mut Handle, port: u64) -> bool {
-    raw::seryugo_is_open(room, port) == code::CLOSED
+    raw::read(room, Reader::IsOpen, port) == Ok(0)
 }
 
 fn is_held<R: MessageKind>(room: &mut Handle, object: u64) -> bool {
@@ -207,7 +198,7 @@ fn is_held<R: MessageKind>(room: &mut Handle, object: u64) -> bool {
 }
 
 fn is_owed(room: &mut Handle, object: u64) -> bool {
-    written(|owed| raw::seryugo_owed(room, object, owed)).is_ok_and(|owed| owed != 0)
+    raw::read(room, Reader::Owed, object).is_ok_and(|owed| owed != 0)
 }
 
 pub(crate) fn sum_of(value: &impl Hash) -> u64 {

@@ -22,7 +22,7 @@ use super::worker::Slot;
 use crate::calls::Calls;
 use crate::message::carries::Numbers;
 use crate::message::names::{Channel, IVar, MVar, Mailbox, Object, Port};
-use crate::raw::{self, written};
+use crate::raw::{self, EntrySource, Reader};
 use crate::seat::owned::OwnedSeat;
 use crate::switchboard::Switchboard;
 use few_objects::{FewObjects, FIRST_ON_FEW};
@@ -280,16 +280,16 @@ impl Played<'_> {
     fn outcome(&mut self, is_done: bool) -> u64 {
         let mut callers = BTreeMap::new();
         self.leave();
-        let entries = (0..).map_while(|at| Numbers::entry(&mut self.board.lock().handle, at).ok());
+        let entry = |at| Numbers::entry(&mut self.board.lock().handle, EntrySource::Room, at).ok();
+        let entries = (0..).map_while(entry);
         for entry in entries {
             let caller = callers.entry(entry.who).or_default();
             *caller = mix(*caller, mix(sum_of(&entry.call), sum_of(&entry.reply)));
         }
         let callers = callers.iter().map(|(who, sum)| mix(sum_of(who), *sum));
         // Where a port begins is seen by nobody who doesn't receive from it.
-        let starts = (self.first_made()..).map_while(|port| {
-            written(|start| raw::seryugo_start_of(&mut self.board.lock().handle, port, start)).ok()
-        });
+        let starts = (self.first_made()..)
+            .map_while(|port| raw::read(&mut self.board.lock().handle, Reader::Start, port).ok());
         callers.chain(self.seen.iter().copied()).chain(starts).fold(u64::from(is_done), mix)
     }
 

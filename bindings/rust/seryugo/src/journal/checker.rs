@@ -6,7 +6,7 @@ use crate::journal::prefix::{Lines, ValidPrefix};
 use crate::journal::sum::{RawSum, Sum};
 use crate::journal::Journal;
 use crate::message::carries::{Bytes, MessageKind, Numbers};
-use crate::raw::{self, code, written, Handle};
+use crate::raw::{self, code, written, Handle, ReadingState};
 use crate::version;
 use std::alloc::{handle_alloc_error, Layout};
 use std::cell::RefCell;
@@ -144,7 +144,9 @@ impl<R: MessageKind> Checker<R> {
     pub(crate) fn open() -> Result<Checker<R>, CheckError> {
         version::check()?;
         Ok(Checker {
-            handle: RefCell::new(Handle::opened(R::open_reading)?),
+            handle: RefCell::new(Handle::opened(|reading| {
+                raw::seryugo_open_reading(R::MESSAGES, reading)
+            })?),
             lines: Lines::default(),
             kind: PhantomData,
         })
@@ -228,7 +230,7 @@ impl<R: MessageKind> Checker<R> {
     /// # Ok::<(), seryugo::CheckError>(())
     /// ```
     pub fn entries(&self) -> u64 {
-        self.count(raw::seryugo_reading_entries)
+        self.count(ReadingState::Entries)
     }
 
     /// Whether what was read is a whole journal, all of whose entries are lawful: its last piece
@@ -243,7 +245,7 @@ impl<R: MessageKind> Checker<R> {
     /// # Ok::<(), seryugo::CheckError>(())
     /// ```
     pub fn is_whole(&self) -> bool {
-        raw::seryugo_reading_end(&mut self.handle.borrow_mut()) == code::DONE
+        self.end() == code::DONE
     }
 
     /// The sum to go on from, if what was read has sums: pass it to [`Journal::write_sealed_to`]
@@ -262,7 +264,7 @@ impl<R: MessageKind> Checker<R> {
     /// # Ok::<(), seryugo::CheckError>(())
     /// ```
     pub fn sum(&self) -> Option<Sum> {
-        match raw::seryugo_reading_end(&mut self.handle.borrow_mut()) {
+        match self.end() {
             code::UNLAWFUL | code::FAULT | code::NO_MEMORY => return None,
             _ => {}
         }
@@ -314,12 +316,21 @@ impl<R: MessageKind> Checker<R> {
     }
 
     fn whole_lines(&self) -> u64 {
-        self.count(raw::seryugo_reading_lines)
+        self.count(ReadingState::Lines)
     }
 
     /// Reads a counter that cannot fail.
-    fn count(&self, call: extern "C" fn(&mut Handle, &mut u64) -> u32) -> u64 {
-        written(|count| call(&mut self.handle.borrow_mut(), count)).unwrap_or_default()
+    fn count(&self, state: ReadingState) -> u64 {
+        written(|count| self.state(state, count)).unwrap_or_default()
+    }
+
+    /// The code that says how the text ends.
+    fn end(&self) -> u32 {
+        self.state(ReadingState::End, &mut 0)
+    }
+
+    fn state(&self, state: ReadingState, number: &mut u64) -> u32 {
+        raw::seryugo_reading_state(&mut self.handle.borrow_mut(), state, number)
     }
 
     /// Returns the valid prefix: what is in whole lines. Nothing that was read had a fault.

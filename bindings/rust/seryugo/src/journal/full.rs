@@ -4,7 +4,7 @@ use crate::error::Error;
 use crate::journal::file::Appending;
 use crate::journal::Journal;
 use crate::message::carries::{Bytes, MessageKind};
-use crate::raw::{self, done, written, Handle, Opening};
+use crate::raw::{self, done, Handle, Reader, Taking};
 use std::fmt;
 use std::fs::File;
 use std::io;
@@ -171,9 +171,9 @@ impl<R: MessageKind> PendingJournal<R> {
     pub fn cut(&mut self, room: &mut Handle, start: Start) -> Result<(), Error> {
         self.hand_over()?;
         if let WhenFull::Drop = self.when_full {
-            return done(raw::seryugo_cut_open(room));
+            return done(raw::seryugo_cut_by(room, true));
         }
-        self.kept = Some(taken(room, start, raw::seryugo_take_journal_open)?);
+        self.kept = Some(taken(room, start, Taking::CutOpen)?);
         self.hand_over()
     }
 
@@ -215,9 +215,6 @@ impl<R: MessageKind> PendingJournal<R> {
     }
 }
 
-/// A call that writes a handle to entries of a room, and how many they are.
-pub(crate) type Take = extern "C" fn(&mut Handle, &mut Opening, &mut u64) -> u32;
-
 /// Where the text begins to which a switchboard adds its pieces. A compaction begins it again.
 #[derive(Clone, Copy, Default)]
 pub(crate) struct Start {
@@ -237,38 +234,38 @@ impl Start {
 /// Cuts the journal of a room, of which a short journal was made that has this many entries. Returns
 /// where the text begins then.
 pub(crate) fn cut_behind(room: &mut Handle, short: u64) -> Result<Start, Error> {
-    done(raw::seryugo_cut_open(room))?;
-    let cut = written(|count| raw::seryugo_cut_at(room, count))?;
+    done(raw::seryugo_cut_by(room, true))?;
+    let cut = raw::read(room, Reader::CutAt, 0)?;
     Ok(Start { cut, short })
 }
 
-/// The entries of a room's journal, which this call cuts.
+/// The entries of a room's journal, which is cut.
 pub(crate) fn taken<R: MessageKind>(
     room: &mut Handle,
     start: Start,
-    take: Take,
+    taking: Taking,
 ) -> Result<Journal<R>, Error> {
-    let first = written(|count| raw::seryugo_cut_at(room, count))?;
-    journal_by(room, start.place(first), take)
+    let first = raw::read(room, Reader::CutAt, 0)?;
+    journal_by(room, start.place(first), taking)
 }
 
 /// The short journal of a room, and where the text begins that it begins. The room's journal is cut
 /// then.
 pub(crate) fn cut_short<R: MessageKind>(room: &mut Handle) -> Result<(Journal<R>, Start), Error> {
-    let journal = journal_by(room, 0, raw::seryugo_compact_and_cut)?;
-    let cut = written(|count| raw::seryugo_cut_at(room, count))?;
+    let journal = journal_by(room, 0, Taking::ShortAndCut)?;
+    let cut = raw::read(room, Reader::CutAt, 0)?;
     let short = journal.len() as u64;
     Ok((journal, Start { cut, short }))
 }
 
-/// The entries that this call takes, of which the first has this position.
+/// The journal that is taken so, whose first entry has this position.
 pub(crate) fn journal_by<R: MessageKind>(
     room: &mut Handle,
     first: u64,
-    take: Take,
+    taking: Taking,
 ) -> Result<Journal<R>, Error> {
     let mut count = 0;
-    let handle = Handle::opened(|journal| take(room, journal, &mut count))?;
+    let handle = Handle::opened(|journal| raw::seryugo_take_by(room, taking, journal, &mut count))?;
     // The entries are in memory, so that a `usize` counts them.
     Ok(Journal::new(handle, first, count as usize))
 }

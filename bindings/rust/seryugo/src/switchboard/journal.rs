@@ -6,7 +6,7 @@ use crate::journal::entry::{found, Entry};
 use crate::journal::full::WhenFull;
 use crate::journal::Journal;
 use crate::message::carries::MessageKind;
-use crate::raw::{self, done};
+use crate::raw::{self, done, EntrySource, Reader, Taking};
 use crate::switchboard::Switchboard;
 use std::io;
 
@@ -48,7 +48,7 @@ impl<R: MessageKind> Switchboard<R> {
     /// `Busy`: a lane or a feed is open. Then nothing is cut.
     pub fn cut(&self) -> Result<(), Error> {
         self.pass_to_look_at_all();
-        self.lock().cut(raw::seryugo_cut)
+        self.lock().cut(false)
     }
 
     /// Cuts the journal, and hands over the entries that it had. What was reserved goes with them.
@@ -69,7 +69,7 @@ impl<R: MessageKind> Switchboard<R> {
     /// which nobody takes. Then nothing is cut.
     pub fn take_journal(&self) -> Result<Journal<R>, Error> {
         self.pass_to_look_at_all();
-        self.lock().take_journal(raw::seryugo_take_journal)
+        self.lock().take_journal(Taking::Cut)
     }
 
     /// Cuts the journal as `cut` does, also while lanes and feeds are open, whose rings go on. It
@@ -97,7 +97,7 @@ impl<R: MessageKind> Switchboard<R> {
     /// None that the library of this version returns.
     pub fn cut_open(&self) -> Result<(), Error> {
         self.pass_to_look_at_all();
-        self.lock().cut(raw::seryugo_cut_open)
+        self.lock().cut(true)
     }
 
     /// Cuts the journal as [`cut_open`](Switchboard::cut_open) does, and hands over the entries
@@ -123,7 +123,7 @@ impl<R: MessageKind> Switchboard<R> {
     /// ([`when_full`](Switchboard::when_full)). Then nothing is cut.
     pub fn take_journal_open(&self) -> Result<Journal<R>, Error> {
         self.pass_to_look_at_all();
-        self.lock().take_journal(raw::seryugo_take_journal_open)
+        self.lock().take_journal(Taking::CutOpen)
     }
 
     /// Returns a short journal that leaves what all calls leave: the same objects, with the same
@@ -271,7 +271,7 @@ impl<R: MessageKind> Switchboard<R> {
     /// ```
     pub fn entry(&self, at: u64) -> Option<Entry<R>> {
         self.pass_to_look_at_all();
-        found(R::entry(&mut self.lock().handle, at))
+        found(R::entry(&mut self.lock().handle, EntrySource::Room, at))
     }
 
     /// How many calls were accepted since the switchboard was made.
@@ -286,7 +286,7 @@ impl<R: MessageKind> Switchboard<R> {
     /// ```
     pub fn entries(&self) -> u64 {
         self.pass_to_look_at_all();
-        self.lock().count(raw::seryugo_entries)
+        self.lock().count(Reader::Entries)
     }
 
     /// How many of them were cut away.
@@ -302,7 +302,7 @@ impl<R: MessageKind> Switchboard<R> {
     /// ```
     pub fn cut_at(&self) -> u64 {
         self.pass_to_look_at_all();
-        self.lock().count(raw::seryugo_cut_at)
+        self.lock().count(Reader::CutAt)
     }
 
     /// Says what becomes of a full journal. Until you say it, a call fails with `JournalFull` if

@@ -7,11 +7,8 @@ use crate::error::Error;
 use crate::message::carries::{Carries, MessageKind};
 use crate::message::kind::{Kind, Misfit, Missing};
 use crate::message::names::{Channel, IVar, MVar, Mailbox, Named, Object, Port, Target, Variable};
-use crate::raw::{self, code, done_or, written, Handle};
+use crate::raw::{self, code, Reader};
 use crate::switchboard::Switchboard;
-
-/// A call that writes a number which an object has.
-pub(crate) type Reader = extern "C" fn(&mut Handle, u64, &mut u64) -> u32;
 
 impl<R: MessageKind> Switchboard<R> {
     /// The mailbox of this number, as of a switchboard that goes on from a journal. Objects are
@@ -156,7 +153,7 @@ impl<R: MessageKind> Switchboard<R> {
     ///
     /// `NoSuch` if there is no object of this number.
     pub fn kind(&self, number: u64) -> Result<Kind, Error> {
-        let kind = self.number_of(number, raw::seryugo_kind);
+        let kind = self.number_of(number, Reader::Kind);
         Kind::of(kind.map_err(|error| error.missing(Missing::Object(number)))?)
     }
 
@@ -177,7 +174,7 @@ impl<R: MessageKind> Switchboard<R> {
     ///
     /// `NoSuch`: the name is of another switchboard.
     pub fn sent(&self, object: impl Target) -> Result<u64, Error> {
-        self.read_of(object, raw::seryugo_sent)
+        self.read_of(object, Reader::Sent)
     }
 
     /// How many were received from a mailbox or a port.
@@ -197,7 +194,7 @@ impl<R: MessageKind> Switchboard<R> {
     ///
     /// `NoSuch`: the name is of another switchboard, or nothing is received from such an object.
     pub fn got(&self, object: impl Object) -> Result<u64, Error> {
-        self.read_of(object, raw::seryugo_got)
+        self.read_of(object, Reader::Got)
     }
 
     /// How many wait in a mailbox, or are owed to an open port.
@@ -217,7 +214,7 @@ impl<R: MessageKind> Switchboard<R> {
     ///
     /// `NoSuch`: the name is of another switchboard, or nothing is owed by such an object.
     pub fn owed(&self, object: impl Object) -> Result<u64, Error> {
-        self.read_of(object, raw::seryugo_owed)
+        self.read_of(object, Reader::Owed)
     }
 
     /// How many of a mailbox or a channel are kept.
@@ -237,7 +234,7 @@ impl<R: MessageKind> Switchboard<R> {
     ///
     /// `NoSuch`: the name is of another switchboard.
     pub fn kept(&self, object: impl Target) -> Result<u64, Error> {
-        self.read_of(object, raw::seryugo_kept)
+        self.read_of(object, Reader::Kept)
     }
 
     /// What a variable holds; `None` if it is empty.
@@ -290,7 +287,7 @@ impl<R: MessageKind> Switchboard<R> {
     pub fn is_open<T>(&self, port: Port<T>) -> Result<bool, Error> {
         let port = self.here(port)?;
         self.pass_to_look(port);
-        done_or(raw::seryugo_is_open(&mut self.lock().handle, port), code::CLOSED)
+        Ok(raw::read(&mut self.lock().handle, Reader::IsOpen, port)? != 0)
     }
 
     /// A port's channel.
@@ -309,7 +306,7 @@ impl<R: MessageKind> Switchboard<R> {
     ///
     /// `NoSuch`: the name is of another switchboard.
     pub fn channel_of<T>(&self, port: Port<T>) -> Result<Channel<T>, Error> {
-        let channel = self.read_of(port, raw::seryugo_channel_of)?;
+        let channel = self.read_of(port, Reader::Channel)?;
         Ok(self.name(channel))
     }
 
@@ -329,20 +326,19 @@ impl<R: MessageKind> Switchboard<R> {
     ///
     /// `NoSuch`: the name is of another switchboard.
     pub fn start_of<T>(&self, port: Port<T>) -> Result<u64, Error> {
-        self.read_of(port, raw::seryugo_start_of)
+        self.read_of(port, Reader::Start)
     }
 
     /// A number that an object has.
-    fn read_of<N: Named>(&self, object: N, call: Reader) -> Result<u64, Error> {
+    fn read_of<N: Named>(&self, object: N, reader: Reader) -> Result<u64, Error> {
         let number = self.here(object)?;
-        let read = self.number_of(number, call);
+        let read = self.number_of(number, reader);
         read.map_err(|error| error.missing(Missing::Count(N::KIND, number)))
     }
 
     /// A number that the object with this number has.
-    fn number_of(&self, object: u64, call: Reader) -> Result<u64, Error> {
+    fn number_of(&self, object: u64, reader: Reader) -> Result<u64, Error> {
         self.pass_to_look(object);
-        let room = &mut self.lock().handle;
-        written(|number| call(room, object, number))
+        raw::read(&mut self.lock().handle, reader, object)
     }
 }

@@ -2,11 +2,11 @@
 
 use crate::error::Error;
 use crate::journal::full::{
-    cut_behind, cut_short, journal_by, taken, PendingJournal, Start, Take, WhenFull,
+    cut_behind, cut_short, journal_by, taken, PendingJournal, Start, WhenFull,
 };
 use crate::journal::Journal;
 use crate::message::carries::MessageKind;
-use crate::raw::{self, code, done, written, Handle};
+use crate::raw::{self, code, done, written, Handle, Reader, Taking};
 use crate::request::answers::Answers;
 use crate::switchboard::expected::Expected;
 use std::collections::BTreeMap;
@@ -131,13 +131,13 @@ impl<R: MessageKind> State<R> {
     }
 
     /// Reads a counter that cannot fail.
-    pub fn count(&mut self, call: extern "C" fn(&mut Handle, &mut u64) -> u32) -> u64 {
-        written(|count| call(&mut self.handle, count)).unwrap_or_default()
+    pub fn count(&mut self, reader: Reader) -> u64 {
+        raw::read(&mut self.handle, reader, 0).unwrap_or_default()
     }
 
     /// How many more entries the journal takes.
     fn spare_now(&mut self) -> u64 {
-        let (entries, cut) = (self.count(raw::seryugo_entries), self.count(raw::seryugo_cut_at));
+        let (entries, cut) = (self.count(Reader::Entries), self.count(Reader::CutAt));
         self.limit.saturating_sub(entries - cut)
     }
 
@@ -151,27 +151,28 @@ impl<R: MessageKind> State<R> {
         }
     }
 
-    /// Cuts the journal by this call, and drops its entries, and those that nobody took.
-    pub fn cut(&mut self, cut: extern "C" fn(&mut Handle) -> u32) -> Result<(), Error> {
-        done(cut(&mut self.handle))?;
+    /// Cuts the journal, while lanes and feeds may be open if `is_open`, and drops its entries, and
+    /// those that nobody took.
+    pub fn cut(&mut self, is_open: bool) -> Result<(), Error> {
+        done(raw::seryugo_cut_by(&mut self.handle, is_open))?;
         if let Some(pending) = &mut self.pending {
             pending.forget();
         }
         Ok(())
     }
 
-    /// Cuts the journal by this call, and returns its entries. If some were cut away before and
+    /// Cuts the journal, and returns its entries. If some were cut away before and
     /// nobody took them, they go first.
-    pub fn take_journal(&mut self, take: Take) -> Result<Journal<R>, Error> {
+    pub fn take_journal(&mut self, taking: Taking) -> Result<Journal<R>, Error> {
         if let Some(pending) = &mut self.pending {
             pending.hand_over()?;
         }
-        taken(&mut self.handle, self.start, take)
+        taken(&mut self.handle, self.start, taking)
     }
 
     /// Returns a short journal that leaves what all calls leave.
     pub fn compact(&mut self) -> Result<Journal<R>, Error> {
-        journal_by(&mut self.handle, 0, raw::seryugo_compact)
+        journal_by(&mut self.handle, 0, Taking::Short)
     }
 
     /// Returns a short journal, and cuts the journal. The short one stands for the entries that
@@ -411,6 +412,7 @@ mod tests {
     use super::*;
     use crate::calls::{Calls, Give, Read};
     use crate::message::carries::Numbers;
+    use crate::raw::Messages;
 
     const SEATS: u64 = 4;
     const MAILBOX: u64 = 0;
@@ -430,7 +432,8 @@ mod tests {
 
     /// A room with a mailbox and some seats, whose journal has room for few entries.
     fn room() -> State<Numbers> {
-        let mut state = State::new(Handle::opened(|room| Numbers::open(9, room)).unwrap(), 9);
+        let opened = Handle::opened(|room| raw::seryugo_open_room(Messages::Numbers, 9, room));
+        let mut state = State::new(opened.unwrap(), 9);
         for _ in 0..SEATS {
             state.new_seat().unwrap();
         }

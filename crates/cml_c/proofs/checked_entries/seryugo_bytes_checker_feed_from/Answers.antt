@@ -7,7 +7,7 @@ use Rattle.cml_c.proofs.checked_entries.seryugo_bytes_checker_feed_from.Goals as
 pub returns : goal.returns
 returns c =
     inl (subst (λ (entry : Option (Entry (List ℕ))).
-    OnBytes (OnChecker (FeedsEntry entry c.feed_bytes.result)) ⊤ c.feed_bytes.result c.args.checker.now.kept c.feed_bytes.new.checker)
+    OnBytes (OnChecker (FeedsEntry entry c.feed_bytes.result)) ⊤ c.feed_bytes.result c.args.checker.now.owned c.feed_bytes.new.checker)
     (c.into_entry.ensures ∙ (λ i. entry_with (record {
       maker = c.args.maker.now;
       call = c.args.call;

@@ -3,5 +3,5 @@ use Rattle.cml_c.proofs.restoring.open.Goals as goal
 
 pub returns-in-Ok : goal.returns-in-Ok
 returns-in-Ok g c =
-    opens_on g.M.Sort.KEPT c.args.restored c.args.room.now c.write_handle.new.slot c.write_handle.result c.keep_room.result c.in-Ok.opened
-    c.in-Ok.ensures c.keep_room.ensures c.write_handle.ensures
+    opens_on g.M.Payload.OWNED c.args.restored c.args.room.now c.write_handle.new.slot c.write_handle.result c.own_room.result c.in-Ok.opened
+    c.in-Ok.ensures c.own_room.ensures c.write_handle.ensures

@@ -7,7 +7,7 @@ use super::waits::{Caller, WaitKind, Waits};
 use crate::error::Error;
 use crate::journal::entry::Entry;
 use crate::message::carries::MessageKind;
-use crate::raw::code;
+use crate::raw::{code, EntrySource};
 use crate::switchboard::state::State;
 
 /// A call whose entry is next.
@@ -59,7 +59,7 @@ impl<'f, R: MessageKind> Entering<'f, R> {
     /// The entry that the call has made, while it has the lock.
     #[inline]
     pub fn made(&self, state: &mut State<R>) -> Option<Entry<R>> {
-        R::entry(&mut state.handle, self.position as u64).ok()
+        R::entry(&mut state.handle, EntrySource::Room, self.position as u64).ok()
     }
 
     /// The call was made, and returned this code and this entry. `Ok`: it is the journal's, or the
@@ -81,7 +81,8 @@ impl<'f, R: MessageKind> Entering<'f, R> {
     pub fn made_from(&self, state: &mut State<R>, count: u64) -> Vec<Entry<R>> {
         let first = self.position as u64;
         let room = &mut state.handle;
-        (first..first + count).map_while(|position| R::entry(room, position).ok()).collect()
+        let entry = |position| R::entry(room, EntrySource::Room, position).ok();
+        (first..first + count).map_while(entry).collect()
     }
 
     /// The call has made these entries.

@@ -12,7 +12,7 @@ use crate::error::Error;
 use crate::explore::step::{StepKind, NONE};
 use crate::journal::entry::Who;
 use crate::message::carries::MessageKind;
-use crate::raw::{self, code, done, Handle};
+use crate::raw::{self, code, done, EntrySource, Handle};
 use crate::switchboard::Switchboard;
 use std::collections::VecDeque;
 use std::mem;
@@ -214,7 +214,7 @@ impl<R: MessageKind> Switchboard<R> {
         let sent = R::lane_send(&mut ring.handle, R::sent(&message));
         let (drained, made) = self.change(None, |state| {
             let drained = done(sent).and_then(|()| state.drain(lane.number));
-            (drained, R::entry(&mut state.handle, position as u64).ok())
+            (drained, R::entry(&mut state.handle, EntrySource::Room, position as u64).ok())
         });
         ring.moved += 1;
         match (made, drained) {

@@ -7,11 +7,11 @@ use denote.Param.Send.{IsSend, AllSend, owning_send, struct_send, sendable}
 use Rattle.std.proofs.Crossing.{frees}
 use Rattle.std_alloc.proofs.SendSync.{quiet, lies}
 use Rattle.std_heap.proofs.Global.TheSendSync as heap
-use Rattle.cml_c.specs.contracts.kept.Kept as Kept
-use Rattle.cml_c.proofs.kept.Kept.TheSendSync as kept
+use Rattle.cml_c.specs.contracts.owned.Owned as Owned
+use Rattle.cml_c.proofs.owned.Owned.TheSendSync as owned
 use Rattle.cml_c.specs.contracts.handle.Handle.{the_row, the_type}
 
 pub send : IsSend the_row
 send = let all : AllSend (fields the_type) = (search sendable, (heap.the_field_send, tt)) in
-    owning_send the_type all (λ d. (lies Kept.the_row kept.the_send d.at d.kept, frees.frees d.alloc (raw (lone Kept.the_row.mir)) d.at))
+    owning_send the_type all (λ d. (lies Owned.the_row owned.the_send d.at d.owned, frees.frees d.alloc (raw (lone Owned.the_row.mir)) d.at))
     (λ k. quiet (to the_type) (exits_of k (fields the_type)) ((struct_send (shape the_type) all).leaving k))

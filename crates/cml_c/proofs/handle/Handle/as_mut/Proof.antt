@@ -14,7 +14,7 @@ use denote.Memory.{part_of}
 use denote.Follow.{follows, lends_Part}
 use Rattle.std.specs.contracts.alloc.Global.{the_row as Heap}
 use Rattle.std.specs.contracts.impls.GlobalAllocator.TheImpl.{ghosts}
-use Rattle.cml_c.specs.{Kept, with_kept}
+use Rattle.cml_c.specs.{Owned, with_owned}
 use Rattle.std_alloc.proofs.BoxSteps.Form as box
 use Rattle.std_alloc.proofs.BoxSteps.Steps.{box_out, box_in}
 use Rattle.cml_c.specs.contracts.handle.Handle.{the_row}
@@ -29,16 +29,16 @@ module _ {M : Type 1} {𝓤 : Ura M} (𝓛 : Logic 𝓤) (d : the_row.Denot) (b 
   Rest = fsep (ghosts.dealloc_token d.alloc (bare (lone Room.mir)) (block_ptr pb po))
       (fsep (Heap.own_val d.alloc (h ∷ [])) (cell_at full_share the_row.mir (box.word E h pb po ∷ []) b o))
 
-  back : d.at ≡ block_ptr pb po → (w : Kept)
-      → ent 𝓤 (sep 𝓤 (sem 𝓛 ((mem Room).own_at w pb po)) (sem 𝓛 Rest)) (sem 𝓛 ((mem the_row).own_at (with_kept d w) b o))
+  back : d.at ≡ block_ptr pb po → (w : Owned)
+      → ent 𝓤 (sep 𝓤 (sem 𝓛 ((mem Room).own_at w pb po)) (sem 𝓛 Rest)) (sem 𝓛 ((mem the_row).own_at (with_owned d w) b o))
   unfolding part_of
   back e w = let us = box.word E h pb po ∷ [] in
       qed 𝓛 (‵ (lies_at Room full_share (block_ptr pb po) w) ∷ ‵ Rest ∷ []) ∵ move ! (1 ∷ []) $ fsplit3 ! $ move ! (3 ∷ 0 ∷ []) $
       box_in E ! (boxed (block_ptr pb po) d.alloc w) pb po w refl refl $
-      use1 𝓛 (‵ (the_row.own_val (record { at = block_ptr pb po; alloc = d.alloc; kept = w }) us)) (id⊢ 𝓤 _) $
-      rewrite ! 0 (λ (p : Ptr). ‵ (the_row.own_val (record { at = p; alloc = d.alloc; kept = w }) us)) (sym e) refl $
+      use1 𝓛 (‵ (the_row.own_val (record { at = block_ptr pb po; alloc = d.alloc; owned = w }) us)) (id⊢ 𝓤 _) $
+      rewrite ! 0 (λ (p : Ptr). ‵ (the_row.own_val (record { at = p; alloc = d.alloc; owned = w }) us)) (sym e) refl $
       move ! (1 ∷ 0 ∷ []) $ fjoin ! $
-      fpack ! (List Val) (λ vs. fsep (cell_at full_share the_row.mir vs b o) (the_row.own_val (with_kept d w) vs)) us $ done !
+      fpack ! (List Val) (λ vs. fsep (cell_at full_share the_row.mir vs b o) (the_row.own_val (with_owned d w) vs)) us $ done !
 
 pub as_mut_spec : {M : Type 1} → statement M
 as_mut_spec 𝓤 𝓛 𝓜 𝓡 wired =
@@ -57,8 +57,8 @@ as_mut_spec 𝓤 𝓛 𝓜 𝓡 wired =
     qed 𝓛 (((‵ (flft κ q) ⊛ ‵ ftrue) ⊛ ‵ (owns (types_at f.ended.signature.params κs) a y.0.4)) ∷ raw ((c κs a).requires gh) ∷ []) ∵
     split ! $ split ! $ move ! (2 ∷ []) $ fsplit ! $ fsplit3 ! $ keep ! (1 ∷ 2 ∷ 4 ∷ 5 ∷ []) $
     enter ! 𝓣.C 𝓣.Λ fn (vptr b o ∷ []) Post $ alloc_all ! (λ l. pass_all ! refl ((tt, tt), tt) $
-    opens ! tt the_row {h = d} b o (λ vs. move ! (1 ∷ []) $ use1 𝓛 (‵ (Boxed.own_val (boxed d.at d.alloc d.kept) vs)) (id⊢ 𝓤 _) $
-    box_out E ! (boxed d.at d.alloc d.kept) vs (λ pb po h e us fits.
+    opens ! tt the_row {h = d} b o (λ vs. move ! (1 ∷ []) $ use1 𝓛 (‵ (Boxed.own_val (boxed d.at d.alloc d.owned) vs)) (id⊢ 𝓤 _) $
+    box_out E ! (boxed d.at d.alloc d.owned) vs (λ pb po h e us fits.
     let there : Val = vptr pb po in let way = back 𝓛 d b o pb po h e in let rest : Fml = Rest 𝓛 d b o pb po h in
     rewrite ! 3 (λ (ws : List Val). ‵ (cell_at full_share the_row.mir ws b o)) us refl $
     -- [what lies there; what gives its block back; the allocator; the cell; the open borrow, in three; the tokens]
@@ -67,11 +67,11 @@ as_mut_spec 𝓤 𝓛 𝓜 𝓡 wired =
     sets ! (of_opd ! (get ! refl)) refl (tt, tt) $ sets_last ! (addr ! (through ! refl (stop !))) refl (tt, tt) $
     exec ! 𝓣.C 𝓣.Λ (env fn.locals l) (tail fn.body) (at_ret _ Post) $ sets ! (of_opd ! (get ! refl)) refl (tt, tt) $
     move ! (2 ∷ 3 ∷ []) $ fjoin ! $ move ! (2 ∷ 0 ∷ []) $ fjoin ! $ move ! (2 ∷ 3 ∷ 4 ∷ 1 ∷ 0 ∷ []) $ group ! 5 $
-    use1 𝓛 (later (some (λ (δ : GName). ‵ ((MutRef (named 0) κ Room).own_val (record { ref_ptr = (pb, po); ghost_name = δ; now = d.kept })
-    (there ∷ [])) ⊛ ‵ (flft κ q) ⊛ ‵ (follows the_row Room γ δ (with_kept d)))))
-    (lends_Part 𝓛 the_row Room (with_kept d) (named 0) κ q b o pb po γ (sem 𝓛 rest) way (the_row.coded.code d)
-    (the_row.coded.code d) d.kept) $ await ! tt $ pick ! (λ δ. split3 ! $
-    use0 𝓛 (raw (fact 𝓤 (d.kept ≡ d.kept))) (fact_i 𝓤 (d.kept ≡ d.kept) (emp 𝓤) refl) $ move ! (3 ∷ 0 ∷ []) $ join ! $ move ! (2 ∷ 3 ∷ []) $
+    use1 𝓛 (later (some (λ (δ : GName). ‵ ((MutRef (named 0) κ Room).own_val (record { ref_ptr = (pb, po); ghost_name = δ; now = d.owned })
+    (there ∷ [])) ⊛ ‵ (flft κ q) ⊛ ‵ (follows the_row Room γ δ (with_owned d)))))
+    (lends_Part 𝓛 the_row Room (with_owned d) (named 0) κ q b o pb po γ (sem 𝓛 rest) way (the_row.coded.code d)
+    (the_row.coded.code d) d.owned) $ await ! tt $ pick ! (λ δ. split3 ! $
+    use0 𝓛 (raw (fact 𝓤 (d.owned ≡ d.owned))) (fact_i 𝓤 (d.owned ≡ d.owned) (emp 𝓤) refl) $ move ! (3 ∷ 0 ∷ []) $ join ! $ move ! (2 ∷ 3 ∷ []) $
     join ! $ nothing ! $ nothing ! $ fjoin ! $
     returns ! (look_at ! 0 refl) $ free_all ! refl $ keep ! (1 ∷ 0 ∷ 3 ∷ 2 ∷ []) $
-    by ! (leaves 𝓛 f.ended hs c y there (record { ref_ptr = (pb, po); ghost_name = δ; now = d.kept }) (tt, tt) (tt, tt)))))))
+    by ! (leaves 𝓛 f.ended hs c y there (record { ref_ptr = (pb, po); ghost_name = δ; now = d.owned }) (tt, tt) (tt, tt)))))))

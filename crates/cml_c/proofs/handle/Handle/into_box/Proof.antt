@@ -42,10 +42,10 @@ into_box_spec 𝓤 𝓛 𝓜 𝓡 wired =
     let Ce = callee.ended Given Passed al.g al.d al.drops in
     qed 𝓛 ((‵ ftrue ⊛ ‵ (owns (types_at f.ended.signature.params κs) z.0.3 z.0.4)) ∷ raw ((c κs z.0.3).requires z.1) ∷ []) ∵
     split ! $ move ! (1 ∷ []) $ fsplit ! $
-    use1 𝓛 (‵ (Boxed.own_val (boxed v.at a v.kept) z.0.4.0)) (id⊢ 𝓤 _) $
-    box_out E ! (boxed v.at a v.kept) z.0.4.0 (λ b o h e us fits. let w : Val = box.word E h b o in
+    use1 𝓛 (‵ (Boxed.own_val (boxed v.at a v.owned) z.0.4.0)) (id⊢ 𝓤 _) $
+    box_out E ! (boxed v.at a v.owned) z.0.4.0 (λ b o h e us fits. let w : Val = box.word E h b o in
     let y : k.Ghost =
-    ((([], ([], tt)), (full_share, (full_share, tt)), tt, (a, (block_ptr b o, tt)), (h ∷ [], (vptr b o ∷ [], tt))), v.kept) in
+    ((([], ([], tt)), (full_share, (full_share, tt)), tt, (a, (block_ptr b o, tt)), (h ∷ [], (vptr b o ∷ [], tt))), v.owned) in
     -- what the call requires, beside what lies there, what gives its block back and the allocator, costs nothing
     fjoin ! $ use0 𝓛 (raw (fact 𝓤 ([] ⊑ Passed.lives))) (fact_i 𝓤 ([] ⊑ Passed.lives) (emp 𝓤) (⊑_static [])) $ join ! $
     use0 𝓛 (raw (fact 𝓤 ([] ⊑ Given.lives))) (fact_i 𝓤 ([] ⊑ Given.lives) (emp 𝓤) (⊑_static [])) $ join ! $
@@ -60,7 +60,7 @@ into_box_spec 𝓤 𝓛 𝓜 𝓡 wired =
     calls_at_last ! (fm 𝓛 𝓜 𝓡) k (met 𝓤 𝓛 𝓜 𝓡 (code.calls-std_alloc::boxed::Box::from_raw 𝓡.env wired) Given Passed given_laws passed_laws
     al.g al.d al.drops allocator glued) y (and_then ! (get ! refl) (and_then ! (get ! refl) (no_more !))) (λ u.
     use1 𝓛 (later (some (λ (r : Boxed.Denot). (toks ⊛ ‵ (Boxed.own_val r (u ∷ [])))
-    ⊛ some (λ (ls : Lasts Ce y.0.0 y.0.3). ‵ (lasts Ce y.0.0 y.0.3 ls) ⊛ (raw (fact 𝓤 (r.value ≡ v.kept)) ⊛ raw (fact 𝓤 (r.alloc ≡ a)))))))
+    ⊛ some (λ (ls : Lasts Ce y.0.0 y.0.3). ‵ (lasts Ce y.0.0 y.0.3 ls) ⊛ (raw (fact 𝓤 (r.value ≡ v.owned)) ⊛ raw (fact 𝓤 (r.alloc ≡ a)))))))
     (id⊢ 𝓤 (k.post y u)) $
     await ! tt $ pick ! (λ r. split ! $ move ! (1 ∷ []) $ pick ! (λ _. split3 ! $ drop ! $ move ! (2 ∷ []) $ split ! $ move ! (1 ∷ []) $
     box_out E ! r (u ∷ []) (λ pb po h' at es fits'. box_in E ! r pb po r.value at refl $

@@ -25,10 +25,10 @@ into_slot_spec 𝓤 𝓛 𝓜 𝓡 wired =
     let Run : List Val → SProp 𝓤 = λ us. WpFn 𝓤 𝓛.H 𝓣.C 𝓣.Λ fn us Post in
     qed 𝓛 ((‵ ftrue ⊛ ‵ (owns (types_at f.ended.signature.params κs) z.0.3 z.0.4)) ∷ raw ((c κs z.0.3).requires z.1) ∷ []) ∵
     split ! $ move ! (1 ∷ []) $ fsplit ! $
-    use1 𝓛 (‵ (Boxed.own_val (boxed v.at v.alloc v.kept) z.0.4.0)) (id⊢ 𝓤 _) $
-    box_out E ! (boxed v.at v.alloc v.kept) z.0.4.0 (λ b o h e us fits. let w : Val = box.word E h b o in
+    use1 𝓛 (‵ (Boxed.own_val (boxed v.at v.alloc v.owned) z.0.4.0)) (id⊢ 𝓤 _) $
+    box_out E ! (boxed v.at v.alloc v.owned) z.0.4.0 (λ b o h e us fits. let w : Val = box.word E h b o in
     let good = box.box_typed E h b o fits in
-    let made : Slot.Denot = record { at = block_ptr b o; alloc = v.alloc; kept = Some v.kept } in
+    let made : Slot.Denot = record { at = block_ptr b o; alloc = v.alloc; owned = Some v.owned } in
     -- [what lies there; what gives its block back; the allocator; nothing; the token; what is required]
     keep ! (0 ∷ 1 ∷ 2 ∷ 4 ∷ []) $
     suffices ! (Run (w ∷ [])) (subst (λ (ws : List Val). ent 𝓤 (Run (w ∷ [])) (Run ws)) (sym (λ i. us i ++ [])) (id⊢ 𝓤 (Run (w ∷ [])))) $
@@ -36,7 +36,7 @@ into_slot_spec 𝓤 𝓛 𝓜 𝓡 wired =
     sets ! (of_opd ! (get_in ! (fld ! refl (stop !)) (sub ! 0 refl (whole !)))) refl (tt, tt) $
     sets ! (of_opd ! (get_in ! (fld ! refl (stop !)) (sub ! 1 refl (whole !)))) refl fits $
     sets ! (agg ! (and_then ! (get ! refl) (and_then ! (get ! refl) (no_more !)))) refl good $
-    box_in E ! (boxed (block_ptr b o) v.alloc v.kept) b o v.kept refl refl $ use1 𝓛 (‵ (Slot.own_val made (w ∷ []))) (id⊢ 𝓤 _) $
-    use0 𝓛 (raw (fact 𝓤 (Some v.kept ≡ Some v.kept))) (fact_i 𝓤 (Some v.kept ≡ Some v.kept) (emp 𝓤) refl) $
+    box_in E ! (boxed (block_ptr b o) v.alloc v.owned) b o v.owned refl refl $ use1 𝓛 (‵ (Slot.own_val made (w ∷ []))) (id⊢ 𝓤 _) $
+    use0 𝓛 (raw (fact 𝓤 (Some v.owned ≡ Some v.owned))) (fact_i 𝓤 (Some v.owned ≡ Some v.owned) (emp 𝓤) refl) $
     nothing ! $ nothing ! $ fjoin ! $ returns ! (look_at ! 0 refl) $ free_all ! refl $ keep ! (3 ∷ 0 ∷ 2 ∷ 1 ∷ []) $
     by ! (leaves 𝓛 f.ended hs c z w made (tt, tt) (tt, tt)))))

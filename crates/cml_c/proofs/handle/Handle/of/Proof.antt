@@ -30,7 +30,7 @@ of_spec 𝓤 𝓛 𝓜 𝓡 wired =
     split ! $ move ! (1 ∷ []) $ fsplit ! $
     use1 𝓛 (‵ (Boxed.own_val (boxed v.at a v.content) z.0.4.0)) (id⊢ 𝓤 _) $
     box_out E ! (boxed v.at a v.content) z.0.4.0 (λ b o h e us fits. let w : Val = box.word E h b o in
-    let made : the_row.Denot = record { at = block_ptr b o; alloc = a; kept = v.content } in
+    let made : the_row.Denot = record { at = block_ptr b o; alloc = a; owned = v.content } in
     let good = box.box_typed E h b o fits in
     -- [what lies there; what gives its block back; the allocator; nothing; the token; what is required]
     keep ! (0 ∷ 1 ∷ 2 ∷ 4 ∷ []) $
