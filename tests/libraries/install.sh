@@ -44,7 +44,7 @@ names_the_function() {
     echo 'int other(void) { return 0; }' | cc -c -x c - -o "$work/other.o" &&
         ar rcs "$work/older.a" "$work/other.o" || return
     ! SERYUGO_ARCHIVE="$work/older.a" sh bindings/install.sh "$work/empty" 2> "$work/words" &&
-        grep -q 'lacks .*seryugo_room_open' "$work/words" && [ ! -e "$work/empty" ]
+        grep -q 'lacks .*seryugo_open_room' "$work/words" && [ ! -e "$work/empty" ]
 }
 
 # One version is in the header, the crates, the package and what was installed.
