@@ -1,6 +1,6 @@
 //! Calls that must be answered, and the other ways in which they can end.
-ghost use Rattle.std.specs.Prelude.{◌≡◌, IfOk, OnErr, None, Some, unwrap_or};
-ghost use Rattle.cml_board.specs.{answer, given, AddsEntry, IsAsBefore, Refuses};
+ghost use Rattle.std.specs.Prelude.{◌≡◌, IfOk, OnErr, None, Some};
+ghost use Rattle.cml_board.specs.{answer, AddsEntry, IsAsBefore, Refuses};
 
 use cml_board::{Answer, Board, BoardLog, Call, Message, Name, Outcome, Refusal, Reply, Who};
 use std::alloc::AllocError;
@@ -25,8 +25,6 @@ pub enum Trouble {
     Unsettled,
     /// Of a lane without an end: a message was refused when it was dropped.
     Unclosed,
-    /// Of bytes: they are more than 4,294,967,295.
-    TooLong,
 }
 
 impl From<AllocError> for Trouble {
@@ -95,22 +93,6 @@ pub fn fetch<M: Message>(board: &mut BoardOf<M>, call: Call<M>) -> Result<M, Tro
     ensures added { IfOk result (λ message. AddsEntry board.old board.new SEAT call (Reply.Got message)) }
 {
     message_of(ask(board, call)?.into_reply())
-}
-
-/// Makes a poll, and returns the message, or `None` if there is none.
-pub fn poll<M: Message>(board: &mut BoardOf<M>, call: Call<M>) -> Result<Option<M>, Trouble>
-    ensures found { IfOk result (λ found. answer board.old.history call
-        ≡ Some (unwrap_or (given found) Reply.Nothing)) }
-    ensures added { IfOk result (λ found. AddsEntry board.old board.new SEAT call
-        (unwrap_or (given found) Reply.Nothing)) }
-    ensures refused { (refusal : Refusal) → result ≡ Err (Trouble.Refused refusal)
-        → Refuses 4 M.SURE board.old call refusal }
-{
-    match ask(board, call)?.into_reply() {
-        Reply::Got(message) => Ok(Some(message)),
-        Reply::Nothing => Ok(None),
-        _ => Err(Trouble::OtherReply),
-    }
 }
 
 /// Makes a call whose reply is `Done`, as a send.

@@ -1,40 +1,23 @@
 //! The switchboards of the examples with threads. Each function makes one, lets the example's threads use it, and settles it
 //! once all seats have left. `passing.rt` has one beside its threads.
-ghost use Rattle.std.specs.Prelude.{◌≡◌, ◌+◌, ◌*◌, [], IfOk};
+ghost use Rattle.std.specs.Prelude.{◌≡◌, ◌+◌, [], IfOk};
 ghost use Rattle.cml_guide.specs.{IsBlankOf};
 
 use crate::calls::Trouble;
-use crate::ending::{Stall, wait_for_nobody};
 use crate::feeds::tell_and_show;
-use crate::giving_up::{GivenUp, close_and_wait, send_in_vain};
 use crate::keeper::Keeper;
 use crate::lanes::send_and_collect;
-use crate::locking::{ROUNDS, raise_by_two};
-use crate::pool::square_all;
 use crate::server::{LIMIT, Served, open_and_close, sum_up};
 use crate::sinks::{Counted, Counting, PIECE, Pieces, raise_by_four, settle_pieces};
 use crate::stream::tell_to_three;
-use crate::threads::{Shared, counted, settle, settled};
-use cml_board::{BoardLog, Refusal};
+use crate::threads::{Shared, counted, settled};
+use cml_board::BoardLog;
 use cml_log::MessageLog;
 use cml_threads::{Count, Start};
 use std::alloc::Global;
 use std::sync::Wait;
 use std::sync::ledger::{Blank, Ledger};
 use std::thread::Threads;
-
-pub fn run_pool<L: MessageLog<u64> + Send, Led: Ledger + Send + Sync, R: Threads + Wait + Sync>(
-    rt: &R,
-    alloc: Global,
-    blank: Blank,
-) -> Result<(u64, Count), Trouble>
-    requires { IsBlankOf blank Led.name Led.parts }
-    ensures { IfOk result (λ found. found.1.total ≡ found.1.seats + found.1.rings) }
-{
-    let shared = Shared::<L, Led>::new(alloc, 100, blank)?;
-    let squared = square_all(rt, alloc, &shared);
-    counted(shared, squared)
-}
 
 pub fn stream<L: MessageLog<u64> + Send, Led: Ledger + Send + Sync, R: Threads + Wait + Sync>(
     rt: &R,
@@ -47,24 +30,6 @@ pub fn stream<L: MessageLog<u64> + Send, Led: Ledger + Send + Sync, R: Threads +
     let shared = Shared::<L, Led>::new(alloc, 100, blank)?;
     let told = tell_to_three(rt, alloc, &shared);
     counted(shared, told)
-}
-
-pub fn count_up<L: MessageLog<u64> + Send, Led: Ledger + Send + Sync, R: Threads + Wait + Sync>(
-    rt: &R,
-    alloc: Global,
-    blank: Blank,
-) -> Result<(u64, Count), Trouble>
-    requires { IsBlankOf blank Led.name Led.parts }
-    ensures counted { IfOk result (λ found. found.1.seats ≡ 4 * ROUNDS + 1) }
-    ensures total { IfOk result (λ found. found.1.total ≡ found.1.seats + found.1.rings) }
-{
-    let shared = Shared::<L, Led>::new(alloc, 100, blank)?;
-    let (counter, lefts) = raise_by_two(rt, alloc, &shared)?;
-    let ended = settle(shared, lefts)?;
-    match ended.board().held(counter) {
-        Some(Some(raised)) => Ok((*raised, ended.count())),
-        _ => Err(Trouble::OtherReply),
-    }
 }
 
 pub fn collect<L: MessageLog<u64> + Send, Led: Ledger + Send + Sync, R: Threads + Wait + Sync>(
@@ -80,32 +45,6 @@ pub fn collect<L: MessageLog<u64> + Send, Led: Ledger + Send + Sync, R: Threads 
     counted(shared, collected)
 }
 
-pub fn stop<L: MessageLog<u64>, Led: Ledger, R: Wait>(
-    rt: &R,
-    alloc: Global,
-    blank: Blank,
-) -> Result<(GivenUp, Count), Trouble>
-    requires { IsBlankOf blank Led.name Led.parts }
-    ensures { IfOk result (λ found. found.1.total ≡ found.1.seats + found.1.rings) }
-{
-    let shared = Shared::<L, Led>::new(alloc, 1, blank)?;
-    let given_up = send_in_vain(rt, alloc, &shared);
-    counted(shared, given_up)
-}
-
-pub fn send_and_wait<L: MessageLog<u64>, Led: Ledger, R: Wait>(
-    rt: &R,
-    alloc: Global,
-    blank: Blank,
-) -> Result<(Option<Refusal>, Count), Trouble>
-    requires { IsBlankOf blank Led.name Led.parts }
-    ensures { IfOk result (λ found. found.1.total ≡ found.1.seats + found.1.rings) }
-{
-    let shared = Shared::<L, Led>::new(alloc, 100, blank)?;
-    let waited = close_and_wait(rt, alloc, &shared);
-    counted(shared, waited)
-}
-
 pub fn tell_to_display<
     L: MessageLog<u64> + Send,
     Led: Ledger + Send + Sync,
@@ -117,24 +56,6 @@ pub fn tell_to_display<
     let shared = Shared::<L, Led>::new(alloc, 100, blank)?;
     let shown = tell_and_show(rt, alloc, &shared);
     counted(shared, shown)
-}
-
-pub fn wait_in_vain<L: MessageLog<u64> + Send, Led: Ledger + Send + Sync, R: Threads + Wait + Sync>(
-    rt: &R,
-    alloc: Global,
-    blank: Blank,
-) -> Result<Stall, Trouble>
-    requires { IsBlankOf blank Led.name Led.parts }
-    ensures { IfOk result (λ stall. stall.count.total ≡ stall.count.seats + stall.count.rings) }
-{
-    let shared = Shared::<L, Led>::new(alloc, 100, blank)?;
-    let waited = wait_for_nobody(rt, alloc, &shared);
-    let ((kept, refusal), ended) = settled(shared, waited)?;
-    Ok(Stall {
-        refusal,
-        confirmed: ended.board().confirm(&kept),
-        count: ended.count(),
-    })
 }
 
 pub fn run_on<Led: Ledger + Send + Sync, R: Threads + Wait + Sync>(

@@ -1,42 +1,55 @@
-//! Whether journals and answers that were kept can be trusted.
-ghost use Rattle.std.specs.Prelude.{IfOk, IsTrue};
+//! A journal that is cut, checked piece by piece, and gone on from by another board.
+use crate::calls::{Numbers, Trouble, fetch, make, perform};
+use cml_board::{Call, Checker, Entry};
+use std::alloc::Global;
 
-use crate::calls::{Numbers, SEAT, Trouble, ask, make, perform};
-use cml_board::{Call, Entry, Name, Reply, check};
-use std::alloc::{AllocError, Global};
-
-/// The journal of a board is always lawful.
-pub fn own_is_lawful(alloc: Global) -> Result<bool, Trouble>
-    ensures { IfOk result IsTrue }
-{
+/// Says whether what was taken, and what the journal has since, are lawful together, and how many entries they are.
+pub fn checked_in_pieces(alloc: Global) -> Result<(bool, u64), Trouble> {
     let mut board = Numbers::new(alloc, 100)?;
     let letters = make(&mut board, Call::NewMailbox)?;
     perform(&mut board, Call::Send(letters, 5))?;
-    let told = check(alloc, board.journal())?;
-    Ok(told.is_ok())
+    let taken = board.take_journal();
+    let _received = fetch(&mut board, Call::Recv(letters))?;
+    check_both(alloc, &taken, board.journal())
 }
 
-/// A journal in which a message is received that was never sent: its second entry is unlawful.
-pub fn invented(alloc: Global) -> Result<Result<(), usize>, AllocError> {
-    let letters = Name(0);
-    let made = Entry {
-        who: SEAT,
-        call: Call::NewMailbox,
-        reply: Reply::Made(letters),
-    };
-    let received = Entry {
-        who: SEAT,
-        call: Call::Recv(letters),
-        reply: Reply::Got(5u64),
-    };
-    check(alloc, &[made, received])
+/// Says whether two pieces are lawful together, and how many entries they are.
+fn check_both(
+    alloc: Global,
+    first: &[Entry<u64>],
+    second: &[Entry<u64>],
+) -> Result<(bool, u64), Trouble> {
+    let mut checker = Checker::new(alloc)?;
+    feed(&mut checker, first)?;
+    feed(&mut checker, second)?;
+    Ok((checker.verdict().is_ok(), checker.entries()))
 }
 
-/// An answer that was kept is confirmed by the board that gave it, and by no board that answered otherwise.
-pub fn confirmed(alloc: Global) -> Result<[bool; 2], Trouble> {
-    let mut board = Numbers::new(alloc, 100)?;
-    let mut other = Numbers::new(alloc, 100)?;
-    let kept = ask(&mut board, Call::NewMailbox)?;
-    let _channel = ask(&mut other, Call::NewChannel)?;
-    Ok([board.confirm(&kept), other.confirm(&kept)])
+/// Says whether all that the checker was fed is lawful with these entries after it.
+pub fn feed(checker: &mut Checker<u64>, entries: &[Entry<u64>]) -> Result<bool, Trouble> {
+    // No board has that many, but the prover needs the test.
+    if u64::MAX - checker.entries() < entries.len() as u64 {
+        return Err(Trouble::OtherReply);
+    }
+    Ok(checker.feed(entries)?.is_ok())
+}
+
+/// A new board goes on where the journal of an old one ends. It returns the message that waited there, and has three entries.
+pub fn restored(alloc: Global) -> Result<(u64, u64), Trouble> {
+    let mut old = Numbers::new(alloc, 100)?;
+    let letters = make(&mut old, Call::NewMailbox)?;
+    perform(&mut old, Call::Send(letters, 5))?;
+    let mut new = board_of(alloc, old.journal())?;
+    let received = fetch(&mut new, Call::Recv(letters))?;
+    Ok((received, new.entries()))
+}
+
+/// The board that these calls make.
+fn board_of(alloc: Global, entries: &[Entry<u64>]) -> Result<Numbers, Trouble> {
+    let mut checker = Checker::new(alloc)?;
+    feed(&mut checker, entries)?;
+    match checker.restore(100) {
+        Some(restored) => Ok(restored.into_board()),
+        None => Err(Trouble::OtherReply),
+    }
 }

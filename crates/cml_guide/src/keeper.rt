@@ -1,6 +1,6 @@
 //! A journal that is taken piece by piece: each piece is checked and kept.
 use crate::calls::Trouble;
-use crate::cutting::feed;
+use crate::journals::feed;
 use crate::threads::Shared;
 use cml_board::{Checker, Entry};
 use cml_log::MessageLog;

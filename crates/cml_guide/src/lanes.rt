@@ -50,7 +50,7 @@ pub fn send_and_collect<
 }
 
 /// Sends all readings, or as many as there is room for once their collector has stopped, and finishes.
-pub fn send_all<R: Wait>(
+fn send_all<R: Wait>(
     rt: &R,
     mut lane: Lane<u64>,
     has_stopped: &AtomicBool,
@@ -80,7 +80,7 @@ fn send<R: Wait>(rt: &R, lane: &mut Lane<u64>, message: u64, has_stopped: &Atomi
 }
 
 /// Collects all readings, notes that it has stopped, and leaves even if that fails.
-pub fn receive_and_leave<L: MessageLog<u64>, Led: Ledger, R: Wait>(
+fn receive_and_leave<L: MessageLog<u64>, Led: Ledger, R: Wait>(
     rt: &R,
     board: &Shared<L, Led>,
     mut collector: Seat<Led>,

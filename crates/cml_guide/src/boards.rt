@@ -1,8 +1,9 @@
-//! Mailboxes: messages wait in them, and each is received once.
-ghost use Rattle.std.specs.Prelude.{◌≡◌, IfOk, None, Some};
+//! A board: messages wait in a mailbox, and each is received once; an m-variable is emptied and filled again.
+ghost use Rattle.std.specs.Prelude.{◌≡◌, ◌+◌, ◌%◌, ◌^◌, IfOk, option_map};
+ghost use Rattle.cml_board.specs.{held};
 
-use crate::calls::{Numbers, SEAT, Trouble, fetch, make, perform, poll};
-use cml_board::{Call, Outcome};
+use crate::calls::{Numbers, SEAT, Trouble, fetch, make, perform};
+use cml_board::{Call, Name, Outcome};
 use std::alloc::Global;
 
 /// Messages are received in the order in which they were sent.
@@ -35,15 +36,23 @@ pub fn received_later(alloc: Global) -> Result<u64, Trouble>
     }
 }
 
-/// A poll takes the next message, or says that there is none.
-pub fn polled(alloc: Global) -> Result<(Option<u64>, Option<u64>), Trouble>
-    ensures before { IfOk result (λ found. found.0 ≡ None) }
-    ensures after { IfOk result (λ found. found.1 ≡ Some 5) }
+/// Adds to the number in an m-variable. A thread that takes the number has the variable alone until it puts one back.
+/// If the put fails, for example because the journal is full, the variable stays empty.
+pub fn add_to(board: &mut Numbers, count: Name, more: u64) -> Result<(), Trouble>
+    ensures { IfOk result (λ _. held board.new.history count.0
+        ≡ option_map (λ old. (old + more) % 2 ^ 64) (held board.old.history count.0)) }
+{
+    let old = fetch(board, Call::Take(count))?;
+    perform(board, Call::Put(count, old.wrapping_add(more)))
+}
+
+/// A number that is added to twice.
+pub fn counted(alloc: Global) -> Result<u64, Trouble>
+    ensures { IfOk result (λ count. count ≡ 22) }
 {
     let mut board = Numbers::new(alloc, 100)?;
-    let letters = make(&mut board, Call::NewMailbox)?;
-    let before = poll(&mut board, Call::Poll(letters))?;
-    perform(&mut board, Call::Send(letters, 5))?;
-    let after = poll(&mut board, Call::Poll(letters))?;
-    Ok((before, after))
+    let count = make(&mut board, Call::MVarInit(10))?;
+    add_to(&mut board, count, 5)?;
+    add_to(&mut board, count, 7)?;
+    fetch(&mut board, Call::Get(count))
 }

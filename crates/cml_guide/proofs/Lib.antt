@@ -1,2 +1,0 @@
-pub mod CheckingLemmas
-pub mod PollingLemmas
