@@ -1,15 +1,10 @@
-//! Tests of scripts: how they are read, journals, the texts of endings, a caller that records what it makes, and what the
-//! threads of a script do.
-mod answers;
+//! Tests of scripts: what readers return, verdicts on journals, a caller that records its calls, and the order of threads.
 mod auditing;
 mod caller;
-mod concluding;
 mod endings;
 mod flushing;
-mod hold;
 mod reading;
 mod runs;
-mod texts;
 
 use std::process::Abort;
 

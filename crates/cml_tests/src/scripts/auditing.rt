@@ -1,346 +1,181 @@
 //! Journals against a script: lawful ones of it, foreign entries, and what isn't lawful.
-use Asked::{Asks, Fills, Gives, Makes};
-use Replied::{Closed, Done, Got, Made, Nothing};
-use cml_board::Ask::{ClosePort, CopyPort, NewPort, Poll, Recv};
-use cml_board::Give::{Put, Send, Swap};
-use cml_board::Make::{Channel, IVar, Mailbox};
-use cml_board::Who::{Feed, Lane, Seat};
+use Verdict::{Foreign, Lawful, Unlawful};
 use cml_board::{Ask, Call, Entry, Give, Make, Name, Reply, Text, Who};
 use cml_script::{Verdict, audit, read_script};
 use std::alloc::Global;
 use std::process::Abort;
 
-/// A call of a table, whose messages are words.
-enum Asked {
-    Makes(Make),
-    Fills(&'static str),
-    Gives(Give, Name, &'static str),
-    Asks(Ask, Name),
-}
-
-/// A reply of a table.
-enum Replied {
-    Done,
-    Made(Name),
-    Got(&'static str),
-    Nothing,
-    Closed,
-}
-
-/// An entry of a table.
-type Noted = (Who, Asked, Replied);
-
-/// A journal, the script by which it is judged, and the verdict.
-struct Case {
-    name: &'static str,
-    script: &'static str,
-    journal: &'static [Noted],
-    verdict: Verdict,
-}
+/// The script, a journal that it judges, and the verdict. An entry has its seat, lane or feed, the words of its call with the
+/// numbers of objects, and its reply.
+type Case = (&'static str, &'static [&'static str], Verdict);
 
 const MESSAGE: &str = "cml 1\nmailbox m\nthread A\nthread B\nA send m 5\nB recv m\nB poll m\n";
 
 const CLOSED: &str =
     "cml 1\nchannel c\nport c o\nthread A\nA port c p\nA close p\nA copy p q\nA poll q\n";
 
-const TWO: &str =
-    "cml 1\nmailbox m\nivar i\nthread A\nthread B\nA send m 1\nA send m 2\nB send m 3\nB put i 4\n";
+const TWO: &str = "cml 1\nmailbox m\nthread A\nthread B\nA send m 1\nA send m 2\nB send m 3\n";
 
 const WORDS: &str = "cml 2\nmvar v 05\nthread A\nA swap v =5\nA swap v 05\n";
 
-/// The objects and the steps of `MESSAGE`, in order.
-const MAILBOX: Noted = (Seat(0), Makes(Mailbox), Made(Name(0)));
+const MADE: &str = "0 mailbox: made 0";
 
-const SENT: Noted = (Seat(1), Gives(Send, Name(0), "5"), Done);
+const SENT: &str = "1 send 0 5: done";
 
-const RECEIVED: Noted = (Seat(2), Asks(Recv, Name(0)), Got("5"));
+const GOT: &str = "2 recv 0: 5";
 
-const POLLED: Noted = (Seat(2), Asks(Poll, Name(0)), Nothing);
-
-/// The journal of `CLOSED` before its last step.
-const C_MADE: Noted = (Seat(0), Makes(Channel), Made(Name(0)));
-
-const O_MADE: Noted = (Seat(0), Asks(NewPort, Name(0)), Made(Name(1)));
-
-const P_MADE: Noted = (Seat(1), Asks(NewPort, Name(0)), Made(Name(2)));
-
-const P_CLOSED: Noted = (Seat(1), Asks(ClosePort, Name(2)), Done);
-
-const P_COPIED: Noted = (Seat(1), Asks(CopyPort, Name(2)), Closed);
+const POLLED: &str = "2 poll 0: none";
 
 const CASES: &[Case] = &[
-    Case {
-        name: "no entry",
-        script: MESSAGE,
-        journal: &[],
-        verdict: Verdict::Lawful,
-    },
-    Case {
-        name: "the declared object",
-        script: MESSAGE,
-        journal: &[MAILBOX],
-        verdict: Verdict::Lawful,
-    },
-    Case {
-        name: "and the first step",
-        script: MESSAGE,
-        journal: &[MAILBOX, SENT],
-        verdict: Verdict::Lawful,
-    },
-    Case {
-        name: "and the second",
-        script: MESSAGE,
-        journal: &[MAILBOX, SENT, RECEIVED],
-        verdict: Verdict::Lawful,
-    },
-    Case {
-        name: "and all steps",
-        script: MESSAGE,
-        journal: &[MAILBOX, SENT, RECEIVED, POLLED],
-        verdict: Verdict::Lawful,
-    },
-    Case {
-        name: "another seat",
-        script: MESSAGE,
-        journal: &[MAILBOX, SENT, (Seat(1), Asks(Recv, Name(0)), Got("5"))],
-        verdict: Verdict::Foreign(2),
-    },
-    Case {
-        name: "a seat without a thread",
-        script: MESSAGE,
-        journal: &[MAILBOX, (Seat(9), Gives(Send, Name(0), "5"), Done)],
-        verdict: Verdict::Foreign(1),
-    },
-    Case {
-        name: "a seat beyond all threads",
-        script: MESSAGE,
-        journal: &[MAILBOX, (Seat(65), Gives(Send, Name(0), "5"), Done)],
-        verdict: Verdict::Foreign(1),
-    },
-    Case {
-        name: "seat 0 behind the declarations",
-        script: MESSAGE,
-        journal: &[MAILBOX, (Seat(0), Gives(Send, Name(0), "5"), Done)],
-        verdict: Verdict::Foreign(1),
-    },
-    Case {
-        name: "an object that a thread makes",
-        script: MESSAGE,
-        journal: &[(Seat(1), Makes(Mailbox), Made(Name(0)))],
-        verdict: Verdict::Foreign(0),
-    },
-    Case {
-        name: "another message",
-        script: MESSAGE,
-        journal: &[MAILBOX, (Seat(1), Gives(Send, Name(0), "6"), Done)],
-        verdict: Verdict::Foreign(1),
-    },
-    Case {
-        name: "another word for the number",
-        script: MESSAGE,
-        journal: &[MAILBOX, (Seat(1), Gives(Send, Name(0), "05"), Done)],
-        verdict: Verdict::Foreign(1),
-    },
-    Case {
-        name: "another call",
-        script: MESSAGE,
-        journal: &[MAILBOX, (Seat(1), Asks(Poll, Name(0)), Nothing)],
-        verdict: Verdict::Foreign(1),
-    },
-    Case {
-        name: "one object too many",
-        script: MESSAGE,
-        journal: &[MAILBOX, (Seat(0), Makes(Mailbox), Made(Name(1)))],
-        verdict: Verdict::Foreign(1),
-    },
-    Case {
-        name: "another object",
-        script: MESSAGE,
-        journal: &[C_MADE],
-        verdict: Verdict::Foreign(0),
-    },
-    Case {
-        name: "a step too many",
-        script: MESSAGE,
-        journal: &[MAILBOX, SENT, RECEIVED, POLLED, POLLED],
-        verdict: Verdict::Foreign(4),
-    },
-    Case {
-        name: "a reply that isn't the answer",
-        script: MESSAGE,
-        journal: &[MAILBOX, SENT, (Seat(2), Asks(Recv, Name(0)), Got("6"))],
-        verdict: Verdict::Unlawful(2),
-    },
-    Case {
-        name: "a call that would wait",
-        script: MESSAGE,
-        journal: &[MAILBOX, RECEIVED],
-        verdict: Verdict::Unlawful(1),
-    },
-    Case {
-        name: "a name that isn't made",
-        script: MESSAGE,
-        journal: &[MAILBOX, (Seat(1), Gives(Send, Name(1), "5"), Done)],
-        verdict: Verdict::Unlawful(1),
-    },
-    Case {
-        name: "lane 0",
-        script: MESSAGE,
-        journal: &[MAILBOX, (Lane(0), Gives(Send, Name(0), "5"), Done)],
-        verdict: Verdict::Foreign(1),
-    },
-    Case {
-        name: "feed 0",
-        script: MESSAGE,
-        journal: &[MAILBOX, (Feed(0), Gives(Send, Name(0), "5"), Done)],
-        verdict: Verdict::Foreign(1),
-    },
-    Case {
-        name: "lane 1",
-        script: MESSAGE,
-        journal: &[MAILBOX, (Lane(1), Gives(Send, Name(0), "5"), Done)],
-        verdict: Verdict::Foreign(1),
-    },
-    Case {
-        name: "feed 1",
-        script: MESSAGE,
-        journal: &[MAILBOX, (Feed(1), Gives(Send, Name(0), "5"), Done)],
-        verdict: Verdict::Foreign(1),
-    },
-    Case {
-        name: "foreign, and then unlawful",
-        script: MESSAGE,
-        journal: &[
-            MAILBOX,
-            (Seat(9), Gives(Send, Name(0), "5"), Done),
-            (Seat(2), Asks(Recv, Name(0)), Got("6")),
+    (MESSAGE, &[], Lawful),
+    (MESSAGE, &[MADE, SENT], Lawful),
+    (MESSAGE, &[MADE, SENT, GOT, POLLED], Lawful),
+    // Another seat, one without a thread, and seat 0 after the declarations.
+    (MESSAGE, &[MADE, SENT, "1 recv 0: 5"], Foreign(2)),
+    (MESSAGE, &[MADE, "9 send 0 5: done"], Foreign(1)),
+    (MESSAGE, &[MADE, "65 send 0 5: done"], Foreign(1)),
+    (MESSAGE, &[MADE, "0 send 0 5: done"], Foreign(1)),
+    // A lane and a feed that the script doesn't have.
+    (MESSAGE, &[MADE, "lane0 send 0 5: done"], Foreign(1)),
+    (MESSAGE, &[MADE, "lane1 send 0 5: done"], Foreign(1)),
+    (MESSAGE, &[MADE, "feed0 send 0 5: done"], Foreign(1)),
+    // Another maker, one object too many, and another object.
+    (MESSAGE, &["1 mailbox: made 0"], Foreign(0)),
+    (MESSAGE, &[MADE, "0 mailbox: made 1"], Foreign(1)),
+    (MESSAGE, &["0 channel: made 0"], Foreign(0)),
+    // Another message, another word for the number, another call, and a step too many.
+    (MESSAGE, &[MADE, "1 send 0 6: done"], Foreign(1)),
+    (MESSAGE, &[MADE, "1 send 0 05: done"], Foreign(1)),
+    (MESSAGE, &[MADE, "1 poll 0: none"], Foreign(1)),
+    (MESSAGE, &[MADE, SENT, GOT, POLLED, POLLED], Foreign(4)),
+    // Another reply, a call that would wait, and a name that isn't made. That is looked for first.
+    (MESSAGE, &[MADE, SENT, "2 recv 0: 6"], Unlawful(2)),
+    (MESSAGE, &[MADE, GOT], Unlawful(1)),
+    (MESSAGE, &[MADE, "1 send 1 5: done"], Unlawful(1)),
+    (
+        MESSAGE,
+        &[MADE, "9 send 0 5: done", "2 recv 0: 6"],
+        Unlawful(2),
+    ),
+    // The name of a copy of a closed port stands for that port, and for no other.
+    (
+        CLOSED,
+        &[
+            "0 channel: made 0",
+            "0 port 0: made 1",
+            "1 port 0: made 2",
+            "1 close 2: done",
+            "1 copy 2: closed",
+            "1 poll 2: closed",
         ],
-        verdict: Verdict::Unlawful(2),
-    },
-    Case {
-        name: "a closed copy's name stands for the closed port",
-        script: CLOSED,
-        journal: &[
-            C_MADE,
-            O_MADE,
-            P_MADE,
-            P_CLOSED,
-            P_COPIED,
-            (Seat(1), Asks(Poll, Name(2)), Closed),
+        Lawful,
+    ),
+    (
+        CLOSED,
+        &[
+            "0 channel: made 0",
+            "0 port 0: made 1",
+            "1 port 0: made 2",
+            "1 close 2: done",
+            "1 copy 2: closed",
+            "1 poll 1: none",
         ],
-        verdict: Verdict::Lawful,
-    },
-    Case {
-        name: "and not for another port",
-        script: CLOSED,
-        journal: &[
-            C_MADE,
-            O_MADE,
-            P_MADE,
-            P_CLOSED,
-            P_COPIED,
-            (Seat(1), Asks(Poll, Name(1)), Nothing),
+        Foreign(5),
+    ),
+    // Another order of the threads, and another order of one.
+    (
+        TWO,
+        &[
+            MADE,
+            "2 send 0 3: done",
+            "1 send 0 1: done",
+            "1 send 0 2: done",
         ],
-        verdict: Verdict::Foreign(5),
-    },
-    Case {
-        name: "another order of the threads",
-        script: TWO,
-        journal: &[
-            MAILBOX,
-            (Seat(0), Makes(IVar), Made(Name(1))),
-            (Seat(2), Gives(Send, Name(0), "3"), Done),
-            (Seat(1), Gives(Send, Name(0), "1"), Done),
-            (Seat(2), Gives(Put, Name(1), "4"), Done),
-            (Seat(1), Gives(Send, Name(0), "2"), Done),
-        ],
-        verdict: Verdict::Lawful,
-    },
-    Case {
-        name: "the script's words",
-        script: WORDS,
-        journal: &[
-            (Seat(0), Fills("05"), Made(Name(0))),
-            (Seat(1), Gives(Swap, Name(0), "=5"), Got("05")),
-            (Seat(1), Gives(Swap, Name(0), "05"), Got("=5")),
-        ],
-        verdict: Verdict::Lawful,
-    },
-    Case {
-        name: "another first word",
-        script: WORDS,
-        journal: &[
-            (Seat(0), Fills("5"), Made(Name(0))),
-            (Seat(1), Gives(Swap, Name(0), "=5"), Got("5")),
-            (Seat(1), Gives(Swap, Name(0), "05"), Got("=5")),
-        ],
-        verdict: Verdict::Foreign(0),
-    },
-    Case {
-        name: "another word in a step",
-        script: WORDS,
-        journal: &[
-            (Seat(0), Fills("05"), Made(Name(0))),
-            (Seat(1), Gives(Swap, Name(0), "=5"), Got("05")),
-            (Seat(1), Gives(Swap, Name(0), "5"), Got("=5")),
-        ],
-        verdict: Verdict::Foreign(2),
-    },
-    Case {
-        name: "another word in a reply",
-        script: WORDS,
-        journal: &[
-            (Seat(0), Fills("05"), Made(Name(0))),
-            (Seat(1), Gives(Swap, Name(0), "=5"), Got("05")),
-            (Seat(1), Gives(Swap, Name(0), "05"), Got("5")),
-        ],
-        verdict: Verdict::Unlawful(2),
-    },
+        Lawful,
+    ),
+    (TWO, &[MADE, "1 send 0 2: done"], Foreign(1)),
+    // The script's words, another first word, another in a step, and another in a reply.
+    (
+        WORDS,
+        &["0 mvar 05: made 0", "1 swap 0 =5: 05", "1 swap 0 05: =5"],
+        Lawful,
+    ),
+    (WORDS, &["0 mvar 5: made 0", "1 swap 0 =5: 5"], Foreign(0)),
+    (
+        WORDS,
+        &["0 mvar 05: made 0", "1 swap 0 =5: 05", "1 swap 0 5: =5"],
+        Foreign(2),
+    ),
+    (
+        WORDS,
+        &["0 mvar 05: made 0", "1 swap 0 =5: 05", "1 swap 0 05: 5"],
+        Unlawful(2),
+    ),
 ];
 
 fn text(alloc: Global, word: &str) -> Option<Text> {
     Text::from_bytes(alloc, word.as_bytes()).ok()?.ok()
 }
 
-fn call(alloc: Global, asked: &Asked) -> Option<Call<Text>> {
-    match asked {
-        Asked::Makes(make) => Some(Call::make(*make)),
-        Asked::Fills(word) => Some(Call::MVarInit(text(alloc, word)?)),
-        Asked::Gives(give, name, word) => Some(Call::give(*give, *name, text(alloc, word)?)),
-        Asked::Asks(ask, name) => Some(Call::ask(*ask, *name)),
+fn who(word: &str) -> Option<Who> {
+    if let Some(number) = word.strip_prefix("lane") {
+        return Some(Who::Lane(number.parse().ok()?));
+    }
+    if let Some(number) = word.strip_prefix("feed") {
+        return Some(Who::Feed(number.parse().ok()?));
+    }
+    Some(Who::Seat(word.parse().ok()?))
+}
+
+fn call(alloc: Global, words: &[&str]) -> Option<Call<Text>> {
+    let (word, rest) = words.split_first()?;
+    if let Some(make) = Make::of_word(word) {
+        return making(alloc, make, rest);
+    }
+    let name = Name(rest.first()?.parse().ok()?);
+    if let Some(give) = Give::of_word(word) {
+        return Some(Call::give(give, name, text(alloc, rest.get(1)?)?));
+    }
+    Some(Call::ask(Ask::of_word(word)?, name))
+}
+
+/// The call that makes an object, which holds the word after it, if there is one.
+fn making(alloc: Global, make: Make, rest: &[&str]) -> Option<Call<Text>> {
+    match rest.first() {
+        Some(word) => Some(Call::MVarInit(text(alloc, word)?)),
+        None => Some(Call::make(make)),
     }
 }
 
-fn reply(alloc: Global, replied: &Replied) -> Option<Reply<Text>> {
-    match replied {
-        Replied::Done => Some(Reply::Done),
-        Replied::Made(name) => Some(Reply::Made(*name)),
-        Replied::Got(word) => Some(Reply::Got(text(alloc, word)?)),
-        Replied::Nothing => Some(Reply::Nothing),
-        Replied::Closed => Some(Reply::Closed),
+fn reply(alloc: Global, word: &str) -> Option<Reply<Text>> {
+    match word {
+        "done" => Some(Reply::Done),
+        "none" => Some(Reply::Nothing),
+        "closed" => Some(Reply::Closed),
+        _ => match word.strip_prefix("made ") {
+            Some(name) => Some(Reply::Made(Name(name.parse().ok()?))),
+            None => Some(Reply::Got(text(alloc, word)?)),
+        },
     }
 }
 
-fn entry(alloc: Global, noted: &Noted) -> Option<Entry<Text>> {
-    let (who, asked, replied) = noted;
+fn entry(alloc: Global, line: &str) -> Option<Entry<Text>> {
+    let (asked, replied) = line.split_once(": ")?;
+    let words = asked.split(' ').collect::<Vec<&str>>(alloc).ok()?;
+    let (first, rest) = words.split_first()?;
+    let who = who(first)?;
     let reply = reply(alloc, replied)?;
-    let call = call(alloc, asked)?;
-    Some(Entry {
-        who: *who,
-        call,
-        reply,
-    })
+    let call = call(alloc, rest)?;
+    Some(Entry { who, call, reply })
 }
 
-/// The entries of a journal. If memory runs out, some are left out.
-fn entries(alloc: Global, journal: &[Noted]) -> Vec<Entry<Text>> {
+/// The entries of a journal, or `None` if memory runs out or a line is none.
+fn entries(alloc: Global, journal: &[&str]) -> Option<Vec<Entry<Text>>> {
     let mut entries = Vec::new(alloc);
-    for noted in journal.iter() {
-        if let Some(entry) = entry(alloc, noted) {
-            entries.push(entry).is_ok();
-        }
+    for line in journal.iter() {
+        entries.push(entry(alloc, line)?).ok()?;
     }
-    entries
+    Some(entries)
 }
 
 /// The verdict on a short journal.
@@ -352,10 +187,15 @@ fn audited(alloc: Global, script: &str, entries: &[Entry<Text>]) -> Option<Verdi
     audit(alloc, &script, entries).ok()
 }
 
+fn judged(alloc: Global, script: &str, journal: &[&str]) -> Option<Verdict> {
+    let entries = entries(alloc, journal)?;
+    audited(alloc, script, entries.as_slice())
+}
+
 fn judge(rt: &(impl Abort + AllocGlobal), case: &Case) {
-    let entries = entries(rt.alloc(), case.journal);
-    let verdict = audited(rt.alloc(), case.script, &entries);
-    assert_eq!(rt; verdict, Some(case.verdict), "{}", case.name);
+    let (script, journal, expected) = case;
+    let verdict = judged(rt.alloc(), script, journal);
+    assert_eq!(rt; verdict, Some(*expected), "{journal:?}");
 }
 
 #[test]

@@ -1,12 +1,14 @@
 //! Scripts that threads perform in the order that a gate leaves.
-use super::hold::Hold;
-use cml_script::{Ending, run};
+ghost use Rattle.std.specs.Prelude.{false};
+
+use cml_script::{Ending, Gate, run};
 use std::alloc::Global;
 use std::process::Abort;
 use std::sync::Wait;
+use std::sync::atomic::{AtomicBool, Ordering};
 use std::thread::Threads;
 
-pub const LIMIT: u64 = 65_536;
+const LIMIT: u64 = 65_536;
 
 /// A script that is run so often while a thread is held, how it ends, and its report.
 struct Run {
@@ -17,7 +19,7 @@ struct Run {
     report: &'static str,
 }
 
-pub const TWO_SEND: &str = "cml 1\nmailbox m\nthread A\nthread B\nA send m 5\nB send m 6\n";
+const TWO_SEND: &str = "cml 1\nmailbox m\nthread A\nthread B\nA send m 5\nB send m 6\n";
 
 const RUNS: &[Run] = &[
     Run {
@@ -43,6 +45,47 @@ const RUNS: &[Run] = &[
         report: "mailbox m: sent 0 got 0 waits 0\nend: held 0 left 2\n",
     },
 ];
+
+/// How often a thread that is held looks whether it may go on, before it gives up.
+const LOOKS: usize = 100_000_000;
+
+/// Holds one thread until a step of another was answered.
+#[derive(Drop)]
+struct Hold {
+    held: usize,
+    is_answered: AtomicBool,
+}
+
+impl Hold {
+    fn new(held: usize) -> Hold {
+        Hold {
+            held,
+            is_answered: AtomicBool::new(false),
+        }
+    }
+}
+
+impl Gate for Hold {
+    ghost opens = { λ _. false };
+
+    fn before(&self, thread: usize, _step: usize) -> bool {
+        if self.held != thread {
+            return true;
+        }
+        for _ in 0..LOOKS {
+            if self.is_answered.load(Ordering::SeqCst) {
+                return true;
+            }
+        }
+        false
+    }
+
+    fn after(&self, thread: usize, _step: usize) {
+        if self.held != thread {
+            self.is_answered.store(true, Ordering::SeqCst);
+        }
+    }
+}
 
 /// Whether it ends so, with that report.
 fn is_as_told<R: Threads + Wait + Sync>(rt: &R, alloc: Global, told: &Run) -> bool {

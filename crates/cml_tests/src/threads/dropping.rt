@@ -1,4 +1,5 @@
-//! When a log drops its items: as soon as the chunk of the least place lies after them, and the rest with the log.
+//! When a log drops its items: as soon as the chunk of the least place lies after them, and the rest with the log. And which
+//! log is refused.
 use cml_log::{ChunkLog, Key, MessageLog, PlainLog};
 use std::alloc::{AllocError, Global};
 use std::sync::atomic::AtomicU64;
@@ -29,6 +30,11 @@ pub fn are_dropped<R: Threads>(rt: &R, alloc: Global) -> Result<bool, AllocError
             && drops_each_once::<ChunkLog<Counted, 4>>(alloc, &other)?
             && drops_elsewhere(rt, alloc, &last)?,
     )
+}
+
+/// Whether a log in chunks of another size than 1 to 1,024 is refused.
+pub fn are_refused(alloc: Global) -> bool {
+    ChunkLog::<u64, 0>::new(alloc).is_err() && ChunkLog::<u64, 1025>::new(alloc).is_err()
 }
 
 /// Nine items that no cursor reads, of which one is kept, and nine more, of which a cursor passes some.

@@ -2,8 +2,8 @@
 ghost use Rattle.std.specs.Prelude.{◌≡◌, ◌^◌};
 
 use super::scene::{Numbers, alone, tell};
-use cml_board::{Board, BoardLog, Call, Checker, Name, Restored, Who};
-use cml_threads::{Left, PARTS, Seat};
+use cml_board::{Answer, Board, BoardLog, Call, Checker, Name, Restored, Who};
+use cml_threads::{Left, PARTS, Seat, Settled};
 use std::alloc::Global;
 use std::marker::Brand;
 use std::sync::Wait;
@@ -11,11 +11,13 @@ use std::sync::ledger::{Blank, Ledger};
 use std::thread::{self, Threads};
 
 /// The journal has three entries of seats, the last of which has number 4, and one of a lane. Two new seats make 400 calls each. Each
-/// line has a left: the number of its seat, for how many seats it is, and how many answers these had.
+/// line has a left: the number of its seat, for how many seats it is, and how many answers these had. In the end all answers
+/// of the new seats are confirmed.
 pub const TOLD: &str = "(0, 5, 3)
 (5, 1, 400)
 (6, 1, 400)
 Count { seats: 803, rings: 1, total: 804 }
+confirmed 800
 ";
 
 const ROUNDS: u64 = 200;
@@ -45,10 +47,12 @@ fn go_on<Led: Ledger + Send + Sync, R: Threads + Wait + Sync>(
     };
     if let Ok((board, left)) = Numbers::<Led>::restore(alloc, restored, blank) {
         let mut lefts = alone(alloc, left);
-        add_new(rt, alloc, &board, &mut lefts);
+        let answers = add_new(rt, alloc, &board, &mut lefts);
         tell_lefts(text, &lefts);
         if let Ok(settled) = board.settle(lefts) {
             tell(text, &settled.count());
+            let confirmed = confirmed(&settled, &answers);
+            write!(text, "confirmed {confirmed}\n").is_ok();
         }
     }
 }
@@ -66,43 +70,86 @@ fn board_of_journal(alloc: Global) -> Option<Restored<u64, BoardLog<u64>>> {
     checker.restore(1_000)
 }
 
-/// Two new seats call until each has made all its calls, and leave.
+/// What a thread returns: what its seat left, and its answers.
+type Called<Led> = (Left<Led>, Vec<Answer<u64>>);
+
+/// Two new seats call until each has made all its calls, and leave. Returns all answers.
 fn add_new<Led: Ledger + Send + Sync, R: Threads + Wait + Sync>(
     rt: &R,
     alloc: Global,
     board: &Numbers<Led>,
     lefts: &mut Vec<Left<Led>>,
-) {
+) -> Vec<Answer<u64>> {
     let mut seats = Vec::new(alloc);
     for _ in 0..2 {
         if let Ok(seat) = board.seat(rt) {
             seats.push(seat).is_ok();
         }
     }
-    if let Ok(done) = thread::map_vec(rt, seats, &|seat: Seat<Led>| { call_all(rt, board, seat) }) {
-        add_all(done, lefts);
+    let mut all = Vec::new(alloc);
+    if let Ok(done) = thread::map_vec(
+        rt,
+        seats,
+        &|seat: Seat<Led>| { call_all(rt, alloc, board, seat) },
+    ) {
+        add_all(done, lefts, &mut all);
+    }
+    all
+}
+
+fn add_all<Led: Ledger>(
+    done: Vec<Called<Led>>,
+    lefts: &mut Vec<Left<Led>>,
+    all: &mut Vec<Answer<u64>>,
+) {
+    for (left, answers) in done {
+        lefts.push(left).is_ok();
+        add_answers(answers, all);
     }
 }
 
-fn add_all<Led: Ledger>(done: Vec<Left<Led>>, lefts: &mut Vec<Left<Led>>) {
-    for left in done {
-        lefts.push(left).is_ok();
+fn add_answers(answers: Vec<Answer<u64>>, all: &mut Vec<Answer<u64>>) {
+    for answer in answers {
+        all.push(answer).is_ok();
     }
 }
 
 /// Each needs what the other sends.
-fn call_all<Led: Ledger, R: Wait>(rt: &R, board: &Numbers<Led>, seat: Seat<Led>) -> Left<Led> {
+fn call_all<Led: Ledger, R: Wait>(
+    rt: &R,
+    alloc: Global,
+    board: &Numbers<Led>,
+    seat: Seat<Led>,
+) -> Called<Led> {
     let mut seat = seat;
-    for round in 0..ROUNDS {
-        let (first, second) = if seat.number() == 5 {
-            (Call::Send(TO, round), Call::Recv(FRO))
-        } else {
-            (Call::Recv(TO), Call::Send(FRO, round))
-        };
-        board.call(rt, &mut seat, first).is_ok();
-        board.call(rt, &mut seat, second).is_ok();
+    let mut answers = Vec::new(alloc);
+    for round in 0..2 * ROUNDS {
+        let call = call_of(seat.number(), round);
+        if let Ok(answer) = board.call(rt, &mut seat, call) {
+            answers.push(answer).is_ok();
+        }
     }
-    board.leave(rt, seat)
+    (board.leave(rt, seat), answers)
+}
+
+fn call_of(seat: u64, round: u64) -> Call<u64> {
+    match (seat == 5, round % 2 == 0) {
+        (true, true) => Call::Send(TO, round),
+        (true, false) => Call::Recv(FRO),
+        (false, true) => Call::Recv(TO),
+        (false, false) => Call::Send(FRO, round),
+    }
+}
+
+/// How many of these answers the journal confirms.
+fn confirmed(settled: &Settled<u64, BoardLog<u64>>, answers: &[Answer<u64>]) -> usize {
+    let mut count = 0usize;
+    for answer in answers.iter() {
+        if settled.board().confirm(answer) {
+            count = count.saturating_add(1);
+        }
+    }
+    count
 }
 
 fn tell_lefts<Led: Ledger>(text: &mut String, lefts: &Vec<Left<Led>>) {

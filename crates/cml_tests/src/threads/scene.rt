@@ -1,138 +1,101 @@
-//! Scenes on a switchboard, and the one place that names a ledger for them. The result of a scene is a text.
-ghost use Rattle.std.specs.Prelude.{◌≡◌, ◌≤◌, ◌^◌};
+//! Steps of one seat or two on a switchboard, and the one place that names a ledger for them. The result is a text.
+ghost use Rattle.std.specs.Prelude.{◌≡◌, ◌^◌};
 
-use super::crew::{self, Crew};
-use super::steps::{Step, taken};
-use cml_board::{BoardLog, Entry};
-use cml_threads::{Left, PARTS, Settled, Switchboard};
+use super::steps::taken;
+use super::tables::{Rows, Scene};
+use cml_board::BoardLog;
+use cml_threads::{Left, PARTS, Switchboard};
 use std::alloc::Global;
 use std::fmt::Debug;
 use std::marker::Brand;
 use std::sync::Wait;
 use std::sync::ledger::{Blank, Ledger};
-use std::thread::Threads;
 
 /// A switchboard whose messages are numbers.
 pub type Numbers<Led> = Switchboard<u64, BoardLog<u64>, Led>;
 
-/// One that was settled.
-pub type Final = Settled<u64, BoardLog<u64>>;
-
-/// What is done on a switchboard.
-#[derive(Clone, Copy)]
-pub enum Scene {
-    /// Several threads are at work.
-    Threads(Crew),
-    /// One seat takes steps, alone.
-    Alone(&'static [Step]),
-    /// One seat takes steps, and then another. It is settled with the left of the first, and then with both.
-    InTurn(&'static [Step], &'static [Step]),
-    /// One seat takes steps, and another is dropped.
-    Dropped(&'static [Step]),
-}
-
-/// Performs the scene on a switchboard whose journal takes this many entries, and returns its result.
-pub fn performed<R: Threads + Wait + Sync>(
-    rt: &R,
-    alloc: Global,
-    limit: u64,
-    scene: Scene,
-) -> String {
-    let limit = limit.max(1).min(4_294_967_296);
+/// Performs a scene, and returns the results of its steps and its end.
+pub fn performed<R: Wait>(rt: &R, alloc: Global, scene: &Scene) -> String {
     let mut text = String::new(alloc);
-    perform_in::<Brand, R>(rt, alloc, &mut text, limit, scene, Blank::new(PARTS));
+    perform_in::<Brand, R>(rt, alloc, &mut text, scene, Blank::new(PARTS));
     text
 }
 
-fn perform_in<Led: Ledger + Send + Sync, R: Threads + Wait + Sync>(
+/// What the scene's table has.
+pub fn expected(alloc: Global, scene: &Scene) -> String {
+    let (_, first, second, end) = scene;
+    let mut text = String::new(alloc);
+    add_results(&mut text, first);
+    add_results(&mut text, second);
+    text.push_str(end).is_ok();
+    text
+}
+
+fn add_results(text: &mut String, rows: Rows) {
+    for (_, result) in rows.iter() {
+        write!(text, "{result}\n").is_ok();
+    }
+}
+
+fn perform_in<Led: Ledger, R: Wait>(
     rt: &R,
     alloc: Global,
     text: &mut String,
-    limit: u64,
-    scene: Scene,
+    scene: &Scene,
     blank: Blank,
 )
-    requires least { 1 ≤ limit }
-    requires most { limit ≤ 2 ^ 32 }
     requires name { blank.name ≡ Led.name }
     requires parts { blank.parts ≡ Led.parts }
     requires enough { blank.parts ≡ 2 ^ 63 }
 {
+    let limit = scene.0.max(1).min(4_294_967_296);
     if let Ok(board) = Switchboard::new(alloc, limit, blank) {
         perform::<Led, R>(rt, alloc, text, board, scene);
     }
 }
 
-fn perform<Led: Ledger + Send + Sync, R: Threads + Wait + Sync>(
+fn perform<Led: Ledger, R: Wait>(
     rt: &R,
     alloc: Global,
     text: &mut String,
     board: Numbers<Led>,
-    scene: Scene,
+    scene: &Scene,
 ) {
-    match scene {
-        Scene::Threads(crew) => crew::perform(rt, alloc, text, board, crew),
-        Scene::Alone(steps) => settle_alone(rt, alloc, text, board, steps),
-        Scene::InTurn(first, second) => settle_late(rt, alloc, text, board, first, second),
-        Scene::Dropped(steps) => {
-            board.seat(rt).is_ok();
-            settle_alone(rt, alloc, text, board, steps);
+    let (_, first, second, _) = scene;
+    if let Some(left) = taken(rt, text, &board, first) {
+        let lefts = alone(alloc, left);
+        if second.is_empty() {
+            end(text, board, lefts);
+        } else {
+            settle_late(rt, text, board, lefts, second);
         }
     }
 }
 
-/// A seat takes its steps, and then the switchboard is settled with what it left.
-fn settle_alone<Led: Ledger, R: Wait>(
-    rt: &R,
-    alloc: Global,
-    text: &mut String,
-    board: Numbers<Led>,
-    steps: &[Step],
-) {
-    if let Some(left) = taken(rt, text, &board, steps) {
-        end(text, board, alone(alloc, left));
-    }
-}
-
-/// Two seats take their steps. With the left of the first `settle` fails, and with the lefts of both it succeeds.
+/// The second seat takes its steps. With the left of the first `settle` fails, and with the lefts of both it succeeds.
 fn settle_late<Led: Ledger, R: Wait>(
     rt: &R,
-    alloc: Global,
     text: &mut String,
     board: Numbers<Led>,
-    first: &[Step],
-    second: &[Step],
+    lefts: Vec<Left<Led>>,
+    rows: Rows,
 ) {
-    let (Some(one), Some(two)) = (
-        taken(rt, text, &board, first),
-        taken(rt, text, &board, second),
-    ) else {
+    let Some(left) = taken(rt, text, &board, rows) else {
         return;
     };
-    if let Err((board, mut lefts)) = board.settle(alone(alloc, one)) {
-        lefts.push(two).is_ok();
+    if let Err((board, mut lefts)) = board.settle(lefts) {
+        lefts.push(left).is_ok();
         end(text, board, lefts);
     }
 }
 
-/// Settles a switchboard with these lefts, and tells its counts and its journal; or how many lefts are handed back, and the
-/// journal all the same.
+/// Settles a switchboard with these lefts, and tells its counts and its journal.
 fn end<Led: Ledger>(text: &mut String, board: Numbers<Led>, lefts: Vec<Left<Led>>) {
-    match board.settle(lefts) {
-        Ok(settled) => {
-            tell(text, &settled.count());
-            tell_journal(text, settled.board().journal());
+    if let Ok(settled) = board.settle(lefts) {
+        tell(text, &settled.count());
+        for entry in settled.board().journal().iter() {
+            tell(text, &(entry.who, &entry.call, &entry.reply));
         }
-        Err((board, lefts)) => {
-            tell(text, &lefts.len());
-            tell_journal(text, board.into_hall().board().journal());
-        }
-    }
-}
-
-pub fn tell_journal(text: &mut String, journal: &[Entry<u64>]) {
-    for entry in journal.iter() {
-        tell(text, &(entry.who, &entry.call, &entry.reply));
     }
 }
 

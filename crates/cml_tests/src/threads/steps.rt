@@ -1,7 +1,8 @@
 //! Steps of one seat, with a lane and a feed that it has at hand. The result of each step is a line of a text.
 use super::forms::Form;
 use super::scene::{Numbers, tell};
-use cml_board::{Call, Entry, Name, Refusal};
+use super::tables::Rows;
+use cml_board::{Ask, Call, Entry, Name, Refusal};
 use cml_lanes::{Feed, Lane};
 use cml_threads::{Left, Seat};
 use std::sync::Wait;
@@ -19,10 +20,8 @@ const FIRST: u64 = 0;
 #[derive(Clone, Copy)]
 pub enum Step {
     Form(Form),
-    /// A receive by `call`.
-    Recv(Name),
-    /// A take by `call`.
-    Take(Name),
+    /// A call by `call`.
+    Call(Ask, Name),
     Reserve(usize),
     Cut,
     /// A cut that hands the journal over: how many entries.
@@ -38,6 +37,8 @@ pub enum Step {
     Push(u64),
     /// The lane is closed by its end.
     CloseLane,
+    /// The thread's side is dropped, and then the lane: how many messages were moved, and whether it is closed.
+    DropLane,
     AbandonLane,
     OpenFeed(Name),
     Pump,
@@ -61,7 +62,7 @@ pub fn taken<Led: Ledger, R: Wait>(
     rt: &R,
     text: &mut String,
     board: &Numbers<Led>,
-    steps: &[Step],
+    rows: Rows,
 ) -> Option<Left<Led>> {
     let seat = board.seat(rt).ok()?;
     let mut hands = Hands {
@@ -71,7 +72,7 @@ pub fn taken<Led: Ledger, R: Wait>(
         lane: None,
         feed: None,
     };
-    for step in steps.iter() {
+    for (step, _) in rows.iter() {
         hands.take(text, *step);
     }
     Some(board.leave(rt, hands.seat))
@@ -81,8 +82,7 @@ impl<Led: Ledger, R: Wait> Hands<'_, Led, R> {
     fn take(&mut self, text: &mut String, step: Step) {
         match step {
             Step::Form(form) => tell(text, &form.reply(self.rt, self.board, &mut self.seat)),
-            Step::Recv(name) => self.call(text, Call::Recv(name)),
-            Step::Take(name) => self.call(text, Call::Take(name)),
+            Step::Call(ask, name) => self.call(text, Call::ask(ask, name)),
             Step::Reserve(entries) => tell(text, &self.board.reserve(self.rt, entries)),
             Step::Cut => tell(text, &self.board.cut(self.rt)),
             Step::TakeJournal => tell(text, &journal_taken(self.rt, self.board)),
@@ -93,6 +93,7 @@ impl<Led: Ledger, R: Wait> Hands<'_, Led, R> {
             Step::OpenLane(target) => self.open_lane(text, target),
             Step::Push(message) => self.push(text, message),
             Step::CloseLane => self.close_lane(text),
+            Step::DropLane => self.drop_lane(text),
             Step::AbandonLane => tell(text, &self.board.abandon_lane(self.rt, FIRST)),
             Step::OpenFeed(channel) => self.open_feed(text, channel),
             Step::Pump => tell(text, &self.board.pump(self.rt, FIRST)),
@@ -143,6 +144,11 @@ impl<Led: Ledger, R: Wait> Hands<'_, Led, R> {
         }
     }
 
+    fn drop_lane(&mut self, text: &mut String) {
+        self.lane = None;
+        tell(text, &self.board.drop_lane(self.rt, FIRST));
+    }
+
     fn open_feed(&mut self, text: &mut String, channel: Name) {
         if let Ok((feed, number)) = self.board.open_feed(self.rt, channel, ROOM) {
             tell(text, &(number, feed.port()));
@@ -173,7 +179,7 @@ fn has_end<Led: Ledger, R: Wait>(rt: &R, board: &Numbers<Led>) -> Result<bool, R
 }
 
 /// Finishes a lane, and closes it by its end.
-pub fn closed<Led: Ledger, R: Wait>(
+fn closed<Led: Ledger, R: Wait>(
     rt: &R,
     board: &Numbers<Led>,
     lane: Lane<u64>,
