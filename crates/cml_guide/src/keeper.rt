@@ -41,7 +41,6 @@ impl Keeper {
         if at.saturating_sub(self.entries()) < PIECE {
             return Ok(());
         }
-        // Clients may have lanes open.
         self.keep(board.take_journal_open(rt))
     }
 

@@ -116,7 +116,7 @@ fn receive_all<L: MessageLog<u64>, Led: Ledger, R: Wait>(
 }
 
 /// Receives `count` readings, and returns their sum.
-pub fn receive<L: MessageLog<u64>, Led: Ledger, R: Wait>(
+fn receive<L: MessageLog<u64>, Led: Ledger, R: Wait>(
     rt: &R,
     board: &Shared<L, Led>,
     collector: &mut Seat<Led>,
@@ -131,7 +131,7 @@ pub fn receive<L: MessageLog<u64>, Led: Ledger, R: Wait>(
 }
 
 /// Closes the lane. If that fails, abandons it: no call fails with `Stalled` while it is open.
-pub fn close<L: MessageLog<u64>, Led: Ledger, R: Wait>(
+fn close<L: MessageLog<u64>, Led: Ledger, R: Wait>(
     rt: &R,
     board: &Shared<L, Led>,
     lane: u64,

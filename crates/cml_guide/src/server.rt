@@ -2,7 +2,7 @@
 ghost use Rattle.std.specs.Prelude.{◌≡◌, ◌+◌, IfOk};
 
 use crate::calls::Trouble;
-use crate::clients::{Client, Visit, Way, ask_and_leave};
+use crate::clients::{Client, Visit, ask_and_leave};
 use crate::examples::run_on;
 use crate::keeper::Keeper;
 use crate::threads::{Came, Ended, Shared, join_all, made};
@@ -17,10 +17,10 @@ use std::sync::ledger::{Blank, Ledger};
 use std::thread;
 use std::thread::{JoinHandle, Threads};
 
-/// How each client sends its requests.
-const WAYS: [Way; 3] = [Way::BySeat, Way::BySeat, Way::ByLanes];
+/// How many clients there are.
+const CLIENTS: usize = 3;
 
-/// How many entries the journal takes between two cuts: more than can come while a lane is open.
+/// How many entries the journal takes between two cuts: more than can come before the server takes them.
 pub const LIMIT: u64 = 100_000;
 
 /// The result of a server.
@@ -84,7 +84,7 @@ pub fn open_and_close<Led: Ledger + Send + Sync, R: Threads + Wait + Sync>(
     let mut shop = open(rt, board)?;
     let clients = make_clients(rt, alloc, board, &mut shop)?;
     // A thread that runs must be joined, so there is room for all of them before the first starts.
-    let running = Vec::with_capacity(alloc, WAYS.len())?;
+    let running = Vec::with_capacity(alloc, CLIENTS)?;
     let (visits, shift) = let_in(rt, alloc, board, clients, running, shop, keeper);
     sum_up_day(alloc, visits?, shift)
 }
@@ -98,7 +98,7 @@ fn open<L: MessageLog<u64>, Led: Ledger, R: Wait>(
     Ok(Shop { seat, requests })
 }
 
-/// A client for each way, with a seat and a mailbox for its answers.
+/// All clients, each with a seat and a mailbox for its answers.
 fn make_clients<L: MessageLog<u64>, Led: Ledger, R: Wait>(
     rt: &R,
     alloc: Global,
@@ -106,11 +106,10 @@ fn make_clients<L: MessageLog<u64>, Led: Ledger, R: Wait>(
     shop: &mut Shop<Led>,
 ) -> Result<Vec<Client<Led>>, Trouble> {
     let mut clients = Vec::new(alloc);
-    for way in WAYS.iter() {
+    for _ in 0..CLIENTS {
         let answers = made(board.mailbox(rt, &mut shop.seat))?;
         clients.push(Client {
             seat: board.seat(rt)?,
-            way: *way,
             requests: shop.requests,
             answers,
         })?;
@@ -216,7 +215,7 @@ fn sum_tickets<Led: Ledger>(
         lefts.push(visit.left)?;
     }
     // One is missing only if there was no memory to note it.
-    if lefts.len() <= WAYS.len() {
+    if lefts.len() <= CLIENTS {
         return Err(Trouble::NoMemory);
     }
     Ok(tickets)

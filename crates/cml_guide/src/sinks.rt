@@ -3,7 +3,7 @@ ghost use Rattle.std.specs.Prelude.{◌≡◌, []};
 
 use crate::calls::{Trouble, message_of, name_of, nothing_of};
 use crate::examples::count_in_pieces;
-use crate::threads::{Came, Ended, settle};
+use crate::threads::{Came, Ended, gathered, settle};
 use cml_board::{BoardLog, Call, Entry, GhostEntries, Name};
 use cml_log::MessageLog;
 use cml_threads::{Count, Failure, Keeping, Left, PARTS, Seat, Sink, Start};
@@ -90,7 +90,8 @@ pub fn raise_by_four<
 >(rt: &R, alloc: Global, board: &Counted<L, Led>) -> Came<Name, Led> {
     let (seats, counter) = begin(rt, alloc, board)?;
     let raised = thread::map_vec(rt, seats, &|seat| raise(rt, board, seat, counter))?;
-    Ok((counter, lefts_of(alloc, raised)?))
+    let (_, lefts) = gathered(alloc, raised)?;
+    Ok((counter, lefts))
 }
 
 /// The threads' seats, and the counter.
@@ -131,19 +132,6 @@ fn raise_each<L: MessageLog<u64>, Led: Start<u64>, R: Wait>(
         nothing_of(board.reply(rt, seat, Call::Put(counter, taken.wrapping_add(1)))?)?;
     }
     Ok(())
-}
-
-/// The seats of threads that raised the counter.
-fn lefts_of<Led: Ledger>(
-    alloc: Global,
-    raised: Vec<(Result<(), Trouble>, Left<Led>)>,
-) -> Result<Vec<Left<Led>>, Trouble> {
-    let mut lefts = Vec::new(alloc);
-    for (outcome, left) in raised {
-        outcome?;
-        lefts.push(left)?;
-    }
-    Ok(lefts)
 }
 
 /// Hands over what the journal has since the last cut, and settles the switchboard.

@@ -3,7 +3,7 @@ ghost use Rattle.std.specs.Prelude.{◌≡◌, ◌+◌, IfOk};
 
 use crate::calls::Trouble;
 use crate::examples::stream;
-use crate::threads::{Came, Shared, done, got, made};
+use crate::threads::{Came, Shared, done, gathered, got, made};
 use cml_board::{BoardLog, Name};
 use cml_log::MessageLog;
 use cml_threads::{Count, Left, PARTS, Seat};
@@ -37,13 +37,6 @@ struct Reader<Led: Ledger> {
     port: Name,
 }
 
-/// The result of a reader's thread.
-#[derive(Drop)]
-struct Reading<Led: Ledger> {
-    digits: Result<u64, Trouble>,
-    left: Left<Led>,
-}
-
 /// What each reader has read, and the seats of all.
 pub fn tell_to_three<
     L: MessageLog<u64> + Send,
@@ -60,8 +53,8 @@ pub fn tell_to_three<
         move || tell(rt, board, teller, news),
     );
     told?;
-    let mut lefts = vec![in alloc; teller]?;
-    let digits = digits_of(alloc, readings?, &mut lefts)?;
+    let (digits, mut lefts) = gathered(alloc, readings?)?;
+    lefts.push(teller)?;
     Ok((digits, lefts))
 }
 
@@ -81,31 +74,14 @@ fn add_readers<L: MessageLog<u64>, Led: Ledger, R: Wait>(
     Ok(())
 }
 
-/// What each reader has read, if all have read all of it. Their seats go into the list.
-fn digits_of<Led: Ledger>(
-    alloc: Global,
-    readings: Vec<Reading<Led>>,
-    lefts: &mut Vec<Left<Led>>,
-) -> Result<Vec<u64>, Trouble> {
-    let mut digits = Vec::new(alloc);
-    for reading in readings {
-        digits.push(reading.digits?)?;
-        lefts.push(reading.left)?;
-    }
-    Ok(digits)
-}
-
 /// Receives all digits, and leaves even if that fails.
 fn read<L: MessageLog<u64>, Led: Ledger, R: Wait>(
     rt: &R,
     board: &Shared<L, Led>,
     mut reader: Reader<Led>,
-) -> Reading<Led> {
+) -> (Result<u64, Trouble>, Left<Led>) {
     let digits = receive_all(rt, board, &mut reader.seat, reader.port);
-    Reading {
-        digits,
-        left: board.leave(rt, reader.seat),
-    }
+    (digits, board.leave(rt, reader.seat))
 }
 
 /// The digits, one after the other as one number.

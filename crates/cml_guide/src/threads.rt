@@ -129,6 +129,20 @@ pub fn with_both<T: Drop, Led: Ledger>(
     Ok((found?, lefts))
 }
 
+/// What several threads found, if each found something, and their seats.
+pub fn gathered<T: Drop, Led: Ledger>(
+    alloc: Global,
+    each: Vec<(Result<T, Trouble>, Left<Led>)>,
+) -> Came<Vec<T>, Led> {
+    let mut all = Vec::new(alloc);
+    let mut lefts = Vec::new(alloc);
+    for (found, left) in each {
+        all.push(found?)?;
+        lefts.push(left)?;
+    }
+    Ok((all, lefts))
+}
+
 /// Joins threads, and adds what each returned to what was done without a thread.
 pub fn join_all<T: Drop, R: Threads>(
     rt: &R,
