@@ -1,4 +1,4 @@
-//! Blocking calls.
+//! A call that may block. It is made again once its seat is woken.
 
 use crate::calls::{self, Calls, Read};
 use crate::error::Error;

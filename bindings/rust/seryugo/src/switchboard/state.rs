@@ -46,7 +46,7 @@ pub(crate) struct OpenLane {
 #[repr(C)]
 pub(crate) struct State<R: MessageKind> {
     pub handle: Handle,
-    /// The journal surely has room for this many more. Without a pending journal no call asks.
+    /// The journal surely has room for this many more. Without a full-journal policy no call asks.
     spare: u64,
     /// How many seats are parked.
     parked: u64,
