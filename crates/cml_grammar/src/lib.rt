@@ -1,4 +1,4 @@
-//! Scripts of threads: what a text says, line by line, and what is wrong with it.
+//! Scripts of threads, line by line, and what is wrong with them; functions for any text of lines; and what programs share.
 #![tactic(auto)]
 
 mod checks;

@@ -35,7 +35,7 @@ add_all_spec 𝓤 𝓛 𝓜 𝓡 wired X L =
     alloc_all ! (λ l. pass_all ! refl ((tt, tt), ((tt, tt), tt)) $
     opens ! tt Row {h = old} b o (λ us. move ! (1 ∷ []) $ use1 𝓛 (‵ (Row.own_val new us)) (id⊢ 𝓤 _) $
     move ! (1 ∷ 0 ∷ []) $ closes ! tt Row new us b o $
-    -- [the traces behind the reference; the tokens]
+    -- [the entries behind the reference; the tokens]
     feq_i ! (List Val) (vptr b o ∷ []) (vptr b o ∷ []) refl $ fjoin3 ! $ nothing ! $ nothing ! $ fjoin ! $ move ! (1 ∷ 0 ∷ []) $
     fjoin ! $ move ! (1 ∷ 2 ∷ []) $ join ! $
     sets ! (of_opd ! (unit_lit !)) refl (tt, tt) $ use0 𝓛 (raw (fact 𝓤 (new.items ≡ old.items ++ a.1.0.now.items)))
