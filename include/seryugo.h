@@ -75,12 +75,16 @@ enum seryugo_code {
     SERYUGO_UNLAWFUL = 17,
     /* The text of a journal has a fault, or begins after a cut. */
     SERYUGO_FAULT = 18,
-    /* The text of a journal ends before its last piece does. */
+    /* The text of a journal ends within a line, or has none. */
     SERYUGO_TORN = 19,
     /* A line of a journal's text would have more than 1,114,112 bytes, which no reading takes. */
     SERYUGO_TOO_LONG = 20,
     /* The deadline has passed, and the call did nothing. Only the calls of seryugo_switchboard.h return it. */
-    SERYUGO_TIMED_OUT = 21
+    SERYUGO_TIMED_OUT = 21,
+    /* The lines of a journal's text are whole, and its last piece has no end: a program still writes it, or was stopped. */
+    SERYUGO_TEXT_OPEN = 22,
+    /* A text has no whole line, and no journal begins so. */
+    SERYUGO_NO_JOURNAL = 23
 };
 
 /* Returns a code in words, for an error message. The text is constant. */
@@ -109,6 +113,8 @@ static inline const char *seryugo_code_text(uint32_t code)
         "the journal's text is torn",
         "a line would be too long",
         "timed out",
+        "the journal's last piece has no end",
+        "the text is no journal",
     };
 
     return code < sizeof texts / sizeof *texts ? texts[code] : "unknown code";
@@ -143,7 +149,7 @@ static inline const char *seryugo_code_text(uint32_t code)
  *     checker_feed, checker_feed_journal    UNLAWFUL, NO_MEMORY; OUT_OF_BOUNDS, and of a journal NO_SUCH
  *     checker_verdict                       UNLAWFUL
  *     reading_take                          FAULT, UNLAWFUL, NO_MEMORY, OUT_OF_BOUNDS
- *     reading_end                           TORN, and by what the reading stopped
+ *     reading_end                           TEXT_OPEN, TORN, NO_JOURNAL, and by what the reading stopped
  *     reading_sum                           NO_MEMORY
  *     room_restore, reading_compact         FAULT, UNLAWFUL, NO_MEMORY; room_restore OUT_OF_BOUNDS
  *     readers                               NO_SUCH; bytes_held NO_MEMORY; is_open CLOSED; is_full JOURNAL_FULL
@@ -703,7 +709,7 @@ static inline uint32_t seryugo_bytes_reading_open(struct seryugo *reading)
     return seryugo_open_reading(SERYUGO_BYTES, reading);
 }
 
-/* Reads the next part of the text. The buffer stays yours.
+/* Reads the next part of the text. The buffer stays yours. The text ends before its first byte 0: nothing behind that is read.
  *
  * SERYUGO_DONE: there is no fault so far, and all entries are lawful. SERYUGO_FAULT: the text has a fault. It is on the line after
  * those that seryugo_reading_lines counts. SERYUGO_UNLAWFUL: the entry at the position that seryugo_reading_entries writes is
@@ -716,9 +722,11 @@ enum seryugo_reading_wanted {
     SERYUGO_READING_ENTRIES = 0,
     /* How many lines were read to their ends, modulo 2^64. */
     SERYUGO_READING_LINES = 1,
-    /* Ask this once the text is at its end. It writes nothing. SERYUGO_DONE: the last piece has its end. SERYUGO_TORN: it has none, or
-     * the text is empty. */
-    SERYUGO_READING_END = 2
+    /* Ask this once the text is at its end. It writes nothing. SERYUGO_DONE: the last piece has its end. SERYUGO_TEXT_OPEN: it has none.
+     * SERYUGO_TORN: the text ends within a line, or is empty. SERYUGO_NO_JOURNAL: it has no whole line, and no journal begins so. */
+    SERYUGO_READING_END = 2,
+    /* How many bytes of the text may be kept, modulo 2^64: those of its whole lines, but for a header without a line behind it. */
+    SERYUGO_READING_KEPT = 3
 };
 
 /* Writes what is wanted of a reading, which stays as it was. SERYUGO_OUT_OF_BOUNDS: nothing has this number. */
@@ -732,6 +740,11 @@ static inline uint32_t seryugo_reading_entries(const struct seryugo *reading, ui
 static inline uint32_t seryugo_reading_lines(const struct seryugo *reading, uint64_t *lines)
 {
     return seryugo_reading_state(reading, SERYUGO_READING_LINES, lines);
+}
+
+static inline uint32_t seryugo_reading_kept(const struct seryugo *reading, uint64_t *bytes)
+{
+    return seryugo_reading_state(reading, SERYUGO_READING_KEPT, bytes);
 }
 
 static inline uint32_t seryugo_reading_end(const struct seryugo *reading)

@@ -140,12 +140,14 @@ static void try_parts(void)
     }
 }
 
-/* A text that ends too early is torn, unless it ends after a piece. */
+/* A text that ends too early is torn, or its last piece is open, unless it ends after a piece. */
 static void try_torn_texts(void)
 {
     for (size_t end = 0; end < kept; end += 13) {
         open_reading();
-        RETURNS(TORN, take_parts(end, 50));
+        uint32_t code = take_parts(end, 50);
+
+        IS(end > 0 && file[end - 1] == '\n' ? SERYUGO_TEXT_OPEN : SERYUGO_TORN, code);
         close_one(&has_reading, reading);
     }
     open_reading();

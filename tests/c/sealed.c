@@ -76,7 +76,7 @@ static void read_whole_and_torn(void)
     IS(0, memcmp(found.bytes, sum.bytes, 32) != 0);
     /* Only a header: there is no sum. */
     found.is_there = true;
-    IS(SERYUGO_TORN, read_to(10, &found));
+    IS(SERYUGO_TEXT_OPEN, read_to(10, &found));
     IS(false, found.is_there);
     /* A piece that has no end: the sum by which it can be ended is the one that it has. */
     found.is_there = true;

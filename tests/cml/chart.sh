@@ -283,7 +283,7 @@ journals() {
     no_journal "a call that would wait" "journal 1 / seat 0 mailbox: made 0 / seat 0 recv 0: 6 / end 2" 7 "journal: not lawful at 1"
     no_journal "an object that is not there" "journal 1 / seat 0 send 0 5: done / end 1" 7 "journal: not lawful at 0"
     no_journal "a journal with a fault" "journal 1 / seat 0 mailbox: made 0 / seat 0 sent 0 5: done / end 2" 2 "journal: line 3: unknown word"
-    no_journal "a torn journal" "journal 2 / seat 0 mailbox: made 0" 2 "journal: torn after line 2"
+    no_journal "a journal without an end" "journal 2 / seat 0 mailbox: made 0" 2 "journal: open after line 2"
     no_journal "a journal that begins after a cut" "journal 1 / from 5 / end 5" 2 "journal: line 2: gap"
     no_journal "a journal of another version" "journal 5 / end 0" 2 "report: line 1: no line of a report"
     script "journal 1 / end 0" > "$work/in"

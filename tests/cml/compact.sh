@@ -148,7 +148,7 @@ endings() {
         'journal 1 / seat 0 mailbox: made 0 / seat 0 recv 0: 5 / end 2'
     ends 'a fault' 2 none "$(printf 'journal: line 2: unknown word\nexpected: an entry, or `end 0`\nfound: `seat 0 letter: made 0`')" \
         'journal 1 / seat 0 letter: made 0 / end 1'
-    ends 'a torn journal' 2 none 'journal: torn after line 2' 'journal 1 / seat 0 mailbox: made 0'
+    ends 'a journal without an end' 2 none 'journal: open after line 2' 'journal 1 / seat 0 mailbox: made 0'
     ends 'a journal after a cut' 2 none 'journal: begins after a cut' 'journal 1 / from 1 / end 1'
     run compact < /dev/null
     expect 'no input' 2 none 'journal: torn after line 0'

@@ -23,6 +23,20 @@ told() {
     cp "$work/in" "$work/cases/told.$cases"
 }
 
+# unended CASE WORDS TEXT: a text, with the escapes of printf, that has no fault and no end.
+unended() {
+    printf "$3" > "$work/in"
+    run check < "$work/in"
+    expect "$1" 2 none "journal: $2"
+    case $3 in
+        *'\000'*) ;; # the judge reads no such text
+        *)
+            cases=$((cases + 1))
+            cp "$work/in" "$work/cases/told.$cases"
+            ;;
+    esac
+}
+
 # unlike CASE VERDICT ANSWER LINES: a journal that isn't lawful, and the right answer to the call.
 unlike() { told "$1" 7 "$(printf '%s\nanswer: %s' "$2" "$3")" none "$4"; }
 
@@ -188,7 +202,7 @@ sum SUM"
         faulty_sealed "${place#* }" "${place%% *}" "${rest%%|*}" "${rest#*|}"
     done
     told_sealed 'sealed after a cut' 2 none 'journal: begins after a cut' 'journal 3 / from 1 / end 1 SUM'
-    told_sealed 'a sealed line that is torn' 2 none 'journal: torn after line 1' 'journal 3'
+    told_sealed 'a sealed piece without an end' 2 none 'journal: open after line 1' 'journal 3'
     seal "$chain" > "$work/in"
     run check --state < "$work/in"
     expect 'the state of sealed pieces' 0 "$(verdict 3 | sed "s/SUM/$(sed -n '$s/.* //p' "$work/in")/"; printf '\nmailbox 0: sent 1 got 1 waits 0')" none
@@ -262,10 +276,21 @@ faults() {
     wide=$(head -c 80 /dev/zero | tr '\0' w)
     faulty 'too few words' 2 "$entry_or_end" "journal 1 / $wide"
     faulty 'too few words' 2 "$entry_or_end" "journal 1 / ${wide}w"
-    told 'a cut line that is torn' 2 none 'journal: torn after line 1' 'journal 1'
+    told 'a piece without an end' 2 none 'journal: open after line 1' 'journal 1'
     printf 'journal 1\nseat 0 mail\000box: made 0\nend 1\n' > "$work/in"
     run check < "$work/in"
-    expect 'a byte 0' 2 none "$(printf 'journal: line 2: bad bytes\nexpected: %s\nfound: `seat 0 mail?box: made 0`' "$entry_or_end")"
+    expect 'a byte 0 in a line' 2 none 'journal: torn after line 1'
+    unended 'half a line' 'torn after line 2' 'journal 1\nseat 0 mailbox: made 0\nseat 0 send 0'
+    unended 'zeros behind a line' 'open after line 2' 'journal 1\nseat 0 mailbox: made 0\n\000\000nothing\nend 9\n'
+    unended 'a beginning of a first line' 'torn after line 0' 'journ'
+    unended 'a first line without its end' 'torn after line 0' 'journal 3'
+    unended 'a zero alone' 'torn after line 0' '\000'
+    unended 'other text' 'not a journal' '{"precious": 1}'
+    unended 'another first word' 'not a journal' 'journals'
+    unended 'another version' 'not a journal' 'journal 10'
+    printf 'journal 1\nseat 0 mailbox: made 0\nend 1\n\000\000\000' > "$work/in"
+    run check < "$work/in"
+    expect 'zeros behind the end' 0 'lawful 1' none
     run check < /dev/null
     expect 'no input' 2 none 'journal: torn after line 0'
     { printf 'journal 2\nseat 0 mvar ='; head -c 1000000 /dev/zero | tr '\0' a; printf ': made 0\nend 1\n'; } > "$work/in"

@@ -43,11 +43,17 @@ function judge(text,    line, count, k, fault, unended) {
     if (count == 2 && unended ~ /^from /) return no_journal("journal: begins after a cut")
     remember()
     if (length(unended) > longest) return faulty(count, "line too long", unended)
-    if (stage != "ended" || unended != "") return no_journal("journal: torn after line " (count ? count - 1 : 0))
+    if (stage != "ended" || unended != "") return no_journal("journal: " without_end(unended, count ? count - 1 : 0))
     print "lawful " entries
     if (sealed) print "sum " sum
     for (k = 0; state && k < objects; k++) print kind[k] " " k ": " state_of(k)
     print "status 0 "
+}
+
+# How a text ends that has no end, after this many lines and this front of a line.
+function without_end(line, lines) {
+    if (lines == 0 && index("journal 1", line) != 1 && line !~ /^journal [2-4]$/ && line != "") return "not a journal"
+    return (lines && line == "" ? "open" : "torn") " after line " lines
 }
 
 function no_journal(why) { print "status 2 " why }

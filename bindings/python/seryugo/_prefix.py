@@ -31,40 +31,43 @@ class ValidPrefix:
 
 
 class Lines:
-    """Where the lines end of a text that comes in parts."""
+    """How the last lines begin of a text that comes in parts."""
 
     def __init__(self) -> None:
-        self._bytes = 0
-        # Where the last whole line begins and ends, and how it begins.
-        self._last_at = self._whole = 0
-        self._last = b""
-        # How the line begins that has no end yet.
-        self._open = b""
+        # How the last whole line begins, and the line that has no end yet.
+        self._last = self._open = b""
+        # A byte 0 ends the text.
+        self._is_over = False
 
     def note(self, part: bytes) -> None:
         """Note the next part."""
-        end = part.rfind(b"\n")
+        if self._is_over:
+            return
+        zero = part.find(b"\0")
+        self._is_over = zero >= 0
+        stop = zero if self._is_over else len(part)
+        end = part.rfind(b"\n", 0, stop)
         if end >= 0:
             at = part.rfind(b"\n", 0, end) + 1
             begun = b"" if at else self._open
-            self._last_at = self._bytes + at if at else self._whole
             self._last = (begun + part[at : min(end, at + _LOOKED_AT)])[:_LOOKED_AT]
-            self._whole = self._bytes + end + 1
             self._open = b""
-        rest = part[end + 1 : end + 1 + _LOOKED_AT]
+        rest = part[end + 1 : min(stop, end + 1 + _LOOKED_AT)]
         self._open = (self._open + rest)[:_LOOKED_AT]
-        self._bytes += len(part)
 
-    def valid_prefix(self, entries: int, last: Optional[bytes]) -> ValidPrefix:
-        """Return the valid prefix. `last` is the sum of the whole lines, if the text has sums."""
+    def valid_prefix(self, entries: int, kept: int, last: Optional[bytes]) -> ValidPrefix:
+        """Return the valid prefix, of this many bytes.
+
+        `last` is the sum of the whole lines, if the text has sums.
+        """
         if self._last.startswith(b"journal"):
             words = self._last.split(b" ")
             named = sum_of(words[2]) if len(words) == 3 else None
-            return ValidPrefix(entries, self._last_at, b"", named)
+            return ValidPrefix(entries, kept, b"", named)
         if not self._last or self._last.startswith(b"end"):
-            return ValidPrefix(entries, self._whole, b"", last)
+            return ValidPrefix(entries, kept, b"", last)
         ending = f"end {entries} {last.hex()}\n" if last else f"end {entries}\n"
-        return ValidPrefix(entries, self._whole, ending.encode(), last)
+        return ValidPrefix(entries, kept, ending.encode(), last)
 
 
 def sum_of(digits: bytes) -> Optional[bytes]:

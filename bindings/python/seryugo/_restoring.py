@@ -18,6 +18,8 @@ from .journal import Journal
 # How much of a text is looked at to say what is wrong with its first line.
 _HEAD = 32
 
+_NO_JOURNAL = "this is no journal"
+
 
 def restored(
     parts: Iterable[bytes], limit: int, is_torn_fine: bool
@@ -25,7 +27,7 @@ def restored(
     """Open a room on a text of these parts, and say what is kept of the text."""
     room, lines = library.Handle(), Lines()
     with _read_from(parts, is_torn_fine, lines) as reading:
-        kept = lines.valid_prefix(_entries(reading), _sum(reading))
+        kept = lines.valid_prefix(_entries(reading), _kept(reading), _sum(reading))
         code = library.room_restore(byref(reading), limit, byref(room))
         if code != DONE:
             raise errors.of_code(code)
@@ -39,8 +41,8 @@ def compacted(parts: Iterable[bytes], is_torn_fine: bool = False) -> Journal:
     the long journal may follow the short one, with the same replies. The seat with the highest
     number of the long journal made all its entries. Their messages are `bytes`.
 
-    Fails with `Fault`, `Unlawful` or `Torn`. If `is_torn_fine`, a text that ends too early is read
-    up to its last whole line.
+    Fails with `Fault`, `Unlawful`, `TextOpen` or `Torn`. If `is_torn_fine`, a text without its end
+    is read up to its last whole line.
     """
     journal = Journal({})
     with _read_from(parts, is_torn_fine, Lines()) as reading:
@@ -60,8 +62,10 @@ def _read_from(
     try:
         _read(reading, parts, lines)
         code = library.reading_end(byref(reading))
-        if code == errors.Torn.code and not is_torn_fine:
-            raise errors.Torn
+        if code == errors.NO_JOURNAL:
+            raise errors.Fault(1, _NO_JOURNAL)
+        if code != DONE and not is_torn_fine:
+            raise errors.TextOpen if code == errors.TextOpen.code else errors.Torn
         yield reading
     finally:
         library.close(reading)
@@ -84,7 +88,7 @@ def _flaw_of(head: bytes) -> Optional[str]:
     """Return what is wrong with a text's first line, if that is known."""
     words = re.match(rb"journal ([0-9]+)[ \n]", head)
     if not words:
-        return "this is no journal"
+        return _NO_JOURNAL
     if words[1] in (b"1", b"3"):
         return "it has numbers, and this package reads messages of bytes"
     return None if words[1] in (b"2", b"4") else "it is of another version"
@@ -93,6 +97,12 @@ def _flaw_of(head: bytes) -> Optional[str]:
 def _entries(reading: library.Handle) -> int:
     count = c_uint64()
     library.reading_entries(byref(reading), byref(count))
+    return count.value
+
+
+def _kept(reading: library.Handle) -> int:
+    count = c_uint64()
+    library.reading_kept(byref(reading), byref(count))
     return count.value
 
 

@@ -127,10 +127,17 @@ class Fault(SeryugoError):
 
 
 class Torn(SeryugoError):
-    """The text of a journal ends before the end of its last piece."""
+    """The text of a journal has no end: it ends within a line, or is empty."""
 
     code = 19
-    words = "the journal's text ends before the end of its last piece"
+    words = "the journal's text ends within a line, or is empty"
+
+
+class TextOpen(Torn):
+    """The last piece of a journal's text has no end: a program still writes it, or was stopped."""
+
+    code = 22
+    words = "the last piece of the journal's text has no end"
 
 
 class TooLong(SeryugoError):
@@ -152,6 +159,9 @@ _KINDS = (
     OutOfBounds,
     TooLong,
 )
+
+# What the library returns for a text that is no journal.
+NO_JOURNAL = 23
 
 # What the library returns for an object that Python has collected, in a cycle with its user.
 COLLECTED = 15

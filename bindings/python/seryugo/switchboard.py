@@ -91,8 +91,8 @@ class Switchboard(Unpicklable):
         is open for reading bytes will do. The switchboard has the objects, and what waits in
         them, but no seats. Name an object again by its number, as `mailbox(0, str)` does.
 
-        Fails with `Fault`, `Unlawful` or `Torn`. If `is_torn_fine`, a text that ends too early
-        is read up to its last whole line. `restored_from` says how many entries these are, how
+        Fails with `Fault`, `Unlawful`, `TextOpen` or `Torn`. If `is_torn_fine`, a text without its
+        end is read up to its last whole line. `restored_from` says how many entries these are, how
         to end the text, and which sum the next piece follows.
         """
         board = cls.__new__(cls)

@@ -14,7 +14,7 @@ use Rattle.std.specs.Fmt.{decimal}
 use Rattle.std.specs.Global.{Global}
 use Rattle.std.specs.Prelude.{String, string_bytes}
 use Rattle.cml.specs.declared.check.ending.Ending.{Ending}
-use Rattle.cml.specs.declared.check.ending.Ending.TheVariants.{Lawful as lawful, Unlawful, Fault, Torn, BehindCut, ReadFault}
+use Rattle.cml.specs.declared.check.ending.Ending.TheVariants.{Lawful as lawful, Unlawful, Fault, Unended, BehindCut, ReadFault}
 use Rattle.cml.specs.declared.check.ending.Ending.TheVariants.{WriteFault, NoMemory, Compacted, TooLong}
 use Rattle.cml.specs.declared.check.wanted.Wanted.{Wanted}
 use Rattle.cml.specs.declared.check.wanted.Wanted.TheVariants as wanted
@@ -66,7 +66,7 @@ module _ {M : Type 0} (version : ℕ) (meaning : List ℕ → Option M) (text : 
   ends_as_stopped old new bytes (stop.Unlawful at line) NoMemory ends stops = (tt, λ asked before so. tt)
   ends_as_stopped old new bytes (stop.Unlawful at line) (lawful count state) ends stops = absurd ends
   ends_as_stopped old new bytes (stop.Unlawful at line) (Fault number what due found) ends stops = absurd ends
-  ends_as_stopped old new bytes (stop.Unlawful at line) (Torn number) ends stops = absurd ends
+  ends_as_stopped old new bytes (stop.Unlawful at line) (Unended how) ends stops = absurd ends
   ends_as_stopped old new bytes (stop.Unlawful at line) BehindCut ends stops = absurd ends
   ends_as_stopped old new bytes (stop.Unlawful at line) (Compacted written) ends stops = absurd ends
   ends_as_stopped old new bytes (stop.Unlawful at line) (TooLong place) ends stops = absurd ends
@@ -79,7 +79,7 @@ module _ {M : Type 0} (version : ℕ) (meaning : List ℕ → Option M) (text : 
   ends_as_stopped old new bytes (stop.Fault line what) NoMemory ends stops = (tt, λ asked before so. tt)
   ends_as_stopped old new bytes (stop.Fault line what) (lawful count state) ends stops = absurd ends
   ends_as_stopped old new bytes (stop.Fault line what) (Unlawful position entry answer) ends stops = absurd ends
-  ends_as_stopped old new bytes (stop.Fault line what) (Torn number) ends stops = absurd ends
+  ends_as_stopped old new bytes (stop.Fault line what) (Unended how) ends stops = absurd ends
   ends_as_stopped old new bytes (stop.Fault line what) BehindCut ends stops = absurd ends
   ends_as_stopped old new bytes (stop.Fault line what) (Compacted written) ends stops = absurd ends
   ends_as_stopped old new bytes (stop.Fault line what) (TooLong place) ends stops = absurd ends
@@ -129,7 +129,7 @@ module _ {M : Type 0} (version : ℕ) (meaning : List ℕ → Option M) (text : 
   -- ---- a reader
   heard_early : (ending : Ending) (new : Option (List ℕ)) → IsEarly ending → IsHeardOut ending new
   heard_early (lawful count state) new is = absurd is
-  heard_early (Torn line) new is = absurd is
+  heard_early (Unended how) new is = absurd is
   heard_early (Compacted written) new is = absurd is
   heard_early (TooLong place) new is = absurd is
   heard_early (Unlawful at line answer) new is = tt
@@ -141,7 +141,7 @@ module _ {M : Type 0} (version : ℕ) (meaning : List ℕ → Option M) (text : 
 
   heard_at_end : (ending : Ending) (new : Option (List ℕ)) → IsAtEnd new → IsHeardOut ending new
   heard_at_end (lawful count state) new end = end
-  heard_at_end (Torn line) new end = end
+  heard_at_end (Unended how) new end = end
   heard_at_end (Compacted written) new end = end
   heard_at_end (TooLong place) new end = end
   heard_at_end (Unlawful at line answer) new end = tt
@@ -254,7 +254,7 @@ silent_heard BehindCut new silent = tt
 silent_heard (lawful count state) new silent = absurd silent
 silent_heard (Unlawful at line answer) new silent = absurd silent
 silent_heard (Fault line what due found) new silent = absurd silent
-silent_heard (Torn line) new silent = absurd silent
+silent_heard (Unended how) new silent = absurd silent
 silent_heard (Compacted written) new silent = absurd silent
 silent_heard (TooLong place) new silent = absurd silent
 
@@ -268,7 +268,7 @@ silent_tells version meaning text asked bytes BehindCut silent = absurd silent
 silent_tells version meaning text asked bytes (lawful count state) silent = absurd silent
 silent_tells version meaning text asked bytes (Unlawful at line answer) silent = absurd silent
 silent_tells version meaning text asked bytes (Fault line what due found) silent = absurd silent
-silent_tells version meaning text asked bytes (Torn line) silent = absurd silent
+silent_tells version meaning text asked bytes (Unended how) silent = absurd silent
 silent_tells version meaning text asked bytes (Compacted written) silent = absurd silent
 silent_tells version meaning text asked bytes (TooLong place) silent = absurd silent
 
@@ -316,7 +316,7 @@ verdict_in_front asked old new NoMemory ends = verdict_silent asked old new NoMe
 verdict_in_front asked old new (lawful count state) ends = absurd ends.0
 verdict_in_front asked old new (Unlawful at line answer) ends = absurd ends.0
 verdict_in_front asked old new (Fault line what due found) ends = absurd ends.0
-verdict_in_front asked old new (Torn line) ends = absurd ends.0
+verdict_in_front asked old new (Unended how) ends = absurd ends.0
 verdict_in_front asked old new (Compacted written) ends = absurd ends.0
 verdict_in_front asked old new (TooLong place) ends = absurd ends.0
 
@@ -328,7 +328,7 @@ silent_in_front old new BehindCut silent read = absurd silent
 silent_in_front old new (lawful count state) silent read = absurd silent
 silent_in_front old new (Unlawful at line answer) silent read = absurd silent
 silent_in_front old new (Fault line what due found) silent read = absurd silent
-silent_in_front old new (Torn line) silent read = absurd silent
+silent_in_front old new (Unended how) silent read = absurd silent
 silent_in_front old new (Compacted written) silent read = absurd silent
 silent_in_front old new (TooLong place) silent read = absurd silent
 
@@ -356,7 +356,7 @@ writes_line old new ending line is appends = by ending (subst (Appends old new) 
     by (lawful count state) h = h
     by (Unlawful at entry answer) h = h
     by (Fault number what due found) h = h
-    by (Torn number) h = h
+    by (Unended how) h = h
     by BehindCut h = h
     by ReadFault h = h
     by WriteFault h = tt

@@ -4,6 +4,7 @@ use Rattle.std.specs.Prelude.{length, reverse, is_some, String, Option, Some, No
 use Rattle.std.specs.Io.KnownBytes.{Consumes, IsAtEnd}
 use Rattle.cml_board.specs.{Entry, Lawful, Expected, RestoredShown, expected_of}
 use Rattle.cml_journal.specs.{Stop, State, waiting_at, end_of, last_sum, reading, Progress, IsSoFar, IsUnlawfulJournal, IsFaultyJournal}
+use Rattle.cml_journal.specs.{unended, Unended as HowUnended}
 use Rattle.cml_journal.specs.{What, shown_line, IsLawfulJournal, IsRestored, number_of, bytes_text, message_of_word, line_of}
 use Rattle.cml_journal.specs.declared.stop.Stop.TheVariants as stop
 use Rattle.std.specs.List.{starts_with}
@@ -11,7 +12,7 @@ use Rattle.std.specs.Fmt.{decimal}
 use Rattle.std.specs.Global.{Global}
 use Rattle.cml.specs.Lines.{answer_text, expected_text, told_state, told_sum}
 use Rattle.cml.specs.declared.check.ending.Ending.{Ending}
-use Rattle.cml.specs.declared.check.ending.Ending.TheVariants.{Lawful as lawful, Unlawful, Fault, Torn, BehindCut, ReadFault}
+use Rattle.cml.specs.declared.check.ending.Ending.TheVariants.{Lawful as lawful, Unlawful, Fault, Unended, BehindCut, ReadFault}
 use Rattle.cml.specs.declared.check.ending.Ending.TheVariants.{WriteFault, NoMemory, Compacted, TooLong}
 use Rattle.cml.specs.declared.check.wanted.Wanted.{Wanted}
 use Rattle.cml.specs.declared.check.wanted.Wanted.TheVariants as wanted
@@ -36,10 +37,10 @@ abbrev pub ending_of : Result Ending Ending → Ending
 ending_of (Ok ending) = ending
 ending_of (Err ending) = ending
 
--- where a check is lawful or torn, or asked for a short journal, the reader is at its end
+-- where a check is lawful or unended, or asked for a short journal, the reader is at its end
 abbrev pub IsHeardOut : Ending → Option (List ℕ) → Type 0
 IsHeardOut (lawful count state) new = IsAtEnd new
-IsHeardOut (Torn line) new = IsAtEnd new
+IsHeardOut (Unended ends) new = IsAtEnd new
 IsHeardOut (Compacted written) new = IsAtEnd new
 IsHeardOut (TooLong place) new = IsAtEnd new
 IsHeardOut ending new = ⊤
@@ -47,7 +48,7 @@ IsHeardOut ending new = ⊤
 -- an ending that may come before the reader's end
 abbrev pub IsEarly : Ending → Type 0
 IsEarly (lawful count state) = ⊥
-IsEarly (Torn line) = ⊥
+IsEarly (Unended ends) = ⊥
 IsEarly (Compacted written) = ⊥
 IsEarly (TooLong place) = ⊥
 IsEarly ending = ⊤
@@ -79,14 +80,12 @@ pub record IsFront (front : List ℕ) (left : Option (List ℕ)) : Type 0 where
   pub ended : length front < 15 → IsAtEnd left
 
 module _ {M : Type 0} (version : ℕ) (meaning : List ℕ → Option M) (text : M → List ℕ) where
-  -- the bytes are read without a fault, and this many lines end, modulo 2^64. All entries in them are lawful, and there is no line
-  -- or the last piece has no end
-  pub record IsTornJournal (bytes : List ℕ) (lines : ℕ) : Type 0 where
+  -- the bytes are read without a fault, all entries in them are lawful, and the text ends so
+  pub record IsUnendedJournal (bytes : List ℕ) (ends : HowUnended) : Type 0 where
     pub state : State
     pub entries : List (Entry M)
     pub read : reading version meaning (waiting_at 0) bytes ≡ Ok (state, entries)
-    pub counted : lines ≡ state.lines
-    pub torn : (end_of state ≡ None) ⊎ (state.lines ≡ 0)
+    pub told : unended version state ≡ Some ends
     pub lawful : Lawful (reverse entries)
 
   -- the bytes are a whole journal of this many lawful entries. These are the line of its last sum, if it is sealed, and the lines of
@@ -124,7 +123,7 @@ module _ {M : Type 0} (version : ℕ) (meaning : List ℕ → Option M) (text : 
   Tells asked bytes (lawful count state) = IsToldLawful asked bytes count (string_bytes state)
   Tells asked bytes (Unlawful at line answer) = IsToldUnlawful bytes at (string_bytes line) (string_bytes answer)
   Tells asked bytes (Fault line what due found) = IsToldFaulty bytes line what (string_bytes due) (string_bytes found)
-  Tells asked bytes (Torn line) = IsTornJournal bytes line
+  Tells asked bytes (Unended ends) = IsUnendedJournal bytes ends
   Tells asked bytes BehindCut = is_behind_cut bytes ≡ true
   Tells asked bytes (Compacted written) =
       IsToldShort asked bytes (λ sealed restored. IsCompactOf version text sealed restored (string_bytes written))

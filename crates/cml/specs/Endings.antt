@@ -7,7 +7,7 @@ use Rattle.cml_explore.specs.Endings as explored
 use Rattle.cml_explore.specs.{Ending as ExploredEnding}
 use Rattle.cml_explore.specs.declared.ending.Ending.TheVariants.{Script, TooMany}
 use Rattle.cml.specs.declared.check.ending.Ending.{Ending as CheckEnding}
-use Rattle.cml.specs.declared.check.ending.Ending.TheVariants.{Lawful, Unlawful, Fault, Torn, BehindCut, ReadFault, WriteFault, NoMemory}
+use Rattle.cml.specs.declared.check.ending.Ending.TheVariants.{Lawful, Unlawful, Fault, Unended, BehindCut, ReadFault, WriteFault, NoMemory}
 use Rattle.cml.specs.declared.check.ending.Ending.TheVariants.{Compacted, TooLong}
 use Rattle.cml.specs.declared.ending.Ending.{Ending}
 use Rattle.cml.specs.declared.ending.Ending.TheVariants.{Performed, Explored, Checked}
@@ -17,7 +17,7 @@ status_of_check (Lawful count state) = 0
 status_of_check (Compacted written) = 0
 status_of_check (Unlawful at line answer) = 7
 status_of_check (Fault line what expected found) = 2
-status_of_check (Torn line) = 2
+status_of_check (Unended ends) = 2
 status_of_check BehindCut = 2
 status_of_check (TooLong place) = 2
 status_of_check ReadFault = 4

@@ -27,6 +27,8 @@ number code.Unlawful = 17
 number code.Fault = 18
 number code.Torn = 19
 number code.TooLong = 20
+number code.TextOpen = 22
+number code.NoJournal = 23
 
 -- a refusal has the code of the same name
 abbrev pub of_refusal : Refusal → Code

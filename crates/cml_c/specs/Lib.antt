@@ -53,7 +53,7 @@ pub use Checkers.{entry_with, or_empty, parts_of, replies, told_verdict, who_in}
 pub use SealedTexts.{HandsSealed, HandsSealedJournal, HandsSealedTaken, IsSum, TellsSum, TellsSumOf, sum_by, sum_in}
 pub use Texts.{HandsJournal, HandsText, IsUnwritten}
 pub use ReadJournals.{EndsSo, IsReadTo, IsTold, OpensBytes, OpensNumbers, OpensReadingOf, TakesPart, Tells, TellsState, TellsThis}
-pub use ReadJournals.{entries_read, lines_read, told_halt, told_so_far}
+pub use ReadJournals.{bytes_kept, entries_read, lines_read, told_halt, told_so_far, told_unended}
 pub use Restoring.{IsRoomOn, OpensOn, Restores, RestoresBy, RestoresKept, left_halted, left_stopped, told_stopped}
 pub use Compacting.{CompactsNone, CompactsRoom, CutsShortRoom, IsNotShort, IsShortOf, LeavesShort, MakesShort, Shortens, ShortensBy, ShortensKept}
 pub use Compacting.{ShowsSameRoom, WritesShort, WritesTaken}

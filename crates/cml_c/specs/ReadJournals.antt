@@ -1,10 +1,11 @@
 -- What C gets of a journal whose text is read back.
 use Rattle.std.specs.Prelude.{ℕ, ◌≡◌, ◌⊎◌, ◌↔◌, Bool, true, false, List, [], ◌∷◌, ◌++◌, Option, Some, None, ⊤}
 use Rattle.cml_board.specs.{count_of}
-use Rattle.cml_journal.specs.{Halt, Progress, IsSoFar, HaltTells, IsLawfulJournal, is_whole, message_of_word, number_of}
+use Rattle.cml_journal.specs.{Halt, Progress, Unended, IsSoFar, HaltTells, IsLawfulJournal, unended, message_of_word, number_of}
+use Rattle.cml_journal.specs.declared.fault.Unended.TheVariants as unended
 use Rattle.cml_journal.specs.declared.stop.Halt.TheVariants as halt
 use Rattle.cml_c.specs.declared.code.Code.{Code}
-use Rattle.cml_c.specs.declared.code.Code.TheVariants.{Done, NoMemory, OutOfBounds, Unlawful, Fault, Torn}
+use Rattle.cml_c.specs.declared.code.Code.TheVariants.{Done, NoMemory, OutOfBounds, Unlawful, Fault, Torn, TextOpen, NoJournal}
 use Rattle.cml_c.specs.declared.handle.Slot.{Slot}
 use Rattle.cml_c.specs.declared.message_kind.MessageKind.{MessageKind}
 use Rattle.cml_c.specs.declared.message_kind.MessageKind.TheVariants as messages
@@ -64,12 +65,15 @@ TakesPart bytes code (Numbers old) new = (left : Resource ℕ) × (new ≡ Numbe
 TakesPart bytes code (Bytes old) new = (left : Resource (List ℕ)) × (new ≡ Bytes left)
     × OnReading (Takes 2 message_of_word bytes code) ⊤ code old left
 
--- how many entries are lawful, and how many lines have ended
+-- how many entries are lawful, how many lines have ended, and how many bytes may be kept of the text
 abbrev pub entries_read : {M : Type 0} → Progress M → ℕ
 entries_read progress = count_of progress.checker
 
 abbrev pub lines_read : {M : Type 0} → Progress M → ℕ
 lines_read progress = progress.state.lines
+
+abbrev pub bytes_kept : {M : Type 0} → Progress M → ℕ
+bytes_kept progress = progress.state.kept
 
 -- this is written, and the reading is as it was
 pub record Tells {M : Type 0} (what : Progress M → ℕ) (code after : ℕ) (old new : Progress M) : Type 0 where
@@ -77,28 +81,35 @@ pub record Tells {M : Type 0} (what : Progress M → ℕ) (code after : ℕ) (ol
   pub told : code ≡ number Done
   pub written : after ≡ what old
 
--- the code of a text that may be whole, by what the reading stopped by, if it has stopped
-abbrev pub told_end : Option Halt → Bool → Code
-told_end (Some halted) whole = told_halt halted
-told_end None true = Done
-told_end None false = Torn
+-- the code of how a text ends
+abbrev pub told_unended : Option Unended → Code
+told_unended None = Done
+told_unended (Some (unended.Open lines)) = TextOpen
+told_unended (Some (unended.Torn lines)) = Torn
+told_unended (Some unended.NoJournal) = NoJournal
+
+-- the same by what the reading stopped by, if it has stopped
+abbrev pub told_end : Option Halt → Option Unended → Code
+told_end (Some halted) ends = told_halt halted
+told_end None ends = told_unended ends
 
 -- the reading is as it was, and the code says whether the bytes that it took are a whole lawful journal, or what it stopped by
 pub record EndsSo {M : Type 0} (version : ℕ) (meaning : List ℕ → Option M) (code : ℕ) (old new : Progress M) : Type 0 where
   pub reading : new ≡ old
-  pub told : code ≡ number (told_end old.halt (is_whole old))
+  pub told : code ≡ number (told_end old.halt (unended version old.state))
   pub whole : (bytes : List ℕ) → IsSoFar version meaning bytes old
       → (code ≡ number Done) ↔ IsLawfulJournal version meaning bytes (count_of old.checker)
 
 -- what is read off a reading, in the order of the numbers
 abbrev pub reading_states : List ReadingState
-reading_states = wanted.Entries ∷ wanted.Lines ∷ wanted.End ∷ []
+reading_states = wanted.Entries ∷ wanted.Lines ∷ wanted.End ∷ wanted.Kept ∷ []
 
 -- this of a reading is told: a count, which is written, or how its text ends
 abbrev pub IsTold : {M : Type 0} → ℕ → (List ℕ → Option M) → ReadingState → ℕ → ℕ → ℕ → Progress M → Progress M → Type 0
 IsTold version meaning wanted.Entries before after code old new = Tells entries_read code after old new
 IsTold version meaning wanted.Lines before after code old new = Tells lines_read code after old new
 IsTold version meaning wanted.End before after code old new = EndsSo version meaning code old new × (after ≡ before)
+IsTold version meaning wanted.Kept before after code old new = Tells bytes_kept code after old new
 
 -- the same of whichever reading a handle leads to; or no state has such a number, and nothing is changed
 abbrev pub TellsThis : ReadingState → ℕ → ℕ → ℕ → Owned → Owned → Type 0

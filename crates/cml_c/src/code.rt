@@ -36,10 +36,14 @@ pub enum Code {
     Unlawful,
     /// A journal's text has a fault.
     Fault,
-    /// A journal's text ends before its last piece does.
+    /// A journal's text ends within a line, or has none.
     Torn,
     /// No reading would take a line of the journal's text.
     TooLong,
+    /// The last piece of a journal's text has no end.
+    TextOpen,
+    /// A text is no beginning of a journal.
+    NoJournal,
 }
 
 impl Code {
@@ -69,6 +73,8 @@ impl Code {
             Code::Fault => 18,
             Code::Torn => 19,
             Code::TooLong => 20,
+            Code::TextOpen => 22,
+            Code::NoJournal => 23,
         }
     }
 

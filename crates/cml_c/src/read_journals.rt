@@ -1,7 +1,7 @@
 //! A journal's text is read back, and checked as it comes.
 ghost use Rattle.std.specs.Prelude.{◌≡◌, [], IfOk, slice_get};
 ghost use Rattle.cml_journal.specs.{IsSoFar};
-ghost use Rattle.cml_c.specs.{number, OpensNumbers, OpensBytes, OpensReadingOf, TakesPart, TellsState, TellsThis, IsTold, EndsSo, told_halt};
+ghost use Rattle.cml_c.specs.{number, OpensNumbers, OpensBytes, OpensReadingOf, TakesPart, TellsState, TellsThis, IsTold, EndsSo, told_halt, told_unended};
 ghost use Rattle.cml_c.specs.{message_kinds};
 ghost use Rattle.cml_c.specs.ReadJournals.{Takes, reading_states};
 
@@ -12,7 +12,7 @@ use crate::owned::{CheckOf, Owned, Resource, on_any_messages};
 use crate::rooms::write_handle;
 use crate::telling::write_number;
 use cml_board::Message;
-use cml_journal::{Halt, Written};
+use cml_journal::{Halt, Unended, Written};
 use std::alloc::{AllocError, Global};
 
 /// Opens a reading of a journal with these messages, and writes a handle to it.
@@ -98,6 +98,8 @@ pub enum ReadingState {
     Lines,
     /// Whether the text so far is a whole journal.
     End,
+    /// How many bytes of the text may be kept, modulo 2^64: those of its whole lines, but for a header without a line behind it.
+    Kept,
 }
 
 impl ReadingState {
@@ -109,13 +111,15 @@ impl ReadingState {
             0 => Some(ReadingState::Entries),
             1 => Some(ReadingState::Lines),
             2 => Some(ReadingState::End),
+            3 => Some(ReadingState::Kept),
             _ => None,
         }
     }
 }
 
-/// Writes how many entries or lines were read. Or says whether the text so far is a whole journal, and writes nothing: it fails with
-/// `Torn` if the last piece has no end, or with what the reading stopped by. `OutOfBounds`: no state has the number `what`.
+/// Writes how many entries or lines were read, or how many bytes may be kept. Or says whether the text so far is a whole journal, and
+/// writes nothing: it fails with `TextOpen`, `Torn` or `NoJournal`, or with what the reading stopped by. `OutOfBounds`: no state has the
+/// number `what`.
 #[unsafe(no_mangle)]
 pub extern "C" fn seryugo_reading_state(reading: &mut Handle, what: u32, number: &mut u64) -> u32
     ensures { TellsState (slice_get reading_states what) number.old number.new result reading.old.owned reading.new.owned }
@@ -149,16 +153,27 @@ fn tell_state<M: Message + Written>(
         ReadingState::Entries => write_number(reading.entries(), number),
         ReadingState::Lines => write_number(reading.lines(), number),
         ReadingState::End => tell_end(reading),
+        ReadingState::Kept => write_number(reading.kept(), number),
     }
 }
 
 fn tell_end<M: Message + Written>(reading: &mut CheckOf<M>) -> u32
     ensures { EndsSo M.VERSION M.meaning result reading.old reading.new }
 {
-    let is_whole = reading.end();
+    let unended = reading.unended();
     match reading.halt() {
         Some(halt) => code_of_halt(halt).number(),
-        None if is_whole => Code::Done.number(),
-        None => Code::Torn.number(),
+        None => code_of_unended(unended).number(),
+    }
+}
+
+fn code_of_unended(unended: Option<Unended>) -> Code
+    ensures { result ≡ told_unended unended }
+{
+    match unended {
+        None => Code::Done,
+        Some(Unended::Open(_)) => Code::TextOpen,
+        Some(Unended::Torn(_)) => Code::Torn,
+        Some(Unended::NoJournal) => Code::NoJournal,
     }
 }

@@ -1,9 +1,9 @@
 -- How far a journal was read, and the board that made its calls.
-use Rattle.std.proofs.Common.{◌≡◌, ℕ, List, [], ◌∷◌, ◌++◌, Option, Ok, is_some, true, sym, ap, subst, ◌∙◌}
+use Rattle.std.proofs.Common.{◌≡◌, ℕ, List, [], ◌∷◌, ◌++◌, Option, None, Ok, sym, ap, subst, ◌∙◌}
 use Rattle.std.proofs.lemmas.List.{append-nil, reverse-append}
 use Rattle.cml_board.specs.{Entry, Lawful, no_entries}
 use Rattle.cml_board.specs.Shown.{Shown}
-use Rattle.cml_journal.specs.{State, waiting_at, behind, end_of, reading}
+use Rattle.cml_journal.specs.{State, waiting_at, behind, unended, reading}
 use Rattle.cml_journal.proofs.FeedLemmas.{on, reading-append}
 use Rattle.cml_chart.specs.{IsReplayed, IsWholeJournal, Replays}
 
@@ -46,7 +46,7 @@ module _ {M : Type 0} (version : ℕ) (meaning : List ℕ → Option M) where
 
   -- all bytes were read
   pub is_whole : (text taken rest : List ℕ) (state : State) (board : Shown M) → text ≡ taken ++ rest → rest ≡ []
-      → IsReplayed version meaning taken state board → is_some (end_of state) ≡ true → Lawful board.history
+      → IsReplayed version meaning taken state board → unended version state ≡ None → Lawful board.history
       → IsWholeJournal version meaning text board
   is_whole text taken rest state board cut none so ended lawful = record {
     state = state;

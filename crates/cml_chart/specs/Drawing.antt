@@ -60,7 +60,7 @@ abbrev pub EndsUndrawn : Option Lines → Option (List ℕ) → Option (List ℕ
 EndsUndrawn script old new (ending.Fault fault) =
     (text : List ℕ) × IsRead old new text × (report : List ℕ) × IsReportIn text report × IsFaulty script report fault
 EndsUndrawn script old new (ending.JournalFault line what) = (text : List ℕ) × IsRead old new text × (is_journal text ≡ true)
-EndsUndrawn script old new (ending.Torn line) = (text : List ℕ) × IsRead old new text × (is_journal text ≡ true)
+EndsUndrawn script old new (ending.Unended how) = (text : List ℕ) × IsRead old new text × (is_journal text ≡ true)
 EndsUndrawn script old new (ending.Unlawful at) = (text : List ℕ) × IsRead old new text × (is_journal text ≡ true)
 EndsUndrawn script old new ending.ReadFault = ⊤
 EndsUndrawn script old new ending.NoMemory = ⊤

@@ -1,6 +1,6 @@
 -- A journal, as the report that tells it.
 use Rattle.std.specs.Prelude.{◌≡◌, ◌⊎◌, ℕ, zero, suc, ◌+◌, Bool, true, false, ◌&&◌, ◌||◌, nat_eq, nat_le, if◌then◌else◌, List, [], ◌∷◌, ◌++◌}
-use Rattle.std.specs.Prelude.{length, reverse, take, codes, unwrap_or, Option, Some, None, is_some, Ok, ⊤}
+use Rattle.std.specs.Prelude.{length, reverse, take, codes, unwrap_or, Option, Some, None, Ok, ⊤}
 use Rattle.std.specs.Fmt.{decimal}
 use Rattle.std.specs.List.{starts_with, list_any}
 use Rattle.std.specs.Str.{bytes_eq}
@@ -13,7 +13,7 @@ use Rattle.cml_board.specs.Shown.{Shown}
 use Rattle.cml_board.specs.declared.call.Call.TheVariants as call
 use Rattle.cml_board.specs.declared.entry.Reply.TheVariants as reply
 use Rattle.cml_board.specs.declared.entry.Who.TheVariants as who
-use Rattle.cml_journal.specs.{State, reading, waiting_at, end_of, number_of, bytes_text, message_of_word, field}
+use Rattle.cml_journal.specs.{State, reading, waiting_at, unended, number_of, bytes_text, message_of_word, field}
 use Rattle.cml_chart.specs.declared.ending.Ending.{Ending}
 use Rattle.cml_chart.specs.declared.ending.Ending.TheVariants as ending
 
@@ -230,7 +230,7 @@ module _ {M : Type 0} where
     pub record IsWholeJournal (bytes : List ℕ) (board : Shown M) : Type 0 where
       pub state : State
       pub replayed : IsReplayed bytes state board
-      pub ended : is_some (end_of state) ≡ true
+      pub ended : unended version state ≡ None
       pub lawful : Lawful board.history
 
     -- the bytes are a whole journal of lawful entries, and this report tells them
@@ -260,7 +260,7 @@ report_or text (Some report) = report
 abbrev pub EndsReplay : Ending → Type 0
 EndsReplay (ending.JournalFault line what) = ⊤
 EndsReplay (ending.Unlawful at) = ⊤
-EndsReplay (ending.Torn line) = ⊤
+EndsReplay (ending.Unended how) = ⊤
 EndsReplay ending.NoMemory = ⊤
 EndsReplay _ = ⊥
 

@@ -4,6 +4,7 @@ ghost use Rattle.cml_chart.specs.declared.ending.Ending.TheVariants as ending;
 ghost use Rattle.cml_chart.specs.{ending_of_fault, ending_of_script_fault, is_shown, status};
 
 use crate::report::{Fault, What};
+use cml_journal::Unended;
 use std::alloc::AllocError;
 use thiserror::Error;
 
@@ -20,9 +21,9 @@ pub(crate) enum Ending {
     /// The line of a journal, and what is wrong with it.
     #[error("journal: line {0}: {1}")]
     JournalFault(u64, cml_journal::What),
-    /// The last piece of a journal has no end. This many lines have ended.
-    #[error("journal: torn after line {0}")]
-    Torn(u64),
+    /// A journal's text has no fault, and is no whole journal.
+    #[error("journal: {0}")]
+    Unended(Unended),
     /// The first entry of a journal that isn't lawful, by its position.
     #[error("journal: not lawful at {0}")]
     Unlawful(u64),
@@ -85,7 +86,7 @@ impl cml_grammar::shell::Ending for Ending {
             Ending::Fault(_)
             | Ending::ScriptFault(_)
             | Ending::JournalFault(_, _)
-            | Ending::Torn(_) => 2,
+            | Ending::Unended(_) => 2,
             Ending::Unlawful(_) => 7,
             Ending::ScriptReadFault | Ending::ReadFault | Ending::WriteFault => 4,
             Ending::NoMemory => 5,

@@ -14,7 +14,7 @@ use Rattle.cml_journal.specs.{Sum, Summed, sum_by, sum_word, What, Form, Link, S
 use Rattle.cml_journal.specs.{call_text, reply_text, line_of, HasLine, ◌>>=◌, numbered_line, with_line_end, sealed_header, sealed_end}
 use Rattle.cml_journal.specs.{State, numbered, number_before, tailed, Step, headed, headed_by, header_fault, plain_headed, sealed_headed}
 use Rattle.cml_journal.specs.{begun, entered, ended_by, closed_by, sealed_by, inside, from_by, behind_header, line_step, line_read}
-use Rattle.cml_journal.specs.{sums_line, most, held_all, turned, behind, reading, MaybeSum}
+use Rattle.cml_journal.specs.{kept_behind, header_behind, sums_line, most, held_all, turned, behind, reading, MaybeSum}
 use Rattle.cml_journal.specs.declared.fault.What.TheVariants.{BadNumber, BadBytes, Gap, WrongEnd, WrongSum, TooMany, TooLong}
 use Rattle.cml_journal.specs.declared.reader.Form.TheVariants.{Plain, Sealed}
 use Rattle.cml_journal.specs.declared.reader.Link.TheVariants.{Any, First, Unsealed, Behind}
@@ -122,13 +122,41 @@ not_numbered word n rest space =
     ∙ no_number (decimal n) rest
 
 -- ---- lines
-abbrev pub at : Stage → Summed → ℕ → State
-at stage summed lines = record { stage = stage; lines = lines; line = []; summed = summed }
+-- how many lines have ended, how many bytes they have, and how many of a header are behind them
+pub record Counts : Type 0 where
+  pub lines : ℕ
+  pub kept : ℕ
+  pub header : ℕ
+
+abbrev pub no_counts : Counts
+no_counts = record { lines = 0; kept = 0; header = 0 }
+
+abbrev pub with_line : Stage → Summed → Counts → List ℕ → State
+with_line stage summed n line = record {
+  stage = stage;
+  lines = n.lines;
+  kept = n.kept;
+  header = n.header;
+  line = line;
+  summed = summed;
+  over = false;
+}
+
+abbrev pub at : Stage → Summed → Counts → State
+at stage summed n = with_line stage summed n []
+
+-- the counts after a line that leads to this stage
+abbrev pub counts_behind : Counts → List ℕ → Stage → Counts
+counts_behind n line new = record {
+  lines = (n.lines + 1) % 2 ^ 64;
+  kept = kept_behind new n.kept n.header (length line);
+  header = header_behind new (length line);
+}
 
 -- bytes are read from one stage to another, and give entries
 abbrev pub Reads : {M : Type 0} → ℕ → (List ℕ → Option M) → Stage → Summed → List ℕ → Stage → Summed → List (Entry M) → Type 0
 Reads version read old s bytes new t entries =
-    (n : ℕ) → (m : ℕ) × (reading version read (at old s n) bytes ≡ Ok (at new t m, entries))
+    (n : Counts) → (m : Counts) × (reading version read (at old s n) bytes ≡ Ok (at new t m, entries))
 
 pub reads_then : {M : Type 0} (version : ℕ) (read : List ℕ → Option M) (a b c : Stage) (s t u : Summed) (front rest : List ℕ)
     (given more : List (Entry M)) → Reads version read a s front b t given → Reads version read b t rest c u more
@@ -138,10 +166,7 @@ reads_then version read a b c s t u front rest given more one other n =
     let second = other first.0 in
     (second.0, reading-append version read (at a s n) front rest ∙ ap (on version read rest) first.1 ∙ ap (behind given) second.1)
 
-abbrev pub with_line : Stage → Summed → ℕ → List ℕ → State
-with_line stage summed n line = record { stage = stage; lines = n; line = line; summed = summed }
-
-pub held_whole : (stage : Stage) (summed : Summed) (n : ℕ) (line : List ℕ) → length line ≤ most
+pub held_whole : (stage : Stage) (summed : Summed) (n : Counts) (line : List ℕ) → length line ≤ most
     → held_all (at stage summed n) line ≡ Ok (with_line stage summed n line)
 held_whole stage summed n line short =
     ap (λ t. if t then Ok (with_line stage summed n line) else Err TooLong) (le-leb (0 + length line) most (omega arith))
@@ -154,10 +179,10 @@ step_read version read summed stage line told clean step =
     ap (λ t. if t then Err BadBytes else line_step version read summed stage line) clean ∙ step
 
 -- the state after a line
-abbrev pub turned_to : {M : Type 0} → Summed → ℕ → List ℕ → Stage × Option (Entry M) → State × Option (Entry M)
-turned_to summed n line step = (at step.0 (sums_line step.0 summed line) ((n + 1) % 2 ^ 64), step.1)
+abbrev pub turned_to : {M : Type 0} → Summed → Counts → List ℕ → Stage × Option (Entry M) → State × Option (Entry M)
+turned_to summed n line step = (at step.0 (sums_line step.0 summed line) (counts_behind n line step.0), step.1)
 
-abbrev pub turning_to : {M : Type 0} → Summed → ℕ → List ℕ → Stage × Option (Entry M) → Result (State × Option (Entry M)) What
+abbrev pub turning_to : {M : Type 0} → Summed → Counts → List ℕ → Stage × Option (Entry M) → Result (State × Option (Entry M)) What
 turning_to summed n line step = Ok (turned_to summed n line step)
 
 pub line_reads : {M : Type 0} (version : ℕ) (read : List ℕ → Option M) (stage : Stage) (summed : Summed) (line : List ℕ)
@@ -167,12 +192,13 @@ pub line_reads : {M : Type 0} (version : ℕ) (read : List ℕ → Option M) (st
 unfolding turned
 line_reads {M} version read stage summed line told clean short step n =
     let next : State = with_line stage summed n line in
-    let last : State = at told.0 (sums_line told.0 summed line) ((n + 1) % 2 ^ 64) in
+    let counts = counts_behind n line told.0 in
+    let last : State = at told.0 (sums_line told.0 summed line) counts in
     let turn : turned version read next ≡ Ok (last, told.1) =
     ap (λ (r : Result (Stage × Option (Entry M)) What). r >>= λ s. turning_to summed n line s)
     (step_read version read summed stage line told clean step) in (
-      (n + 1) % 2 ^ 64,
-      taken_line version read (at stage summed n) next last told.1 line (omega arith) (clean_no_end line clean)
+      counts,
+      taken_line version read (at stage summed n) next last told.1 line refl (omega arith) (clean_no_end line clean)
           (held_whole stage summed n line short) turn,
     )
 

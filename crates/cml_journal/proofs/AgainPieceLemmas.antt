@@ -22,7 +22,7 @@ use Rattle.cml_journal.proofs.FeedLemmas.{turning, reading-line}
 use Rattle.cml_journal.proofs.PieceLemmas.{piece_text}
 use Rattle.cml_journal.proofs.StreamLemmas.{AllowsPlain, closing, link_behind, sums_both, sums_none}
 use Rattle.cml_journal.proofs.SumWordsLemmas.{word_printed, word_length, has_sum}
-use Rattle.cml_journal.proofs.AgainLemmas.{numbered_other, at, entry_no_from, Reads, reads_then, held_whole, turning_to, line_reads}
+use Rattle.cml_journal.proofs.AgainLemmas.{Counts, numbered_other, at, entry_no_from, Reads, reads_then, held_whole, turning_to, line_reads}
 use Rattle.cml_journal.proofs.AgainLemmas.{inside_entry, inside_end, headed_line, MayBegin, from_step, first_step}
 
 abbrev pub entry_text : {M : Type 0} → (M → List ℕ) → Entry M → List ℕ
@@ -123,7 +123,7 @@ body_read {M} version text fits read written form summed from entries readable s
     (entries_read version text fits read written form summed from entries readable small) (end_read version read form last end small))
 
 -- the first line of a piece from 0 on is read as within it
-pub same_line : {M : Type 0} (version : ℕ) (read : List ℕ → Option M) (one other : Stage) (summed : Summed) (n : ℕ) (line rest : List ℕ)
+pub same_line : {M : Type 0} (version : ℕ) (read : List ℕ → Option M) (one other : Stage) (summed : Summed) (n : Counts) (line rest : List ℕ)
     → is_dirty line ≡ false → length line ≤ most
     → line_step version read summed one line ≡ line_step version read summed other line
     → reading version read (at one summed n) (with_line_end line ++ rest)
@@ -142,7 +142,7 @@ same_line {M} version read one other summed n line rest clean short same =
     told : (stage : Stage) → reading version read (at stage summed n) (line ++ 10 ∷ rest)
         ≡ on_told (if is_dirty line then Err BadBytes else line_step version read summed stage line)
     told stage =
-        reading-line version read (at stage summed n) line rest (omega arith) (clean_no_end line clean)
+        reading-line version read (at stage summed n) line rest refl (omega arith) (clean_no_end line clean)
         ∙ ap (turning {M = M} version read rest) (held_whole stage summed n line short)
 
 pub first_read : {M : Type 0} (version : ℕ) (read : List ℕ → Option M) (form : Form) (summed : Summed) (before : Option ℕ)

@@ -16,7 +16,7 @@ use Rattle.cml_journal.proofs.CleanLemmas.{is_dirty, numbered_clean}
 use Rattle.cml_journal.proofs.PieceLemmas.{sealed_piece_text}
 use Rattle.cml_journal.proofs.StreamLemmas.{Allows, piece_summed}
 use Rattle.cml_journal.proofs.SumWordsLemmas.{text_has_sum}
-use Rattle.cml_journal.proofs.AgainLemmas.{at, Reads, reads_then, line_reads, sealed_line, MayBegin}
+use Rattle.cml_journal.proofs.AgainLemmas.{no_counts, at, Reads, reads_then, line_reads, sealed_line, MayBegin}
 use Rattle.cml_journal.proofs.AgainPieceLemmas.{entry_text, AreReadable, short_numbered, short_is_short, tail_clean, tail_short, opened}
 use Rattle.cml_journal.proofs.AgainPieceLemmas.{left_behind, behind_head, piece_reads}
 
@@ -67,7 +67,7 @@ stream_again {M} version text fits read written from piece pieces known readable
     (text_of (piece_lines version text from piece)) (text_of (stream_lines version text next pieces)) piece (given pieces)
     (piece_reads version text fits read written None Any from piece known tt tt readable.0 (omega (arith, small, counted)))
     (later_read version text fits read written next pieces known readable.1 (omega (arith, small, counted))) in
-    let found = reads 0 in (
+    let found = reads no_counts in (
       at (Waiting (Some (next + length (given pieces))) Unsealed) nothing_summed found.0,
       ap (reading version read fresh) joined ∙ found.1,
       ap (λ (p : ℕ). Some p) same,
@@ -178,10 +178,10 @@ pub sealed_stream_again : {M : Type 0} (version : ℕ) (text : M → List ℕ) (
     (pieces : List (List (Entry M)))
     → version + 2 < 2 ^ 64 → Allows link after → MaybeSum after → MayBegin before from
     → AllByRecursion (AreReadable text fits) (piece ∷ pieces) → from + length (given (piece ∷ pieces)) < 2 ^ 64
-    → IsSealedRead version text read (at (Waiting before link) nothing_summed 0) after from (piece ∷ pieces)
+    → IsSealedRead version text read (at (Waiting before link) nothing_summed no_counts) after from (piece ∷ pieces)
 sealed_stream_again {M} version text fits read written before link after from piece pieces known allowed is may readable small =
     let all = sealed_first version text fits read written before link after from piece pieces known allowed is may readable.0 small
     (sealed_later version text fits read written (piece_sum version text after from piece) (from + length piece) pieces known
     (text_has_sum _) readable.1 (omega (arith, small, length-append piece (given pieces)))) in
-    let found = all.reads 0 in
+    let found = all.reads no_counts in
     (at (Waiting (Some (from + length (given (piece ∷ pieces)))) (Behind all.sum)) nothing_summed found.0, found.1, refl, sym all.last)

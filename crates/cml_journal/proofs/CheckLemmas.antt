@@ -358,26 +358,6 @@ module _ {M : Type 0} (version : ℕ) (meaning : List ℕ → Option M) where
       → StopsIn version meaning text old bytes new told
   stops_no_more text old new bytes halted told stopped front so = absurd (none-some halted (sym so.running ∙ stopped))
 
-  -- ---- a whole journal
-  pub whole_journal : (progress : Progress M) (bytes : List ℕ) (end : ℕ) (running : Bool) → Some end ≡ end_of progress.state
-      → running ≡ (is_none progress.halt && not (progress.state.lines == 0)) → running ≡ true → IsSoFar version meaning bytes progress
-      → IsLawfulJournal version meaning bytes (count_of progress.checker)
-  whole_journal progress bytes end running is says runs so =
-      let at = ends_behind_last version meaning bytes progress.state so.entries end so.read (sym is) in
-      let count : count_of progress.checker ≡ end = ap count_of so.checked ∙ length-reverse so.entries ∙ sym at in
-      let lines : not (progress.state.lines == 0) ≡ true = (and_parts (is_none progress.halt) _ (sym says ∙ runs)).1 in record {
-        state = progress.state;
-        entries = so.entries;
-        read = so.read;
-        whole = λ none. no_line (subst (λ (n : ℕ). not (n == 0) ≡ true) none lines);
-        ended = sym is ∙ ap (λ (n : ℕ). Some n) (sym count);
-        counted = count ∙ at;
-        lawful = so.lawful;
-      }
-    where
-      no_line : not (0 == 0) ≡ true → ⊥
-      no_line h = cc
-
   -- ---- a board from it
   pub restored_as_read : (progress : Progress M) (bytes : List ℕ) (limit : ℕ) (after : Found M) (restored : RestoredShown M)
       → RestoresWith progress.checker limit after (Some restored) → IsSoFar version meaning bytes progress

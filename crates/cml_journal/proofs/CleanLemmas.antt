@@ -1,5 +1,5 @@
 -- A line that was written has only bytes that a line may have.
-use Rattle.std.proofs.Common.{◌≡◌, ℕ, ◌<◌, ◌^◌, Bool, true, false, ◌||◌, nat_lt, nat_le, List, [], ◌∷◌, ◌++◌, Option}
+use Rattle.std.proofs.Common.{◌==◌, ◌≡◌, ℕ, ◌<◌, ◌^◌, Bool, true, false, ◌||◌, nat_lt, nat_le, List, [], ◌∷◌, ◌++◌, Option}
 use Rattle.std.proofs.Common.{Some, None, refl, ap, ◌∙◌, arith}
 use Rattle.std.specs.Prelude.{codes, IfSome}
 use Rattle.std.specs.Fmt.{decimal}
@@ -13,7 +13,7 @@ use Rattle.cml_calls.specs.{is_text_byte}
 use Rattle.cml_grammar.specs.{is_bad_byte}
 use Rattle.cml_journal.specs.NumberLaws.{number_printed}
 use Rattle.cml_journal.specs.{IsWritten, who_word, who_number, who_text, field, call_text, reply_text, line_of, ReplyFits, HasLine}
-use Rattle.cml_journal.specs.{numbered_line, has_line_end}
+use Rattle.cml_journal.specs.{numbered_line, has_end}
 use Rattle.cml_board.proofs.PartsLemmas.{by_row}
 use Rattle.cml_journal.proofs.CallLemmas.{made_word, given_word, asked_word, made_row, given_row, asked_row}
 
@@ -89,9 +89,10 @@ line_clean text fits read written entry has =
     (message_clean text fits read written (message_of entry.call) has.message)))
     (reply_clean text fits read written entry.reply has.reply)
 
-pub clean_no_end : (bytes : List ℕ) → is_dirty bytes ≡ false → has_line_end bytes ≡ false
+pub clean_no_end : (bytes : List ℕ) → is_dirty bytes ≡ false → has_end bytes ≡ false
 clean_no_end [] h = refl
 clean_no_end (b ∷ bs) h =
     let parts = or_parts (is_bad_byte b) (is_dirty bs) h in
     let high = ltb-false b 32 (or_parts (nat_lt b 32) (nat_lt 126 b) parts.0).0 in
-    ap (λ t. t || has_line_end bs) (ne_eqb b 10 (λ e. omega (arith, high, e))) ∙ clean_no_end bs parts.1
+    ap (λ t. t || has_end bs) (ap (λ t. t || (b == 10)) (ne_eqb b 0 (λ e. omega (arith, high, e)))
+    ∙ ne_eqb b 10 (λ e. omega (arith, high, e))) ∙ clean_no_end bs parts.1

@@ -1,12 +1,12 @@
 -- What is read of bytes, however they are cut.
-use Rattle.std.proofs.Common.{◌≡◌, ℕ, ◌+◌, ◌<◌, ◌≤◌, false, ◌||◌, ◌==◌, nat_lt, nat_le, if◌then◌else◌, List, [], ◌∷◌, ◌++◌}
+use Rattle.std.proofs.Common.{◌≡◌, ℕ, ◌+◌, ◌<◌, ◌≤◌, Bool, true, false, Some, None, ◌||◌, ◌==◌, nat_lt, nat_le, if◌then◌else◌, List, [], ◌∷◌, ◌++◌}
 use Rattle.std.proofs.Common.{zero, suc, ◌-◌, take, length, Option, Result, Ok, Err, refl, sym, ap, subst, ◌∙◌, arith, append_assoc, length-append, ◌⊎◌, inl, inr}
 use Rattle.std.specs.Option.{option_to_list}
 use Rattle.std.proofs.lemmas.Bool.{or_parts, leb-true, le-leb, ltb-true, lt-ltb, false_from_ne_true, cases_lt}
 use Rattle.std.proofs.lemmas.List.{append-nil}
 use Rattle.cml_board.specs.{Entry}
 use Rattle.cml_journal.specs.{What, Unread, ◌>>=◌, Fails, HasFault, HasFront, Leaves, Meets, State, filled, held, held_all, most, turned, no_entry, byte_read, Read}
-use Rattle.cml_journal.specs.{behind, reading, has_line_end}
+use Rattle.cml_journal.specs.{behind, reading, is_end, has_end}
 use Rattle.cml_journal.specs.declared.fault.What.TheVariants.{TooLong}
 use Rattle.cml_journal.specs.declared.fault.Unread.TheVariants as unread
 
@@ -56,18 +56,25 @@ longer state b = record state { line = state.line ++ b ∷ [] }
 
 -- bytes without a line end
 pub reading-held : {M : Type 0} (version : ℕ) (read : List ℕ → Option M) (state : State) (bytes : List ℕ)
-    → length state.line ≤ most → has_line_end bytes ≡ false
+    → state.over ≡ false → length state.line ≤ most → has_end bytes ≡ false
     → reading version read state bytes ≡ alone {M = M} (held_all state bytes)
 unfolding reading
-reading-held {M} version read state [] short none =
+reading-held {M} version read state [] runs short none =
     sym (ap (λ t. alone {M = M} (if t then Ok (record state { line = state.line ++ [] }) else Err TooLong))
     (le-leb (length state.line + 0) most (omega arith))
     ∙ ap (λ (l : List ℕ). placed {M = M} (record state { line = l }) []) (append-nil state.line))
-reading-held {M} version read state (b ∷ bs) short none =
-    let parts = or_parts (b == 10) (has_line_end bs) none in
-    ap (λ t. (if t then turned version read state else no_entry (held state b)) >>= λ first.
-    behind (option_to_list first.1) (reading version read first.0 bs)) parts.0
-    ∙ by (cases_lt (length state.line) most) (λ le. reading-held version read (longer state b) bs le parts.1)
+reading-held {M} version read state (b ∷ bs) runs short none =
+    let parts = or_parts (is_end b) (has_end bs) none in
+    let apart = or_parts (b == 0) (b == 10) parts.0 in
+    ap (λ t. (if t then Ok (state, None) else if b == 0 then Ok (record state { over = true }, None)
+    else if b == 10 then turned version read state else no_entry (held state b)) >>= λ first.
+    behind (option_to_list first.1) (reading version read first.0 bs)) runs
+    ∙ ap (λ t. (if t then Ok (record state { over = true }, None)
+    else if b == 10 then turned version read state else no_entry (held state b)) >>= λ first.
+    behind (option_to_list first.1) (reading version read first.0 bs)) apart.0
+    ∙ ap (λ t. (if t then turned version read state else no_entry (held state b)) >>= λ first.
+    behind (option_to_list first.1) (reading version read first.0 bs)) apart.1
+    ∙ by (cases_lt (length state.line) most) (λ le. reading-held version read (longer state b) bs runs le parts.1)
   where
     by : (length state.line < most) ⊎ (most ≤ length state.line)
         → (length (longer state b).line ≤ most → reading version read (longer state b) bs ≡ alone {M = M} (held_all (longer state b) bs))
@@ -96,25 +103,44 @@ turning version read rest (Ok state) =
 turning version read rest (Err what) = Err what
 
 pub reading-line : {M : Type 0} (version : ℕ) (read : List ℕ → Option M) (state : State) (front rest : List ℕ)
-    → length state.line ≤ most → has_line_end front ≡ false
+    → state.over ≡ false → length state.line ≤ most → has_end front ≡ false
     → reading version read state (front ++ 10 ∷ rest) ≡ turning {M = M} version read rest (held_all state front)
 unfolding reading
-reading-line {M} version read state front rest short none =
+reading-line {M} version read state front rest runs short none =
     reading-append version read state front (10 ∷ rest)
-    ∙ ap (on {M = M} version read (10 ∷ rest)) (reading-held version read state front short none)
-    ∙ by (held_all state front)
+    ∙ ap (on {M = M} version read (10 ∷ rest)) (reading-held version read state front runs short none)
+    ∙ by (nat_le (length state.line + length front) most)
   where
-    by : (r : Result State What) → on {M = M} version read (10 ∷ rest) (alone r) ≡ turning version read rest r
-    by (Ok next) = behind_none (reading version read next (10 ∷ rest))
-    by (Err what) = refl
+    next : State
+    next = record state { line = state.line ++ front }
+
+    by : (t : Bool) → on {M = M} version read (10 ∷ rest) (alone (if t then Ok next else Err TooLong))
+        ≡ turning version read rest (if t then Ok next else Err TooLong)
+    by true =
+        behind_none (reading version read next (10 ∷ rest))
+        ∙ ap (λ t. (if t then Ok (next, None) else turned version read next) >>= λ first.
+        behind (option_to_list first.1) (reading version read first.0 rest)) runs
+    by false = refl
+
+-- nothing behind a byte 0 is read
+pub reading-over : {M : Type 0} (version : ℕ) (read : List ℕ → Option M) (state : State) (bytes : List ℕ) → state.over ≡ true
+    → reading version read state bytes ≡ placed state []
+unfolding reading
+reading-over version read state [] over = refl
+reading-over {M} version read state (b ∷ bs) over =
+    ap (λ t. (if t then Ok (state, None) else if b == 0 then Ok (record state { over = true }, None)
+    else if b == 10 then turned version read state else no_entry (held state b)) >>= λ first.
+    behind (option_to_list first.1) (reading version read first.0 bs)) over
+    ∙ behind_none (reading version read state bs)
+    ∙ reading-over {M = M} version read state bs over
 
 -- ---- what `next` promises
 -- a front of bytes without a line end has none
-no_end_in_front : (front rest : List ℕ) → has_line_end (front ++ rest) ≡ false → has_line_end front ≡ false
+no_end_in_front : (front rest : List ℕ) → has_end (front ++ rest) ≡ false → has_end front ≡ false
 no_end_in_front [] rest none = refl
 no_end_in_front (b ∷ bs) rest none =
-    let parts = or_parts (b == 10) (has_line_end (bs ++ rest)) none in
-    ap (λ t. t || has_line_end bs) parts.0 ∙ no_end_in_front bs rest parts.1
+    let parts = or_parts (is_end b) (has_end (bs ++ rest)) none in
+    ap (λ t. t || has_end bs) parts.0 ∙ no_end_in_front bs rest parts.1
 
 -- more bytes than a line may have, up to the first that is too many
 record Cuts (k : ℕ) (bytes : List ℕ) : Type 0 where
@@ -166,27 +192,27 @@ too_many state bytes what fails = by (cases_lt most (length state.line + length 
 
 -- bytes that are too many have a fault after those that fill the line
 held_breaks : {M : Type 0} (version : ℕ) (read : List ℕ → Option M) (state : State) (bytes : List ℕ) (what : What)
-    → length state.line ≤ most → has_line_end bytes ≡ false → held_all state bytes ≡ Err what
+    → state.over ≡ false → length state.line ≤ most → has_end bytes ≡ false → held_all state bytes ≡ Err what
     → (has : HasFault version read state bytes what) × (filled state bytes ≡ has.next)
-held_breaks {M} version read state bytes what short none fails =
+held_breaks {M} version read state bytes what runs short none fails =
     let (more, long) = too_many state bytes what fails in
     let room = most - length state.line in
     let parts = cuts room bytes (omega (arith, more, short)) in
     let front = take room bytes in
     let until : List ℕ = front ++ parts.byte ∷ [] in
     let whole : bytes ≡ until ++ parts.rest = parts.cut ∙ sym (append_assoc front (parts.byte ∷ []) parts.rest) in
-    let free = no_end_in_front front (parts.byte ∷ parts.rest) (subst (λ (l : List ℕ). has_line_end l ≡ false) parts.cut none) in
-    let free_until = no_end_in_front until parts.rest (subst (λ (l : List ℕ). has_line_end l ≡ false) whole none) in (
+    let free = no_end_in_front front (parts.byte ∷ parts.rest) (subst (λ (l : List ℕ). has_end l ≡ false) parts.cut none) in
+    let free_until = no_end_in_front until parts.rest (subst (λ (l : List ℕ). has_end l ≡ false) whole none) in (
       record {
         front = front;
         byte = parts.byte;
         rest = parts.rest;
         whole = parts.cut;
         next = filled state bytes;
-        read = reading-held version read state front short free
+        read = reading-held version read state front runs short free
             ∙ ap (alone {M = M}) (fits_line state front (omega (arith, parts.front, short)));
         same_line = refl;
-        fault = reading-held version read state until short free_until
+        fault = reading-held version read state until runs short free_until
             ∙ ap (alone {M = M}) (overfills state until (omega (arith, parts.front, short, length-append front (parts.byte ∷ []))))
             ∙ ap (λ (w : What). Err w) long;
       },
@@ -205,24 +231,24 @@ read_none {M} version read state new bytes same = record {
 }
 
 pub fault_held : {M : Type 0} (version : ℕ) (read : List ℕ → Option M) (state new : State) (bytes : List ℕ) (e : Unread)
-    → length state.line ≤ most → has_line_end bytes ≡ false
+    → state.over ≡ false → length state.line ≤ most → has_end bytes ≡ false
     → Fails e (held_all state bytes) → Leaves state bytes new e → Meets version read state bytes new e
-fault_held version read state new bytes unread.Memory short none fails left = read_none version read state new bytes left
-fault_held version read state new bytes (unread.Fault what) short none fails left =
-    let met = held_breaks version read state bytes what short none fails in (met.0, left ∙ met.1)
+fault_held version read state new bytes unread.Memory runs short none fails left = read_none version read state new bytes left
+fault_held version read state new bytes (unread.Fault what) runs short none fails left =
+    let met = held_breaks version read state bytes what runs short none fails in (met.0, left ∙ met.1)
 
 pub fault_front : {M : Type 0} (version : ℕ) (read : List ℕ → Option M) (state new : State) (front rest : List ℕ) (e : Unread)
-    → length state.line ≤ most → has_line_end front ≡ false
-    → Fails e (held_all state front) → Leaves state front new e → Meets version read state (front ++ 10 ∷ rest) new e
-fault_front version read state new front rest unread.Memory short none fails left = read_none version read state new (front ++ 10 ∷ rest) left
-fault_front version read state new front rest (unread.Fault what) short none fails left =
-    let met = held_breaks version read state front what short none fails in
+    → state.over ≡ false → length state.line ≤ most → has_end front ≡ false
+    → Fails e (held_all state front) → Leaves state front new e → Meets version read state (front ++ rest) new e
+fault_front version read state new front rest unread.Memory runs short none fails left = read_none version read state new (front ++ rest) left
+fault_front version read state new front rest (unread.Fault what) runs short none fails left =
+    let met = held_breaks version read state front what runs short none fails in
     let first = met.0 in (
       record {
         front = first.front;
         byte = first.byte;
-        rest = first.rest ++ 10 ∷ rest;
-        whole = ap (λ (l : List ℕ). l ++ 10 ∷ rest) first.whole ∙ append_assoc first.front (first.byte ∷ first.rest) (10 ∷ rest);
+        rest = first.rest ++ rest;
+        whole = ap (λ (l : List ℕ). l ++ rest) first.whole ∙ append_assoc first.front (first.byte ∷ first.rest) rest;
         next = first.next;
         read = first.read;
         same_line = first.same_line;
@@ -232,26 +258,26 @@ fault_front version read state new front rest (unread.Fault what) short none fai
     )
 
 pub fault_turned : {M : Type 0} (version : ℕ) (read : List ℕ → Option M) (state next new : State) (front rest : List ℕ) (e : Unread)
-    → length state.line ≤ most → has_line_end front ≡ false
+    → state.over ≡ false → length state.line ≤ most → has_end front ≡ false
     → held_all state front ≡ Ok next → next.lines ≡ state.lines → Fails e (turned version read next) → new ≡ next
     → Meets version read state (front ++ 10 ∷ rest) new e
-fault_turned {M} version read state next new front rest unread.Memory short none held same fails stays = record {
+fault_turned {M} version read state next new front rest unread.Memory runs short none held same fails stays = record {
   front = front;
   rest = 10 ∷ rest;
   whole = refl;
-  read = reading-held version read state front short none ∙ ap (alone {M = M}) held
+  read = reading-held version read state front runs short none ∙ ap (alone {M = M}) held
       ∙ ap (λ (s : State). placed {M = M} s []) (sym stays);
 }
-fault_turned {M} version read state next new front rest (unread.Fault what) short none held same fails stays = (
+fault_turned {M} version read state next new front rest (unread.Fault what) runs short none held same fails stays = (
   record {
     front = front;
     byte = 10;
     rest = rest;
     whole = refl;
     next = next;
-    read = reading-held version read state front short none ∙ ap (alone {M = M}) held;
+    read = reading-held version read state front runs short none ∙ ap (alone {M = M}) held;
     same_line = same;
-    fault = reading-line version read state front [] short none
+    fault = reading-line version read state front [] runs short none
         ∙ ap (turning {M = M} version read []) held
         ∙ ap (λ (r : Result (State × Option (Entry M)) What). r >>= λ first.
         behind (option_to_list first.1) (reading version read first.0 [])) fails;
@@ -260,13 +286,32 @@ fault_turned {M} version read state next new front rest (unread.Fault what) shor
 )
 
 pub taken_line : {M : Type 0} (version : ℕ) (read : List ℕ → Option M) (state next last : State) (entry : Option (Entry M)) (front : List ℕ)
-    → length state.line ≤ most → has_line_end front ≡ false
+    → state.over ≡ false → length state.line ≤ most → has_end front ≡ false
     → held_all state front ≡ Ok next → turned version read next ≡ Ok (last, entry)
     → reading version read state (front ++ 10 ∷ []) ≡ Ok (last, option_to_list entry)
 unfolding reading
-taken_line {M} version read state next last entry front short none held turn =
-    reading-line version read state front [] short none
+taken_line {M} version read state next last entry front runs short none held turn =
+    reading-line version read state front [] runs short none
     ∙ ap (turning {M = M} version read []) held
     ∙ ap (λ (r : Result (State × Option (Entry M)) What). r >>= λ first. behind (option_to_list first.1) (reading version read first.0 []))
     turn
     ∙ ap (λ (es : List (Entry M)). placed last es) (append-nil (option_to_list entry))
+
+-- a byte 0 after bytes of a line ends the text
+pub taken_zero : {M : Type 0} (version : ℕ) (read : List ℕ → Option M) (state next last : State) (front rest : List ℕ)
+    → state.over ≡ false → length state.line ≤ most → has_end front ≡ false
+    → held_all state front ≡ Ok next → next.over ≡ false → last ≡ record next { over = true }
+    → reading version read state (front ++ 0 ∷ rest) ≡ placed {M = M} last []
+unfolding reading
+taken_zero {M} version read state next last front rest runs short none fills running is =
+    reading-append version read state front (0 ∷ rest)
+    ∙ ap (on {M = M} version read (0 ∷ rest)) (reading-held version read state front runs short none ∙ ap (alone {M = M}) fills)
+    ∙ behind_none (reading version read next (0 ∷ rest))
+    ∙ ap (λ t. (if t then silent next else silent (record next { over = true })) >>= λ first.
+    behind (option_to_list first.1) (reading version read first.0 rest)) running
+    ∙ behind_none (reading version read (record next { over = true }) rest)
+    ∙ reading-over {M = M} version read (record next { over = true }) rest refl
+    ∙ ap (λ (s : State). placed {M = M} s []) (sym is)
+  where
+    silent : State → Result (State × Option (Entry M)) What
+    silent s = Ok (s, None)

@@ -18,4 +18,6 @@ pub mod AgainLemmas
 pub mod AgainPieceLemmas
 pub mod AgainStreamLemmas
 pub mod PositionLemmas
+pub mod BeginningLemmas
+pub mod EndLemmas
 pub mod CheckLemmas

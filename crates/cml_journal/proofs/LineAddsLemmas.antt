@@ -15,7 +15,7 @@ use Rattle.cml_journal.specs.{Sum, Summed, nothing_summed, sum_by, sum_word, sum
 use Rattle.cml_journal.specs.{numbered_line, with_line_end, text_of, IsTextOf, from_lines, sealed_header, sealed_end, State, fresh}
 use Rattle.cml_journal.specs.{end_by, end_of, numbered, tailed, headed, headed_by, header_fault, plain_headed, sealed_headed, begun}
 use Rattle.cml_journal.specs.{entered, ended_by, closed_by, sealed_by, inside, from_by, behind_header, line_step, line_read, sums}
-use Rattle.cml_journal.specs.{sums_line, most, held, turned, no_entry, byte_read, behind, reading, IsJournalOf, waiting_at}
+use Rattle.cml_journal.specs.{kept_behind, header_behind, printed, sums_line, most, held, turned, no_entry, byte_read, behind, reading, IsJournalOf, waiting_at}
 use Rattle.cml_journal.specs.{sealed_stream_lines, stream_lines}
 use Rattle.cml_journal.specs.declared.fault.What.TheVariants.{BadNumber, BadBytes, NoHeader, Gap, WrongEnd, WrongSum, TooMany, TooLong}
 use Rattle.cml_journal.specs.declared.reader.Form.TheVariants.{Plain, Sealed}
@@ -278,8 +278,11 @@ turned_to state step = (
   record {
     stage = step.0;
     lines = (state.lines + 1) % 2 ^ 64;
+    kept = kept_behind step.0 state.kept state.header (length state.line);
+    header = header_behind step.0 (length state.line);
     line = [];
     summed = sums_line step.0 state.summed state.line;
+    over = state.over;
   },
   step.1,
 )
@@ -292,17 +295,19 @@ ready_behind (Waiting before link) summed line = refl
 ready_behind (Headed before form) summed line = tt
 ready_behind (Inside position form) summed line = tt
 
+-- a byte is read so
+abbrev ByteRead : {M : Type 0} → ℕ → (List ℕ → Option M) → State → ℕ → Bool → Bool → State × Option (Entry M) → Type 0
+ByteRead version read state b done zero x =
+    (if done then Ok (state, None) else if zero then Ok (record state { over = true }, None)
+    else if b == 10 then turned version read state else no_entry (held state b)) ≡ Ok x
+
+abbrev silent : {M : Type 0} → State → State × Option (Entry M)
+silent state = (state, None)
+
 pub byte_ready : {M : Type 0} (version : ℕ) (read : List ℕ → Option M) (state : State) (b : ℕ) (x : State × Option (Entry M))
     → Ready state.stage state.summed → byte_read version read state b ≡ Ok x → Ready x.0.stage x.0.summed
 unfolding turned
-byte_ready {M} version read state b x ready e =
-    elim (chosen (b == 10) (turned version read state) (no_entry (held state b)) (Ok x) e) [
-      | inl h ↦
-          let a = bind_ok (line_read version read state.summed state.stage state.line) (turning_to state) x h.1 in
-          subst (λ (y : State × Option (Entry M)). Ready y.0.stage y.0.summed) (ok_is (turned_to state a.0) x a.2)
-          (ready_behind a.0.0 state.summed state.line)
-      | inr h ↦ kept (nat_lt (length state.line) most) x h.1
-    ]
+byte_ready {M} version read state b x ready e = by state.over (b == 0) e
   where
     kept : (t : Bool) (y : State × Option (Entry M))
         → no_entry (if t then Ok (record state { line = state.line ++ b ∷ [] }) else Err TooLong) ≡ Ok y → Ready y.0.stage y.0.summed
@@ -311,63 +316,129 @@ byte_ready {M} version read state b x ready e =
         subst (λ (z : State × Option (Entry M)). Ready z.0.stage z.0.summed) (ok_is made y f) ready
     kept false y f = absurd cc
 
+    by : (done zero : Bool) → ByteRead version read state b done zero x → Ready x.0.stage x.0.summed
+    by true zero f = subst (λ (y : State × Option (Entry M)). Ready y.0.stage y.0.summed) (ok_is (silent state) x f) ready
+    by false true f =
+        subst (λ (y : State × Option (Entry M)). Ready y.0.stage y.0.summed) (ok_is (silent (record state { over = true })) x f) ready
+    by false false f =
+        elim (chosen (b == 10) (turned version read state) (no_entry (held state b)) (Ok x) f) [
+          | inl h ↦
+              let a = bind_ok (line_read version read state.summed state.stage state.line) (turning_to state) x h.1 in
+              subst (λ (y : State × Option (Entry M)). Ready y.0.stage y.0.summed) (ok_is (turned_to state a.0) x a.2)
+              (ready_behind a.0.0 state.summed state.line)
+          | inr h ↦ kept (nat_lt (length state.line) most) x h.1
+        ]
+
+-- what is read of bytes in this state: none once the text is over
+abbrev pub left : State → List ℕ → List ℕ
+left state bytes = if state.over then [] else printed bytes
+
+left_over : (state : State) (bytes : List ℕ) → state.over ≡ true → left state bytes ≡ []
+left_over state bytes over = ap (λ t. if t then [] else printed bytes) over
+
+left_running : (state : State) (bytes : List ℕ) → state.over ≡ false → left state bytes ≡ printed bytes
+left_running state bytes runs = ap (λ t. if t then [] else printed bytes) runs
+
+abbrev LineClaim : {M : Type 0} → ℕ → (M → List ℕ) → State → List ℕ → List (Entry M) → ℕ → Type 0
+LineClaim version text state bytes entries end = Claim version text state.stage state.summed (state.line ++ bytes) entries end
+
 pub byte_adds : {M : Type 0} (version : ℕ) (text : M → List ℕ) (fits : M → Bool) (read : List ℕ → Option M) (written : IsWritten text fits read)
     (state : State) (b : ℕ) (x : State × Option (Entry M)) (bytes : List ℕ) (entries : List (Entry M)) (end : ℕ)
     → Ready state.stage state.summed
-    → byte_read version read state b ≡ Ok x → Claim version text x.0.stage x.0.summed (x.0.line ++ bytes) entries end
-    → Claim version text state.stage state.summed (state.line ++ b ∷ bytes) (option_to_list x.1 ++ entries) end
+    → byte_read version read state b ≡ Ok x → LineClaim version text x.0 (left x.0 bytes) entries end
+    → LineClaim version text state (left state (b ∷ bytes)) (option_to_list x.1 ++ entries) end
 unfolding turned
-byte_adds {M} version text fits read written state b x bytes entries end ready e claim =
-    elim (chosen (b == 10) (turned version read state) (no_entry (held state b)) (Ok x) e) [
-      | inl h ↦
-          let a = bind_ok (line_read version read state.summed state.stage state.line) (turning_to state) x h.1 in
-          let made : State × Option (Entry M) = turned_to state a.0 in
-          let same : made ≡ x = ok_is made x a.2 in
-          let there : Claim version text a.0.0 (sums_line a.0.0 state.summed state.line) bytes entries end =
-          subst (λ (y : State × Option (Entry M)). Claim version text y.0.stage y.0.summed (y.0.line ++ bytes) entries end) (sym same)
-          claim in
-          let added = line_adds version text fits read written state.stage state.summed state.line a.0 ready a.1 bytes entries end there in
-          let placed : with_line_end state.line ++ bytes ≡ state.line ++ b ∷ bytes = append_assoc state.line (10 ∷ []) bytes
-          ∙ ap (λ (c : ℕ). state.line ++ c ∷ bytes) (sym (eqb-true b 10 h.0)) in
-          subst (λ (y : State × Option (Entry M)). Claim version text state.stage state.summed (state.line ++ b ∷ bytes)
-          (option_to_list y.1 ++ entries) end) same
-          (subst (λ (w : List ℕ). Claim version text state.stage state.summed w (option_to_list a.0.1 ++ entries) end) placed added)
-      | inr h ↦
-          let next : State = record state { line = state.line ++ b ∷ [] } in
-          let made : State × Option (Entry M) = (next, None) in
-          let same : made ≡ x = kept (nat_lt (length state.line) most) next x h.1 in
-          let there : Claim version text state.stage state.summed ((state.line ++ b ∷ []) ++ bytes) entries end =
-          subst (λ (y : State × Option (Entry M)). Claim version text y.0.stage y.0.summed (y.0.line ++ bytes) entries end) (sym same)
-          claim in
-          subst (λ (y : State × Option (Entry M)). Claim version text state.stage state.summed (state.line ++ b ∷ bytes)
-          (option_to_list y.1 ++ entries) end) same
-          (subst (λ (w : List ℕ). Claim version text state.stage state.summed w entries end) (append_assoc state.line (b ∷ []) bytes) there)
-    ]
+byte_adds {M} version text fits read written state b x bytes entries end ready e claim = by state.over (b == 0) refl refl e
   where
     kept : (t : Bool) (next : State) (y : State × Option (Entry M))
-        → no_entry (if t then Ok next else Err TooLong) ≡ Ok y → (next, None) ≡ y
-    kept true next y f = let made : State × Option (Entry M) = (next, None) in ok_is made y f
+        → no_entry (if t then Ok next else Err TooLong) ≡ Ok y → silent next ≡ y
+    kept true next y f = ok_is (silent next) y f
     kept false next y f = absurd cc
+
+    -- the byte adds nothing
+    still : (next : State) → silent next ≡ x → next.stage ≡ state.stage → next.summed ≡ state.summed → next.line ≡ state.line
+        → left next bytes ≡ [] → left state (b ∷ bytes) ≡ []
+        → LineClaim version text state (left state (b ∷ bytes)) (option_to_list x.1 ++ entries) end
+    still next same stage summed line none no_more =
+        subst (λ (y : State × Option (Entry M)). LineClaim version text state (left state (b ∷ bytes)) (option_to_list y.1 ++ entries) end)
+        same
+        (subst (λ (w : List ℕ). LineClaim version text state w entries end) (none ∙ sym no_more)
+        (subst (λ (l : List ℕ). Claim version text state.stage state.summed (l ++ left next bytes) entries end) line
+        (subst (λ (s : Summed). Claim version text state.stage s (next.line ++ left next bytes) entries end) summed
+        (subst (λ (t : Stage). Claim version text t next.summed (next.line ++ left next bytes) entries end) stage
+        (subst (λ (y : State × Option (Entry M)). LineClaim version text y.0 (left y.0 bytes) entries end) (sym same) claim)))))
+
+    -- a byte of a line, or its end
+    line : state.over ≡ false → (b == 0) ≡ false → (if b == 10 then turned version read state else no_entry (held state b)) ≡ Ok x
+        → LineClaim version text state (left state (b ∷ bytes)) (option_to_list x.1 ++ entries) end
+    line runs apart f =
+        let more : left state (b ∷ bytes) ≡ b ∷ printed bytes = left_running state (b ∷ bytes) runs
+        ∙ ap (λ t. if t then [] else b ∷ printed bytes) apart in
+        subst (λ (w : List ℕ). LineClaim version text state w (option_to_list x.1 ++ entries) end) (sym more)
+        (elim (chosen (b == 10) (turned version read state) (no_entry (held state b)) (Ok x) f) [
+          | inl h ↦
+              let a = bind_ok (line_read version read state.summed state.stage state.line) (turning_to state) x h.1 in
+              let made : State × Option (Entry M) = turned_to state a.0 in
+              let same : made ≡ x = ok_is made x a.2 in
+              let there : Claim version text a.0.0 (sums_line a.0.0 state.summed state.line) (printed bytes) entries end =
+              subst (λ (w : List ℕ). Claim version text a.0.0 (sums_line a.0.0 state.summed state.line) w entries end)
+              (left_running made.0 bytes runs)
+              (subst (λ (y : State × Option (Entry M)). LineClaim version text y.0 (left y.0 bytes) entries end) (sym same) claim) in
+              let added = line_adds version text fits read written state.stage state.summed state.line a.0 ready a.1 (printed bytes) entries
+              end there in
+              let placed : with_line_end state.line ++ printed bytes ≡ state.line ++ b ∷ printed bytes =
+              append_assoc state.line (10 ∷ []) (printed bytes)
+              ∙ ap (λ (c : ℕ). state.line ++ c ∷ printed bytes) (sym (eqb-true b 10 h.0)) in
+              subst (λ (y : State × Option (Entry M)). LineClaim version text state (b ∷ printed bytes) (option_to_list y.1 ++ entries) end)
+              same
+              (subst (λ (w : List ℕ). Claim version text state.stage state.summed w (option_to_list a.0.1 ++ entries) end) placed added)
+          | inr h ↦
+              let next : State = record state { line = state.line ++ b ∷ [] } in
+              let same : silent next ≡ x = kept (nat_lt (length state.line) most) next x h.1 in
+              let there : Claim version text state.stage state.summed ((state.line ++ b ∷ []) ++ printed bytes) entries end =
+              subst (λ (w : List ℕ). Claim version text state.stage state.summed ((state.line ++ b ∷ []) ++ w) entries end)
+              (left_running next bytes runs)
+              (subst (λ (y : State × Option (Entry M)). LineClaim version text y.0 (left y.0 bytes) entries end) (sym same) claim) in
+              subst (λ (y : State × Option (Entry M)). LineClaim version text state (b ∷ printed bytes) (option_to_list y.1 ++ entries) end)
+              same
+              (subst (λ (w : List ℕ). Claim version text state.stage state.summed w entries end)
+              (append_assoc state.line (b ∷ []) (printed bytes)) there)
+        ])
+
+    by : (done zero : Bool) → state.over ≡ done → (b == 0) ≡ zero → ByteRead version read state b done zero x
+        → LineClaim version text state (left state (b ∷ bytes)) (option_to_list x.1 ++ entries) end
+    by true zero over is f =
+        still state (ok_is (silent state) x f) refl refl refl (left_over state bytes over) (left_over state (b ∷ bytes) over)
+    by false true runs is f =
+        still (record state { over = true }) (ok_is (silent (record state { over = true })) x f) refl refl refl refl
+        (left_running state (b ∷ bytes) runs ∙ ap (λ t. if t then [] else b ∷ printed bytes) is)
+    by false false runs is f = line runs is f
 
 pub stream_takes : {M : Type 0} (version : ℕ) (text : M → List ℕ) (fits : M → Bool) (read : List ℕ → Option M)
     (written : IsWritten text fits read) (bytes : List ℕ) (state final : State) (entries : List (Entry M)) (end : ℕ)
     → Ready state.stage state.summed
     → reading version read state bytes ≡ Ok (final, entries) → end_of final ≡ Some end
-    → Claim version text state.stage state.summed (state.line ++ bytes) entries end
+    → LineClaim version text state (left state bytes) entries end
 unfolding reading
 stream_takes {M} version text fits read written [] state final entries end ready e ends =
     let start : State × List (Entry M) = (state, []) in
     let same = ok_is start (final, entries) e in
-    subst (λ (es : List (Entry M)). Claim version text state.stage state.summed (state.line ++ []) es end)
+    let none : left state [] ≡ [] = by state.over in
+    subst (λ (w : List ℕ). LineClaim version text state w entries end) (sym none)
+    (subst (λ (es : List (Entry M)). LineClaim version text state [] es end)
     (ap (λ (x : State × List (Entry M)). x.1) same)
-    (at_end {M = M} version text state.stage state.summed state.line end (ap (λ (x : State × List (Entry M)). end_of x.0) same ∙ ends))
+    (at_end {M = M} version text state.stage state.summed state.line end (ap (λ (x : State × List (Entry M)). end_of x.0) same ∙ ends)))
+  where
+    by : (t : Bool) → (if t then [] else printed []) ≡ []
+    by true = refl
+    by false = refl
 stream_takes {M} version text fits read written (b ∷ bs) state final entries end ready e ends =
     let a = bind_ok (byte_read version read state b)
     (λ first. behind (option_to_list first.1) (reading version read first.0 bs)) (final, entries) e in
     let (later, is, same) = behind_ok (option_to_list a.0.1) (reading version read a.0.0 bs) (final, entries) a.2 in
     let claim = stream_takes version text fits read written bs a.0.0 later.0 later.1 end (byte_ready version read state b a.0 ready a.1) is
     (ap (λ (x : State × List (Entry M)). end_of x.0) same ∙ ends) in
-    subst (λ (es : List (Entry M)). Claim version text state.stage state.summed (state.line ++ b ∷ bs) es end)
+    subst (λ (es : List (Entry M)). LineClaim version text state (left state (b ∷ bs)) es end)
     (ap (λ (x : State × List (Entry M)). x.1) same)
     (byte_adds version text fits read written state b a.0 bs later.1 end ready a.1 claim)
 
@@ -380,30 +451,30 @@ any_text version text from pieces bytes (inr sealed) = inr (sealed.0, sealed.2)
 pub stream_found : {M : Type 0} (version : ℕ) (text : M → List ℕ) (fits : M → Bool) (read : List ℕ → Option M)
     (written : IsWritten text fits read) (bytes : List ℕ) (final : State) (entries : List (Entry M)) (end : ℕ)
     → reading version read fresh bytes ≡ Ok (final, entries) → end_of final ≡ Some end
-    → (from : ℕ) × (pieces : List (List (Entry M))) × IsTextOf version text from pieces bytes
+    → (from : ℕ) × (pieces : List (List (Entry M))) × IsTextOf version text from pieces (printed bytes)
     × (entries ≡ flat_map (λ piece. piece) pieces) × (end ≡ from + length entries)
 stream_found version text fits read written bytes final entries end e ends =
     let w = stream_takes version text fits read written bytes fresh final entries end refl e ends in
-    (w.from, w.pieces, any_text version text w.from w.pieces bytes w.whole, w.given, w.ends)
+    (w.from, w.pieces, any_text version text w.from w.pieces (printed bytes) w.whole, w.given, w.ends)
 
 -- a journal that was read to its end is pieces from position 0 on
 pub journal_found : {M : Type 0} (version : ℕ) (text : M → List ℕ) (fits : M → Bool) (read : List ℕ → Option M)
     (written : IsWritten text fits read) (bytes : List ℕ) (final : State) (entries : List (Entry M)) (end : ℕ)
     → reading version read (waiting_at 0) bytes ≡ Ok (final, entries) → end_of final ≡ Some end
-    → (pieces : List (List (Entry M))) × IsJournalOf version text pieces bytes
+    → (pieces : List (List (Entry M))) × IsJournalOf version text pieces (printed bytes)
     × (entries ≡ flat_map (λ piece. piece) pieces) × (end ≡ length entries)
 journal_found {M} version text fits read written bytes final entries end e ends =
     let w = stream_takes version text fits read written bytes (waiting_at 0) final entries end refl e ends in
     (w.pieces, by w.from w.starts w.pieces w.whole, w.given, omega (arith, w.ends, w.starts))
   where
     sealed : (after : Option Sum) (from : ℕ) (pieces : List (List (Entry M))) → after ≡ None → from ≡ 0
-        → bytes ≡ text_of (sealed_stream_lines version text after from pieces)
-        → bytes ≡ text_of (sealed_stream_lines version text None 0 pieces)
+        → printed bytes ≡ text_of (sealed_stream_lines version text after from pieces)
+        → printed bytes ≡ text_of (sealed_stream_lines version text None 0 pieces)
     sealed after from pieces first zeroed is =
         is ∙ ap (λ (o : Option Sum). text_of (sealed_stream_lines version text o from pieces)) first
         ∙ ap (λ (n : ℕ). text_of (sealed_stream_lines version text None n pieces)) zeroed
 
-    by : (from : ℕ) → from ≡ 0 → (pieces : List (List (Entry M))) → IsText version text First from pieces bytes
-        → IsJournalOf version text pieces bytes
+    by : (from : ℕ) → from ≡ 0 → (pieces : List (List (Entry M))) → IsText version text First from pieces (printed bytes)
+        → IsJournalOf version text pieces (printed bytes)
     by from zeroed pieces (inl plain) = inl (plain.1 ∙ ap (λ (n : ℕ). text_of (stream_lines version text n pieces)) zeroed)
     by from zeroed pieces (inr found) = inr (sealed found.0 from pieces found.1 zeroed found.2)

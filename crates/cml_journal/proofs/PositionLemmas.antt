@@ -12,7 +12,7 @@ use Rattle.cml_grammar.specs.{is_bad_byte}
 use Rattle.cml_journal.specs.{Sum, Summed, sum_by, sum_word, sum_in, What, Form, Link, Stage, ◌>>=◌, entry_in, State, Step, waiting_at}
 use Rattle.cml_journal.specs.{end_of, end_by, numbered, tailed, headed, headed_by, header_fault, plain_headed, sealed_headed}
 use Rattle.cml_journal.specs.{sealed_where, begun, entered, ended_by, closed_by, sealed_by, inside, from_by, behind_header, line_step}
-use Rattle.cml_journal.specs.{line_read, sums_line, held, turned, no_entry, byte_read, Read, behind, reading}
+use Rattle.cml_journal.specs.{line_read, sums_line, kept_behind, header_behind, held, turned, no_entry, byte_read, Read, behind, reading}
 use Rattle.cml_journal.specs.declared.fault.What.TheVariants.{BadNumber, BadBytes, Gap, WrongEnd, WrongSum, TooMany, TooLong}
 use Rattle.cml_journal.specs.declared.reader.Form.TheVariants.{Plain, Sealed}
 use Rattle.cml_journal.specs.declared.reader.Link.TheVariants.{Any, First, Unsealed, Behind}
@@ -181,8 +181,11 @@ module _ {M : Type 0} (version : ℕ) (read : List ℕ → Option M) where
             record {
               stage = step.0;
               lines = (state.lines + 1) % 2 ^ 64;
+              kept = kept_behind step.0 state.kept state.header (length state.line);
+              header = header_behind step.0 (length state.line);
               line = [];
               summed = sums_line step.0 state.summed state.line;
+              over = state.over;
             },
             step.1,
           ))
@@ -190,7 +193,7 @@ module _ {M : Type 0} (version : ℕ) (read : List ℕ → Option M) where
       by (Err what) moves = tt
 
   byte_moves : (p : ℕ) (state : State) (b : ℕ) → place state.stage ≡ Some p → MovesTo {M = M} p (byte_read version read state b)
-  byte_moves p state b at = by (b == 10)
+  byte_moves p state b at = over state.over (b == 0) (b == 10)
     where
       longer : (t : Bool) → MovesTo {M = M} p (no_entry (if t then Ok (record state { line = state.line ++ b ∷ [] }) else Err TooLong))
       longer true = (at ∙ stays p, inl refl)
@@ -199,6 +202,13 @@ module _ {M : Type 0} (version : ℕ) (read : List ℕ → Option M) where
       by : (t : Bool) → MovesTo {M = M} p (if t then turned version read state else no_entry (held state b))
       by true = turned_moves p state at
       by false = longer (nat_lt (length state.line) 1114112)
+
+      over : (done zero ends : Bool) → MovesTo {M = M} p (if done then Ok (state, None)
+          else if zero then Ok (record state { over = true }, None)
+          else if ends then turned version read state else no_entry (held state b))
+      over true zero ends = (at ∙ stays p, inl refl)
+      over false true ends = (at ∙ stays p, inl refl)
+      over false false ends = by ends
 
   reads : (p : ℕ) (state : State) (bytes : List ℕ) → place state.stage ≡ Some p → Reads {M = M} p (reading version read state bytes)
   unfolding reading

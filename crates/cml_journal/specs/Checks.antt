@@ -56,10 +56,6 @@ MayHaltAt checker entry new (halt.Unlawful at) =
 MayHaltAt checker entry new halt.NoMemory = (new.checker ≡ checker) ⊎ Pauses checker (entry ∷ []) new.checker
 MayHaltAt checker entry new (halt.Fault line what) = 2 ^ 64 ≤ suc (count_of checker)
 
--- the last piece has its end, the check has not stopped, and a line was read
-abbrev pub is_whole : {M : Type 0} → Progress M → Bool
-is_whole progress = is_some (end_of progress.state) && (is_none progress.halt && not (progress.state.lines == 0))
-
 module _ {M : Type 0} (version : ℕ) (meaning : List ℕ → Option M) where
   -- these bytes were read from position 0 on, and all entries in them are lawful
   pub record IsSoFar (bytes : List ℕ) (progress : Progress M) : Type 0 where

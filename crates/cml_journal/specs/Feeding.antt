@@ -1,9 +1,10 @@
 -- A journal's text is read byte by byte.
-use Rattle.std.specs.Prelude.{◌≡◌, ⊤, ℕ, ◌+◌, ◌-◌, ◌%◌, ◌^◌, ◌≤◌, ◌==◌, ◌&&◌, ◌||◌, Bool, nat_lt, nat_le, if◌then◌else◌}
+use Rattle.std.specs.Prelude.{◌≡◌, ⊤, ℕ, ◌+◌, ◌-◌, ◌%◌, ◌^◌, ◌≤◌, ◌==◌, ◌&&◌, ◌||◌, Bool, nat_lt, nat_le, nat_eq}
+use Rattle.std.specs.Prelude.{if◌then◌else◌}
 use Rattle.std.specs.Prelude.{List, [], ◌∷◌, ◌++◌, length, take}
 use Rattle.std.specs.Prelude.{Option, Some, None, is_some, is_none, true, false, Result, Ok, Err, codes}
 use Rattle.std.specs.Option.{option_map, option_and_then, option_to_list}
-use Rattle.std.specs.List.{list_any, flat_map}
+use Rattle.std.specs.List.{list_any, flat_map, starts_with}
 use Rattle.std.specs.Str.{bytes_eq}
 use Rattle.cml_board.specs.{Entry}
 use Rattle.cml_grammar.specs.{is_bad_byte}
@@ -22,19 +23,29 @@ use Rattle.cml_journal.specs.declared.reader.Stage.TheVariants.{Waiting, Headed,
 use Rattle.cml_journal.specs.Numbers.{number_of}
 use Rattle.cml_journal.specs.Lines.{line_of, HasLine}
 use Rattle.cml_journal.specs.Reading.{◌>>=◌, cut, entry_in}
-use Rattle.cml_journal.specs.Streams.{with_line_end, text_of, sealed_stream_lines, stream_sum}
+use Rattle.cml_journal.specs.declared.fault.Unended.{Unended}
+use Rattle.cml_journal.specs.declared.fault.Unended.TheVariants.{Open, Torn, NoJournal}
+use Rattle.cml_journal.specs.Streams.{numbered_line, with_line_end, text_of, sealed_stream_lines, stream_sum}
 
--- How far a stream is read: its stage, how many lines have ended (modulo 2 ^ 64), what has come of the next, and, within a
--- sealed piece, how far its whole lines are summed.
+-- How far a stream is read: its stage, how many lines have ended, and how many bytes these have but for a header behind the last
+-- piece (both modulo 2 ^ 64), how many bytes such a header has, what has come of the next line, within a sealed piece how far its whole
+-- lines are summed, and whether a byte 0 has come, which ends the text.
 pub record State : Type 0 where
   pub stage : Stage
   pub lines : ℕ
+  pub kept : ℕ
+  pub header : ℕ
   pub line : List ℕ
   pub summed : Summed
+  pub over : Bool
+
+-- nothing is read at this stage
+abbrev pub begun_at : Stage → State
+begun_at stage = record { stage = stage; lines = 0; kept = 0; header = 0; line = []; summed = nothing_summed; over = false }
 
 -- nothing is read yet
 abbrev pub fresh : State
-fresh = record { stage = Waiting None Any; lines = 0; line = []; summed = nothing_summed }
+fresh = begun_at (Waiting None Any)
 
 -- a sealed piece from position 0 on begins a chain
 abbrev pub link_at : ℕ → Link
@@ -42,7 +53,7 @@ link_at position = if position == 0 then First else Any
 
 -- nothing is read yet, and the first piece begins at this position
 abbrev pub waiting_at : ℕ → State
-waiting_at position = record { stage = Waiting (Some position) (link_at position); lines = 0; line = []; summed = nothing_summed }
+waiting_at position = begun_at (Waiting (Some position) (link_at position))
 
 -- the position after the last piece, where nothing is after that
 abbrev pub end_by : Stage → ℕ → Option ℕ
@@ -52,6 +63,36 @@ end_by (Inside position form) left = None
 
 abbrev pub end_of : State → Option ℕ
 end_of state = end_by state.stage (length state.line)
+
+-- the first line of a journal may begin so
+abbrev pub begins_journal : ℕ → List ℕ → Bool
+begins_journal version line = starts_with nat_eq (numbered_line (codes "journal") version) line
+    || starts_with nat_eq (numbered_line (codes "journal") (version + 2)) line
+
+-- how a text ends that has no line: a journal's first line may begin so, or not
+abbrev pub first_unended : ℕ → Link → List ℕ → Unended
+first_unended version First line = if begins_journal version line then Torn 0 else NoJournal
+first_unended version Any line = Torn 0
+first_unended version Unsealed line = Torn 0
+first_unended version (Behind sum) line = Torn 0
+
+-- how a text ends after its last piece, or within it, after these lines and with so many bytes of the next
+abbrev pub unended_behind : Option ℕ → ℕ → ℕ → Option Unended
+unended_behind (Some end) lines left = if left == 0 then None else Some (Torn lines)
+unended_behind None lines left = Some (Torn lines)
+
+abbrev pub unended_within : ℕ → ℕ → Option Unended
+unended_within lines left = Some (if left == 0 then Open lines else Torn lines)
+
+abbrev pub unended_at : ℕ → Stage → ℕ → List ℕ → Option Unended
+unended_at version (Waiting before link) lines line =
+    if lines == 0 then Some (first_unended version link line) else unended_behind before lines (length line)
+unended_at version (Headed before form) lines line = unended_within lines (length line)
+unended_at version (Inside position form) lines line = unended_within lines (length line)
+
+-- how a text ends, unless it is whole
+abbrev pub unended : ℕ → State → Option Unended
+unended version state = unended_at version state.stage state.lines state.line
 
 -- the sum of the last piece, where that is sealed and nothing is after it
 abbrev pub sum_behind : Stage → ℕ → Option Sum
@@ -214,8 +255,29 @@ held_all state bytes = if nat_le (length state.line + length bytes) most
 abbrev pub filled : State → List ℕ → State
 filled state bytes = record state { line = state.line ++ take (most - length state.line) bytes }
 
-abbrev pub has_line_end : List ℕ → Bool
-has_line_end bytes = list_any (λ b. b == 10) bytes
+-- the bytes before the first 0, which is in no line
+abbrev pub printed : List ℕ → List ℕ
+printed [] = []
+printed (b ∷ bs) = if b == 0 then [] else b ∷ printed bs
+
+-- a byte that ends a line, or the text
+abbrev pub is_end : ℕ → Bool
+is_end b = (b == 0) || (b == 10)
+
+abbrev pub has_end : List ℕ → Bool
+has_end bytes = list_any is_end bytes
+
+-- how many bytes the whole lines have after one more, of this length without its end, but for a header that is the last
+abbrev pub kept_behind : Stage → (kept header length : ℕ) → ℕ
+kept_behind (Headed before form) kept header length = kept
+kept_behind (Waiting before link) kept header length = (kept + (header + (length + 1))) % 2 ^ 64
+kept_behind (Inside position form) kept header length = (kept + (header + (length + 1))) % 2 ^ 64
+
+-- how many bytes that header has
+abbrev pub header_behind : Stage → (length : ℕ) → ℕ
+header_behind (Headed before form) length = length + 1
+header_behind (Waiting before link) length = 0
+header_behind (Inside position form) length = 0
 
 -- a line's end
 unfoldable pub turned : {M : Type 0} → ℕ → (List ℕ → Option M) → State → Result (State × Option (Entry M)) What
@@ -225,8 +287,11 @@ turned version read state = do
     record {
       stage = step.0;
       lines = (state.lines + 1) % 2 ^ 64;
+      kept = kept_behind step.0 state.kept state.header (length state.line);
+      header = header_behind step.0 (length state.line);
       line = [];
       summed = sums_line step.0 state.summed state.line;
+      over = state.over;
     },
     step.1,
   )
@@ -236,8 +301,12 @@ abbrev pub no_entry : {M : Type 0} → Result State What → Result (State × Op
 no_entry (Ok state) = Ok (state, None)
 no_entry (Err what) = Err what
 
+-- a byte of a line, or its end; the first byte 0 ends the text, and what is behind it isn't read
 abbrev pub byte_read : {M : Type 0} → ℕ → (List ℕ → Option M) → State → ℕ → Result (State × Option (Entry M)) What
-byte_read version read state b = if b == 10 then turned version read state else no_entry (held state b)
+byte_read version read state b =
+    if state.over then Ok (state, None)
+    else if b == 0 then Ok (record state { over = true }, None)
+    else if b == 10 then turned version read state else no_entry (held state b)
 
 -- entries, and the state after them
 abbrev pub Read : Type 0 → Type 0

@@ -30,16 +30,18 @@ pub use Streams.{stream_sum}
 pub use Lengths.{AreShort, IsShort, IsTooLong, MayBeTooLong}
 pub use Feeding.{IsReadable, IsSealedRead, MaybeSum, Read, State, Step, begun, behind, byte_read, closed_by, end_by, end_of, ended_by}
 pub use Feeding.{filled, fresh, from_by, header_fault}
-pub use Feeding.{has_line_end, headed_by, held, held_all, inside_by, last_sum, line_step, link_at, most, no_entry, number_before, numbered}
+pub use Feeding.{begun_at, has_end, header_behind, headed_by, held, held_all, inside_by, is_end, kept_behind, last_sum, line_step, link_at, most, no_entry, number_before, numbered}
+pub use Feeding.{begins_journal, first_unended, printed, unended, unended_at, unended_behind, unended_within}
 pub use Feeding.{kept_by, kept_sum, plain_headed, sealed_by, sealed_headed, sealed_where, sum_behind, sum_within, sums, sums_line, tailed, waiting_at}
 unfoldable pub use Feeding.{behind_header, entered, headed, inside, line_read, reading, turned}
 pub use Faults.{HasFault, HasFront, Leaves, Meets}
 pub use Due.{due_inside, due_line, end_due, first_due, from_due, headers_due, quoted, shown_byte, shown_front, shown_line, stage_due}
 pub use Checks.{Goes, HaltTells, HaltsIn, IsFaultyJournal, IsLawfulJournal, IsRestored, IsSoFar, IsSpent, IsTold, IsUnlawfulJournal}
-pub use Checks.{MayHaltAt, Progress, ShowsFault, ShowsFront, ShowsUnlawful, StopsIn, halt_of, is_whole, line_of_last}
+pub use Checks.{MayHaltAt, Progress, ShowsFault, ShowsFront, ShowsUnlawful, StopsIn, halt_of, line_of_last}
 pub use Sums.{Summed, nothing_summed, and_byte, sum_by, sum_of}
 unfoldable pub use Sums.{and_bytes}
 pub use SumWords.{sum_word, sum_in, IsSum}
+pub use declared.fault.Unended.{Unended}
 pub use declared.fault.Unread.{Unread}
 pub use declared.fault.Unwritten.{Unwritten}
 pub use declared.fault.What.{What}

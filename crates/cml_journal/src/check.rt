@@ -1,11 +1,11 @@
 //! A journal is read and checked as it comes, in memory for the objects, what waits in them, and one line.
 ghost use Rattle.std.specs.Prelude.{◌≡◌, ◌≤◌, ◌-◌, ◌^◌, ◌∷◌, ◌++◌, ℕ, List, [], Ok, None, Some, length, IfOk, IfErr, IfSome, IsNone};
-ghost use Rattle.std.specs.Prelude.{OnOk, OnErr, OnSome, IsErr, IsTrue, is_none, not, ◌&&◌, ◌==◌, option_map, string_bytes};
+ghost use Rattle.std.specs.Prelude.{OnOk, OnErr, OnSome, IsErr, ◌↔◌, option_map, string_bytes};
 ghost use Rattle.cml_board.specs.{Feeds, count_of, expected_of};
-ghost use Rattle.cml_journal.specs.{Halt, State, end_of, IsSoFar, Goes, HaltsIn, StopsIn, MayHaltAt, IsTold, IsSpent, is_whole, due_line};
+ghost use Rattle.cml_journal.specs.{Halt, State, IsSoFar, Goes, HaltsIn, StopsIn, MayHaltAt, IsTold, IsSpent, unended, due_line};
 ghost use Rattle.cml_journal.specs.{line_of_last, kept_sum, last_sum, shown_line, IsLawfulJournal, IsRestored};
 
-use crate::fault::What;
+use crate::fault::{Unended, What};
 use crate::reader::Reader;
 use crate::stop::{Halt, Stop};
 use crate::sum::Sum;
@@ -174,23 +174,14 @@ impl<M: Message + Written, L: MessageLog<M>> Check<M, L> {
         Ok(line)
     }
 
-    /// Whether the bytes so far are a whole journal: there is one line at least, and the last piece has its end.
-    pub fn end(&self) -> bool
-        ensures same { result ≡ is_whole self.now }
-        ensures whole { (bytes : List ℕ) → IsSoFar M.VERSION M.meaning bytes self.now → IsTrue result
-            → IsLawfulJournal M.VERSION M.meaning bytes (count_of self.now.checker) }
+    /// Returns how the text ends, if nothing more comes of it and the check hasn't stopped. `None`: the bytes so far are a whole
+    /// journal.
+    pub fn unended(&self) -> Option<Unended>
+        ensures same { result ≡ unended M.VERSION self.now.state }
+        ensures whole { (bytes : List ℕ) → IsSoFar M.VERSION M.meaning bytes self.now
+            → (result ≡ None) ↔ IsLawfulJournal M.VERSION M.meaning bytes (count_of self.now.checker) }
     {
-        match self.reader.end() {
-            Some(_) => self.is_running(),
-            None => false,
-        }
-    }
-
-    /// Whether it has not stopped, and a line was read.
-    fn is_running(&self) -> bool
-        ensures { result ≡ (is_none self.now.halt && not (self.now.state.lines == 0)) }
-    {
-        self.halt.is_none() && self.reader.lines() != 0
+        self.reader.unended::<M>()
     }
 
     /// What becomes of the call of the first unlawful entry, on a board with the history before it. `None` if no entry is
@@ -203,7 +194,7 @@ impl<M: Message + Written, L: MessageLog<M>> Check<M, L> {
 
     /// A board with the history that the whole entries so far give, as if it had made each call itself, and had cut its journal
     /// then; and who made these entries. Its journal takes `limit` entries until it is cut again. The check is then as a new one.
-    /// Ask `end` before, if a journal that was torn isn't to be taken. `None` if the check has stopped: then it stays as it is.
+    /// Ask `unended` before, if only a whole journal is to be taken. `None` if the check has stopped: then it stays as it is.
     pub fn restore(&mut self, limit: u64) -> Option<Restored<M, L>>
         requires least { 1 ≤ limit }
         requires most { limit ≤ 2 ^ 32 }
@@ -239,6 +230,13 @@ impl<M: Message + Written, L: MessageLog<M>> Check<M, L> {
         ensures { result ≡ self.now.state.lines }
     {
         self.reader.lines()
+    }
+
+    /// How many bytes may be kept of the text, as `Reader::kept` says.
+    pub fn kept(&self) -> u64
+        ensures { result ≡ self.now.state.kept }
+    {
+        self.reader.kept()
     }
 
     /// The sum of the last piece, if that is sealed and the bytes so far end with it.

@@ -57,6 +57,20 @@ pub enum What {
     TooLong,
 }
 
+/// How a text ends that has no fault, and is no whole journal.
+#[derive(Clone, Copy, Debug, PartialEq, Eq, Error)]
+pub enum Unended {
+    /// So many lines are whole, and the last piece has no end: a program still writes it, or was stopped.
+    #[error("open after line {0}")]
+    Open(u64),
+    /// Behind so many lines is a part of one, or nothing at all.
+    #[error("torn after line {0}")]
+    Torn(u64),
+    /// No line is whole, and no journal begins so.
+    #[error("not a journal")]
+    NoJournal,
+}
+
 /// The reason why a line was not read.
 #[derive(Clone, Copy, Debug, PartialEq, Eq, Error)]
 pub enum Unread {

@@ -2,7 +2,7 @@
 ghost use Rattle.std.specs.Prelude.{◌≡◌, ℕ, ◌+◌, ◌^◌, ◌<◌, ◌∷◌, ◌++◌, List, Option, Ok, Err, Some, None, length};
 ghost use Rattle.std.specs.List.{flat_map, AllByRecursion};
 ghost use Rattle.cml_board.specs.{Entry};
-ghost use Rattle.cml_journal.specs.{line_of, HasLine, entry_in, text_of, stream_lines, What, State, fresh, end_of, behind, reading};
+ghost use Rattle.cml_journal.specs.{line_of, HasLine, entry_in, text_of, stream_lines, What, State, fresh, end_of, behind, printed, reading};
 ghost use Rattle.cml_journal.specs.{IsReadable, IsJournalOf, IsTextOf, IsSealedRead, MaybeSum, waiting_at, Sum};
 
 use crate::written::Written;
@@ -25,14 +25,14 @@ pub fn streams_may_be_cut<M: Written>()
         → reading M.VERSION M.meaning state (front ++ rest) ≡ Err what }
 {}
 
-/// Shows that a stream that was read to its end is the writing of exactly these entries, in pieces that follow each other: in
-/// plain ones, or in sealed ones of which each names the sum of the one before.
+/// Shows that a stream that was read to its end is, up to its first byte 0, the writing of exactly these entries, in pieces that
+/// follow each other: in plain ones, or in sealed ones of which each names the sum of the one before.
 pub fn streams_are_pieces<M: Written>()
     ensures { (bytes : List ℕ) (state : State) (entries : List (Entry M)) (end : ℕ)
         → reading M.VERSION M.meaning fresh bytes ≡ Ok (state, entries)
         → end_of state ≡ Some end
         → (from : ℕ) × (pieces : List (List (Entry M)))
-        × IsTextOf M.VERSION M.text from pieces bytes
+        × IsTextOf M.VERSION M.text from pieces (printed bytes)
         × (entries ≡ flat_map (λ piece. piece) pieces)
         × (end ≡ from + length entries) }
 {}
@@ -43,7 +43,7 @@ pub fn journals_are_pieces<M: Written>()
         → reading M.VERSION M.meaning (waiting_at 0) bytes ≡ Ok (state, entries)
         → end_of state ≡ Some end
         → (pieces : List (List (Entry M)))
-        × IsJournalOf M.VERSION M.text pieces bytes
+        × IsJournalOf M.VERSION M.text pieces (printed bytes)
         × (entries ≡ flat_map (λ piece. piece) pieces)
         × (end ≡ length entries) }
 {}

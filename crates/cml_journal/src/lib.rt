@@ -1,11 +1,13 @@
 //! Journals as text: how an entry is written on a line and read back, and the sum of a text.
 #![tactic(auto)]
 
+mod beginning;
 mod bytes;
 mod check;
 mod due;
 mod fault;
 mod laws;
+mod lines;
 mod pieces;
 mod reader;
 mod reading;
@@ -19,7 +21,7 @@ mod writing;
 mod written;
 
 pub use check::Check;
-pub use fault::{TooLong, Unread, Unwritten, What};
+pub use fault::{TooLong, Unended, Unread, Unwritten, What};
 pub use laws::{
     journals_are_pieces, lines_are_entries, pieces_are_read, sealed_pieces_are_read,
     streams_are_pieces, streams_may_be_cut,

@@ -1,23 +1,18 @@
 //! How a journal's text is read as it comes.
-ghost use Rattle.std.specs.Prelude.{◌≡◌, ◌≤◌, ◌-◌, ◌+◌, ◌==◌, ◌++◌, ◌∷◌, [], ℕ, List, Ok, false, length, position, IfOk, IfErr};
+ghost use Rattle.std.specs.Prelude.{◌≡◌, ◌≤◌, ◌-◌, ◌++◌, ◌∷◌, [], ℕ, List, Ok, false, true, length, position, IfOk, IfErr};
 ghost use Rattle.std.specs.Prelude.{OnOk, OnErr, OnSome, MatchOption, string_bytes};
-ghost use Rattle.std.specs.Option.{option_map, option_to_list};
-ghost use Rattle.cml_journal.specs.{nothing_summed, Gives, Meets, State, fresh, waiting_at, numbered, tailed, headed, begun, entered};
-ghost use Rattle.cml_journal.specs.{plain_headed, sealed_where, sealed_headed, headed_by, sealed_by, closed_by, ended_by, inside_by};
-ghost use Rattle.cml_journal.specs.{inside, from_by, behind_header, line_step, line_read, sums, sums_line, has_line_end, held_all, most};
-ghost use Rattle.cml_journal.specs.{turned, reading, end_of, kept_sum, last_sum, with_line_end, header_fault, Leaves, due_line};
-ghost use Rattle.cml_journal.specs.{shown_line};
-ghost use Rattle.cml_journal.specs.declared.reader.Form.TheVariants.{Plain, Sealed};
+ghost use Rattle.std.specs.Option.{option_to_list};
+ghost use Rattle.cml_journal.specs.{Gives, Meets, State, begun_at, fresh, waiting_at, has_end, is_end, held_all, most, kept_behind};
+ghost use Rattle.cml_journal.specs.{header_behind, turned, reading, end_of, kept_sum, last_sum, Leaves, due_line, shown_line, unended};
 
 use crate::due::{write_due, write_found};
-use crate::fault::{Unread, What};
-use crate::reading::read_entry;
+use crate::beginning::first_unended;
+use crate::fault::{Unended, Unread, What};
+use crate::lines::{line_read, sum_read};
 use crate::sum::Sum;
 use crate::summing::Summing;
-use crate::words::{numbered, tailed};
 use crate::written::Written;
 use cml_board::Entry;
-use cml_grammar::has_bad_byte;
 use std::alloc::{AllocError, Global};
 use std::marker::Model;
 
@@ -55,243 +50,6 @@ pub(crate) enum Stage {
     Inside(u64, Form),
 }
 
-/// The stage after a line, and the entry that the line was, if it was one.
-type Told<M> = (Stage, Option<Entry<M>>);
-
-/// Whether this is the version of sealed pieces.
-fn is_sealed<M: Written>(found: u64) -> bool
-    ensures { result ≡ (found == M.VERSION + 2) }
-{
-    found.checked_sub(2) == Some(M::VERSION)
-}
-
-fn plain_headed<M: Written>(before: Option<u64>, link: Link) -> Result<Told<M>, Unread>
-    ensures { Gives (λ told. told) result (plain_headed before link) }
-{
-    match link {
-        Link::Any | Link::First | Link::Unsealed => Ok((Stage::Headed(before, Form::Plain), None)),
-        Link::Behind(_) => Err(Unread::Fault(What::NoHeader)),
-    }
-}
-
-fn sealed_where<M: Written>(before: Option<u64>, right: bool) -> Result<Told<M>, Unread>
-    ensures { Gives (λ told. told) result (sealed_where before right) }
-{
-    if right {
-        Ok((Stage::Headed(before, Form::Sealed), None))
-    } else {
-        Err(Unread::Fault(What::WrongSum))
-    }
-}
-
-/// The header of a sealed piece, with the word after its version if there is one.
-fn sealed_headed<M: Written>(
-    before: Option<u64>,
-    link: Link,
-    word: Option<&str>,
-) -> Result<Told<M>, Unread>
-    ensures { Gives (λ told. told) result (sealed_headed before link (option_map (λ word. word.now) word.entry)) }
-{
-    match (link, word) {
-        (Link::Unsealed, _) => Err(Unread::Fault(What::NoHeader)),
-        (Link::Any, Some(word)) => sealed_where(before, Sum::of_word(word).is_some()),
-        (Link::Any | Link::First, None) => sealed_where(before, true),
-        (Link::Behind(sum), Some(word)) => sealed_where(before, sum.has_word(word)),
-        (Link::First, Some(_)) | (Link::Behind(_), None) => sealed_where(before, false),
-    }
-}
-
-/// The fault of a header with this number, if it isn't one that may be there.
-fn header_fault<M: Written>(found: u64) -> What
-    ensures { result ≡ header_fault M.VERSION found }
-{
-    if found == M::VERSION || is_sealed::<M>(found) {
-        return What::NoHeader;
-    }
-    match found {
-        1..=4 => What::OtherType,
-        _ => What::OtherVersion,
-    }
-}
-
-#[tactic(auto, unfolding(crate::specs::Feeding::headed))]
-fn headed<M: Written>(before: Option<u64>, link: Link, line: &str) -> Result<Told<M>, Unread>
-    ensures { Gives (λ told. told) result (headed M.VERSION before link line.now) }
-{
-    if let Some(found) = numbered("journal", line) {
-        if found == M::VERSION {
-            return plain_headed(before, link);
-        }
-        if is_sealed::<M>(found) {
-            return sealed_headed(before, link, None);
-        }
-        return Err(Unread::Fault(header_fault::<M>(found)));
-    }
-    match tailed("journal", line) {
-        Some((found, word)) if is_sealed::<M>(found) => sealed_headed(before, link, Some(word)),
-        Some((found, _)) => Err(Unread::Fault(header_fault::<M>(found))),
-        None => Err(Unread::Fault(What::NoHeader)),
-    }
-}
-
-/// Tests that a piece begins where the one before ended.
-fn begun(before: Option<u64>, from: u64) -> Result<u64, Unread>
-    ensures { Gives (λ position. position) result (begun before from) }
-{
-    match before {
-        Some(position) if from != position => Err(Unread::Fault(What::Gap)),
-        _ => Ok(from),
-    }
-}
-
-#[tactic(auto, unfolding(crate::specs::Feeding::entered))]
-fn entered<M: Written>(
-    alloc: Global,
-    form: Form,
-    position: u64,
-    line: &str,
-) -> Result<Told<M>, Unread>
-    ensures { Gives (λ told. told) result (entered M.meaning form position line.now) }
-{
-    let entry = read_entry(alloc, line)?;
-    match position.checked_add(1) {
-        Some(next) => Ok((Stage::Inside(next, form), Some(entry))),
-        None => Err(Unread::Fault(What::TooMany)),
-    }
-}
-
-/// The end of a plain piece, or an entry of it.
-fn plain_inside<M: Written>(alloc: Global, position: u64, line: &str) -> Result<Told<M>, Unread>
-    ensures { Gives (λ told. told) result (inside_by M.meaning Plain nothing_summed position line.now) }
-{
-    match numbered("end", line) {
-        Some(end) if end == position => {
-            Ok((Stage::Waiting(Some(position), Link::Unsealed), None))
-        }
-        Some(_) => Err(Unread::Fault(What::WrongEnd)),
-        None => entered(alloc, Form::Plain, position, line),
-    }
-}
-
-/// The end of a sealed piece, if it has this word.
-fn sealed_by<M: Written>(position: u64, sum: Sum, word: &str) -> Result<Told<M>, Unread>
-    ensures { Gives (λ told. told) result (sealed_by position sum word.now) }
-{
-    if sum.has_word(word) {
-        Ok((Stage::Waiting(Some(position), Link::Behind(sum)), None))
-    } else {
-        Err(Unread::Fault(What::WrongSum))
-    }
-}
-
-/// The end of a sealed piece, or an entry of it.
-fn sealed_inside<M: Written>(
-    alloc: Global,
-    summing: &Summing,
-    position: u64,
-    line: &str,
-) -> Result<Told<M>, Unread>
-    ensures { Gives (λ told. told) result (inside_by M.meaning Sealed summing.now position line.now) }
-{
-    match tailed("end", line) {
-        Some((end, word)) if end == position => sealed_by(position, summing.sum()?, word),
-        Some(_) => Err(Unread::Fault(What::WrongEnd)),
-        None => entered(alloc, Form::Sealed, position, line),
-    }
-}
-
-/// The end of a piece, or an entry of it.
-#[tactic(auto, unfolding(crate::specs::Feeding::inside))]
-fn inside<M: Written>(
-    alloc: Global,
-    form: Form,
-    summing: &Summing,
-    position: u64,
-    line: &str,
-) -> Result<Told<M>, Unread>
-    ensures { Gives (λ told. told) result (inside M.meaning form summing.now position line.now) }
-{
-    match form {
-        Form::Plain => plain_inside(alloc, position, line),
-        Form::Sealed => sealed_inside(alloc, summing, position, line),
-    }
-}
-
-/// The position of a piece's first entry, or, if that is 0, the entry.
-#[tactic(auto, unfolding(crate::specs::Feeding::behind_header))]
-fn behind_header<M: Written>(
-    alloc: Global,
-    form: Form,
-    summing: &Summing,
-    before: Option<u64>,
-    line: &str,
-) -> Result<Told<M>, Unread>
-    ensures { Gives (λ told. told) result (behind_header M.meaning form summing.now before line.now) }
-{
-    match numbered("from", line) {
-        Some(0) => Err(Unread::Fault(What::BadNumber)),
-        Some(from) => Ok((Stage::Inside(begun(before, from)?, form), None)),
-        None => inside(alloc, form, summing, begun(before, 0)?, line),
-    }
-}
-
-fn line_step<M: Written>(
-    alloc: Global,
-    summing: &Summing,
-    stage: Stage,
-    line: &str,
-) -> Result<Told<M>, Unread>
-    ensures { Gives (λ told. told) result (line_step M.VERSION M.meaning summing.now stage line.now) }
-{
-    match stage {
-        Stage::Waiting(before, link) => headed(before, link, line),
-        Stage::Headed(before, form) => behind_header(alloc, form, summing, before, line),
-        Stage::Inside(position, form) => inside(alloc, form, summing, position, line),
-    }
-}
-
-#[tactic(auto, unfolding(crate::specs::Feeding::line_read))]
-fn line_read<M: Written>(
-    alloc: Global,
-    summing: &Summing,
-    stage: Stage,
-    line: &[u8],
-) -> Result<Told<M>, Unread>
-    ensures { Gives (λ told. told) result (line_read M.VERSION M.meaning summing.now stage line.now) }
-{
-    if has_bad_byte(line) {
-        return Err(Unread::Fault(What::BadBytes));
-    }
-    match str::from_utf8(line) {
-        Ok(text) => line_step(alloc, summing, stage, text),
-        Err(_) => unreachable!(),
-    }
-}
-
-/// Sums a line and its end, if its piece is sealed.
-fn sum_line(summing: &mut Summing, form: Form, line: &[u8])
-    ensures { summing.new ≡ sums form summing.old (with_line_end line.now) }
-{
-    match form {
-        Form::Plain => {}
-        Form::Sealed => {
-            summing.add(line);
-            summing.add(b"\n");
-        }
-    }
-}
-
-/// Sums a line that was read, if the stage after it is within its piece.
-fn sum_read(summing: &mut Summing, stage: Stage, line: &[u8])
-    ensures { summing.new ≡ sums_line stage summing.old line.now }
-{
-    match stage {
-        Stage::Waiting(_, _) => *summing = Summing::new(),
-        Stage::Headed(_, form) => sum_line(summing, form, line),
-        Stage::Inside(_, form) => sum_line(summing, form, line),
-    }
-}
-
 /// A reader of a stream of pieces that comes in parts, cut anywhere. It keeps at most one line.
 ///
 /// Use one type of messages for a stream.
@@ -299,48 +57,64 @@ fn sum_read(summing: &mut Summing, stage: Stage, line: &[u8])
 pub struct Reader {
     stage: Stage,
     lines: u64,
+    kept: u64,
+    header: u64,
     line: Vec<u8>,
     summing: Summing,
+    is_over: bool,
 }
 
 impl Model for Reader {
-    ghost use Rattle.std.specs.Prelude.{◌≤◌, length};
+    ghost use Rattle.std.specs.Prelude.{◌≤◌, ◌+◌, length};
     ghost use Rattle.cml_journal.specs.Feeding.{State, most};
 
     ghost Value = { State };
 
-    ghost view = { λ reader.
-        record { stage = reader.stage; lines = reader.lines; line = reader.line.items; summed = reader.summing } };
+    ghost view = { λ reader. record {
+        stage = reader.stage;
+        lines = reader.lines;
+        kept = reader.kept;
+        header = reader.header;
+        line = reader.line.items;
+        summed = reader.summing;
+        over = reader.is_over;
+      } };
 
-    ghost invariant = { λ reader. length reader.line.items ≤ most };
+    ghost invariant = { λ reader. (length reader.line.items ≤ most) × (reader.header ≤ most + 1) };
 }
 
-/// The bytes before the first line end, and those after it.
-fn cut_line(bytes: &[u8]) -> Option<(&[u8], &[u8])>
+/// Bytes before the first that ends a line or the text, that byte, and those behind it.
+#[derive(Drop)]
+struct Cut<'a> {
+    front: &'a [u8],
+    end: u8,
+    rest: &'a [u8],
+}
+
+fn cut_line(bytes: &[u8]) -> Option<Cut<'_>>
     ensures { MatchOption result
-        (has_line_end bytes.now ≡ false)
-        (λ parts. (bytes.now ≡ parts.0.now ++ 10 ∷ parts.1.now) × (has_line_end parts.0.now ≡ false)) }
+        (has_end bytes.now ≡ false)
+        (λ cut. (bytes.now ≡ cut.front.now ++ cut.end ∷ cut.rest.now) × (has_end cut.front.now ≡ false) × (is_end cut.end ≡ true)) }
 {
-    let end = line_end(bytes)?;
-    Some((&bytes[..end], &bytes[end + 1..]))
+    let at = end_at(bytes)?;
+    Some(Cut {
+        front: &bytes[..at],
+        end: bytes[at],
+        rest: &bytes[at + 1..],
+    })
 }
 
-fn line_end(bytes: &[u8]) -> Option<usize>
-    ensures { result ≡ position (λ byte. byte == 10) bytes.now }
+fn end_at(bytes: &[u8]) -> Option<usize>
+    ensures { result ≡ position is_end bytes.now }
 {
-    bytes.iter().position(|byte| *byte == b'\n')
+    bytes.iter().position(|byte| *byte == 0 || *byte == b'\n')
 }
 
 impl Reader {
     pub fn new(alloc: Global) -> Reader
         ensures { result ≡ fresh }
     {
-        Reader {
-            stage: Stage::Waiting(None, Link::Any),
-            lines: 0,
-            line: Vec::new(alloc),
-            summing: Summing::new(),
-        }
+        Reader::at(alloc, Stage::Waiting(None, Link::Any))
     }
 
     /// A reader of a stream whose first piece begins at this position: it is a gap if that begins elsewhere. `end` gives the
@@ -353,16 +127,25 @@ impl Reader {
         } else {
             Link::Any
         };
+        Reader::at(alloc, Stage::Waiting(Some(position), link))
+    }
+
+    fn at(alloc: Global, stage: Stage) -> Reader
+        ensures { result ≡ begun_at stage }
+    {
         Reader {
-            stage: Stage::Waiting(Some(position), link),
+            stage,
             lines: 0,
+            kept: 0,
+            header: 0,
             line: Vec::new(alloc),
             summing: Summing::new(),
+            is_over: false,
         }
     }
 
     /// Reads the bytes up to the first line end, or all bytes if no line ends. It returns the entry on that line, if it has one,
-    /// and the bytes that are left.
+    /// and the bytes that are left. The text ends before its first byte 0: nothing behind that is read.
     ///
     /// Errors: `Memory` if an allocation fails; else the stream's first fault. The fault is on line `lines() + 1`, `found` shows that
     /// line, and `due` says what it may be. Read no more.
@@ -378,13 +161,21 @@ impl Reader {
         ensures shorter { IfOk result (λ given. length given.1.now ≤ length bytes.now - 1) }
         ensures line { OnErr result (self.new.lines ≡ self.old.lines) }
     {
-        let Some((front, rest)) = cut_line(bytes) else {
+        let nothing = &bytes[bytes.len()..];
+        if self.is_over {
+            return Ok((None, nothing));
+        }
+        let Some(cut) = cut_line(bytes) else {
             self.hold(bytes)?;
-            return Ok((None, &bytes[bytes.len()..]));
+            return Ok((None, nothing));
         };
-        self.hold(front)?;
+        self.hold(cut.front)?;
+        if cut.end == 0 {
+            self.is_over = true;
+            return Ok((None, nothing));
+        }
         let entry = self.turn(alloc)?;
-        Ok((entry, rest))
+        Ok((entry, cut.rest))
     }
 
     /// Adds bytes to the line that has not ended. If they are too many, it adds as many as a line may have.
@@ -412,10 +203,36 @@ impl Reader {
     {
         let (stage, entry) = line_read(alloc, &self.summing, self.stage, &self.line)?;
         sum_read(&mut self.summing, stage, &self.line);
+        self.count(stage);
         self.stage = stage;
         self.lines = self.lines.wrapping_add(1);
         self.line.clear();
         Ok(entry)
+    }
+
+    /// Counts the bytes of a line that leads to this stage.
+    fn count(&mut self, stage: Stage)
+        ensures { self.new ≡ record self.old {
+            kept = kept_behind stage self.old.kept self.old.header (length self.old.line);
+            header = header_behind stage (length self.old.line);
+        } }
+    {
+        let length = self.line.len() as u64 + 1;
+        match stage {
+            Stage::Headed(_, _) => self.header = length,
+            Stage::Waiting(_, _) | Stage::Inside(_, _) => {
+                self.kept = self.kept.wrapping_add(self.header + length);
+                self.header = 0;
+            }
+        }
+    }
+
+    /// Returns how many bytes the whole lines have, modulo 2^64. A header counts only once there is a line behind it. So the text may
+    /// be cut there, and a next piece begin.
+    pub fn kept(&self) -> u64
+        ensures { result ≡ self.now.kept }
+    {
+        self.kept
     }
 
     /// Returns how many lines have ended, modulo 2^64.
@@ -432,6 +249,23 @@ impl Reader {
         match self.stage {
             Stage::Waiting(end, _) if self.line.is_empty() => end,
             _ => None,
+        }
+    }
+
+    /// Returns how the text ends, if nothing more comes of it and it isn't whole.
+    pub fn unended<M: Written>(&self) -> Option<Unended>
+        ensures { result ≡ unended M.VERSION self.now }
+    {
+        let is_at_line_end = self.line.is_empty();
+        match self.stage {
+            Stage::Waiting(_, link) if self.lines == 0 => {
+                Some(first_unended::<M>(link, &self.line))
+            }
+            Stage::Waiting(Some(_), _) if is_at_line_end => None,
+            Stage::Headed(_, _) | Stage::Inside(_, _) if is_at_line_end => {
+                Some(Unended::Open(self.lines))
+            }
+            _ => Some(Unended::Torn(self.lines)),
         }
     }
 

@@ -33,7 +33,7 @@ static _Noreturn void refuse(struct follower *follower, struct id id, uint32_t c
     if (code == SERYUGO_UNLAWFUL) {
         fail(STATUS_FAULT, "stream %s: piece %s is unlawful at entry %" PRIu64, follower->redis->key, id_text(id).at, entries);
     }
-    if (code == SERYUGO_TORN) {
+    if (code == SERYUGO_TORN || code == SERYUGO_TEXT_OPEN || code == SERYUGO_NO_JOURNAL) {
         fail(STATUS_FAULT, "stream %s: piece %s is torn after line %" PRIu64 " of the journal", follower->redis->key,
              id_text(id).at, lines);
     }

@@ -29,6 +29,8 @@ pub mod code {
     pub const UNLAWFUL: u32 = 17;
     pub const FAULT: u32 = 18;
     pub const TOO_LONG: u32 = 20;
+    pub const TEXT_OPEN: u32 = 22;
+    pub const NO_JOURNAL: u32 = 23;
     /// The library never returns it: a call that this crate didn't make, since nobody took the
     /// entries of a full journal.
     pub const NOT_KEPT: u32 = u32::MAX - 1;
@@ -83,6 +85,7 @@ pub enum ReadingState {
     Entries = 0,
     Lines = 1,
     End = 2,
+    Kept = 3,
 }
 
 /// A handle to a room, a lane, a feed, a reading or a taken journal, which is open until it is

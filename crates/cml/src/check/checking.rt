@@ -255,8 +255,8 @@ fn end_of<M: Message + Written>(
     ensures { (bytes : List ℕ) → IsSoFar M.VERSION M.meaning bytes check.old
         → Tells M.VERSION M.meaning M.text wanted bytes (ending_of result) }
 {
-    if !check.end() {
-        return Err(Ending::Torn(check.lines()));
+    if let Some(unended) = check.unended() {
+        return Err(Ending::Unended(unended));
     }
     match wanted {
         Wanted::Compacted => compact_of(alloc, check),

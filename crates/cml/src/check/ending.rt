@@ -4,7 +4,7 @@ ghost use Rattle.std.specs.Prelude.{◌≡◌};
 ghost use Rattle.cml.specs.declared.check.ending.Ending.TheVariants.{NoMemory};
 ghost use Rattle.cml.specs.{status_of_check, is_check_shown};
 
-use cml_journal::What;
+use cml_journal::{Unended, What};
 use std::alloc::{AllocError, AllocFailed};
 use thiserror::Error;
 
@@ -25,9 +25,9 @@ pub enum Ending {
     /// This line has a fault. After it are what is expected there, and what was found.
     #[error("journal: line {0}: {1}\nexpected: {2}\nfound: {3}")]
     Fault(u64, What, String, String),
-    /// The last piece has no end. This many lines have ended.
-    #[error("journal: torn after line {0}")]
-    Torn(u64),
+    /// No line has a fault, and the text is no whole journal.
+    #[error("journal: {0}")]
+    Unended(Unended),
     /// The journal begins after a cut.
     #[error("journal: begins after a cut")]
     BehindCut,
@@ -61,8 +61,10 @@ impl Ending {
         match self {
             Ending::Lawful(_, _) | Ending::Compacted(_) => 0,
             Ending::Unlawful(_, _, _) => 7,
-            Ending::Fault(_, _, _, _) | Ending::Torn(_) | Ending::BehindCut | Ending::TooLong(_) =>
-                2,
+            Ending::Fault(_, _, _, _)
+            | Ending::Unended(_)
+            | Ending::BehindCut
+            | Ending::TooLong(_) => 2,
             Ending::ReadFault | Ending::WriteFault => 4,
             Ending::NoMemory => 5,
         }

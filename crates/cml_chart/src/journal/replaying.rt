@@ -1,7 +1,7 @@
 //! The calls of a journal are made again, on a new board.
-ghost use Rattle.std.specs.Prelude.{◌≡◌, ◌≤◌, ◌-◌, ◌∷◌, ◌++◌, ℕ, List, [], length, true, is_some, IfOk, IfErr, OnOk};
+ghost use Rattle.std.specs.Prelude.{◌≡◌, ◌≤◌, ◌-◌, ◌∷◌, ◌++◌, ℕ, List, [], length, None, IfOk, IfErr, OnOk};
 ghost use Rattle.cml_board.specs.{Lawful};
-ghost use Rattle.cml_journal.specs.{end_of};
+ghost use Rattle.cml_journal.specs.{unended};
 ghost use Rattle.cml_chart.specs.{IsReplayed, IsWholeJournal, Replays, EndsReplay};
 
 use crate::ending::Ending;
@@ -95,15 +95,14 @@ impl<M: Message + Written> Replay<M> {
     /// The board, if the last piece has its end.
     fn end(self) -> Result<Board<M, BoardLog<M>>, Ending>
         ensures same { IfOk result (λ board. board ≡ self.board) }
-        ensures whole { OnOk result (is_some (end_of self.reader) ≡ true) }
+        ensures whole { OnOk result (unended M.VERSION self.reader ≡ None) }
         ensures lawful { IfOk result (λ board. Lawful board.history) }
         ensures ended { IfErr result (λ ending. EndsReplay ending) }
     {
-        let lines = self.reader.lines();
         self.board.facts();
-        match self.reader.end() {
-            Some(_) => Ok(self.board),
-            None => Err(Ending::Torn(lines)),
+        match self.reader.unended::<M>() {
+            None => Ok(self.board),
+            Some(unended) => Err(Ending::Unended(unended)),
         }
     }
 }

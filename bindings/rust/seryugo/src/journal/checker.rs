@@ -54,6 +54,8 @@ pub enum CheckError {
     Unlawful(u64),
     /// This line, counted from 1, has a fault; or it says that the journal begins after a cut.
     Fault(u64),
+    /// The text has no whole line, and no journal begins so.
+    NoJournal,
     /// The messages are numbers by the text's first line, and the checker or the switchboard is one
     /// of bytes; or the other way round.
     OtherMessages,
@@ -72,6 +74,7 @@ impl fmt::Display for CheckError {
         match self {
             CheckError::Unlawful(at) => write!(f, "the entry at position {at} isn't lawful"),
             CheckError::Fault(line) => write!(f, "line {line} of the journal has a fault"),
+            CheckError::NoJournal => f.write_str("the text is no journal"),
             CheckError::OtherMessages => {
                 f.write_str("the journal's messages are those of the other kind of switchboard")
             }
@@ -102,6 +105,16 @@ impl From<Error> for CheckError {
             error => CheckError::Library(error),
         }
     }
+}
+
+/// How a journal's text ends.
+pub(crate) enum TextEnd {
+    /// Its last piece has its end.
+    Whole,
+    /// Its lines are whole, and its last piece has no end.
+    Open,
+    /// It ends within a line, or is empty.
+    Torn,
 }
 
 impl Checker {
@@ -233,6 +246,16 @@ impl<R: MessageKind> Checker<R> {
         self.count(ReadingState::Entries)
     }
 
+    /// Returns how the text ends, if it has no fault.
+    pub(crate) fn text_end(&self) -> Result<TextEnd, CheckError> {
+        match self.end() {
+            code::DONE => Ok(TextEnd::Whole),
+            code::TEXT_OPEN => Ok(TextEnd::Open),
+            code::NO_JOURNAL => Err(CheckError::NoJournal),
+            _ => Ok(TextEnd::Torn),
+        }
+    }
+
     /// Whether what was read is a whole journal, all of whose entries are lawful: its last piece
     /// has its end.
     ///
@@ -337,7 +360,7 @@ impl<R: MessageKind> Checker<R> {
     pub(crate) fn valid_prefix(&self) -> Result<ValidPrefix, Error> {
         let sum =
             RawSum::written(|sum| raw::seryugo_reading_sum(&mut self.handle.borrow_mut(), sum))?;
-        Ok(self.lines.valid_prefix(self.entries(), sum))
+        Ok(self.lines.valid_prefix(self.entries(), self.count(ReadingState::Kept), sum))
     }
 
     /// A room with what was read. Nothing that was read had a fault.

@@ -39,40 +39,38 @@ pub type Kept = ValidPrefix;
 /// The most bytes of a line that are looked at: a piece's first line has no more.
 const LOOKED_AT: usize = 80;
 
-/// Where the text's lines end.
+/// How the text's last lines begin.
 #[derive(Default)]
 pub(crate) struct Lines {
-    bytes: u64,
-    /// How many bytes the whole lines have.
-    whole: u64,
-    /// How many bytes are before the last whole line.
-    last_at: u64,
     /// How the last whole line begins.
     last: Vec<u8>,
     /// How the line begins that has no end yet.
     open: Vec<u8>,
+    /// Whether a byte 0 has come, which ends the text.
+    is_over: bool,
 }
 
 impl Lines {
     pub fn note(&mut self, part: &[u8]) {
-        let Some(end) = part.iter().rposition(|byte| *byte == b'\n') else {
-            self.begin(part);
+        if self.is_over {
+            return;
+        }
+        let text = part.split(|byte| *byte == 0).next().unwrap_or_default();
+        self.is_over = text.len() < part.len();
+        let Some(end) = last_line_end(text) else {
+            self.begin(text);
             return;
         };
-        let lines = &part[..end];
-        let at = lines.iter().rposition(|byte| *byte == b'\n').map(|before| before + 1);
-        match at {
-            Some(at) => {
+        let lines = &text[..end];
+        match last_line_end(lines) {
+            Some(before) => {
                 self.open.clear();
-                self.last_at = self.bytes + at as u64;
+                self.begin(&lines[before + 1..]);
             }
-            None => self.last_at = self.whole,
+            None => self.begin(lines),
         }
-        self.whole = self.bytes + end as u64 + 1;
-        self.begin(&lines[at.unwrap_or_default()..]);
         self.last = std::mem::take(&mut self.open);
-        self.bytes = self.whole;
-        self.begin(&part[end + 1..]);
+        self.begin(&text[end + 1..]);
     }
 
     /// Takes the part in which the reading stopped.
@@ -90,17 +88,16 @@ impl Lines {
     fn begin(&mut self, part: &[u8]) {
         let looked_at = part.len().min(LOOKED_AT - self.open.len());
         self.open.extend_from_slice(&part[..looked_at]);
-        self.bytes += part.len() as u64;
     }
 
-    /// Returns the valid prefix, by how the last line begins: with `journal`, `end`, or another word. The sum
-    /// is that of the whole lines.
-    pub fn valid_prefix(&self, entries: u64, sum: Option<Sum>) -> ValidPrefix {
-        let (bytes, ending, sum) = match (self.last.first(), sum) {
-            (None | Some(b'e'), sum) => (self.whole, String::new(), sum),
-            (Some(b'j'), _) => (self.last_at, String::new(), named(&self.last)),
-            (Some(_), None) => (self.whole, format!("end {entries}\n"), None),
-            (Some(_), Some(sum)) => (self.whole, format!("end {entries} {sum}\n"), Some(sum)),
+    /// Returns the valid prefix, by how the last line begins: with `journal`, `end`, or another
+    /// word. The sum is that of the whole lines.
+    pub fn valid_prefix(&self, entries: u64, bytes: u64, sum: Option<Sum>) -> ValidPrefix {
+        let (ending, sum) = match (self.last.first(), sum) {
+            (None | Some(b'e'), sum) => (String::new(), sum),
+            (Some(b'j'), _) => (String::new(), named(&self.last)),
+            (Some(_), None) => (format!("end {entries}\n"), None),
+            (Some(_), Some(sum)) => (format!("end {entries} {sum}\n"), Some(sum)),
         };
         ValidPrefix {
             entries,
@@ -109,6 +106,10 @@ impl Lines {
             sum,
         }
     }
+}
+
+fn last_line_end(text: &[u8]) -> Option<usize> {
+    text.iter().rposition(|byte| *byte == b'\n')
 }
 
 /// The sum that a piece's first line names.

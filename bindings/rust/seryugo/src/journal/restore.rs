@@ -1,7 +1,7 @@
 //! A switchboard that goes on from a journal's text.
 
 use crate::error::Error;
-use crate::journal::checker::{CheckError, Checker};
+use crate::journal::checker::{CheckError, Checker, TextEnd};
 use crate::journal::prefix::ValidPrefix;
 use crate::message::carries::MessageKind;
 use crate::switchboard::Switchboard;
@@ -20,7 +20,10 @@ use std::io::BufRead;
 pub enum RestoreError {
     /// The journal was read no further.
     Check(CheckError),
-    /// The text ends in the middle: this is what it has in whole lines.
+    /// The text's lines are whole, and its last piece has no end: a program still writes it, or was
+    /// stopped. This is what it has. [`Switchboard::restore_torn`] goes on from there.
+    Open(ValidPrefix),
+    /// The text ends within a line, or is empty: this is what it has in whole lines.
     /// [`Switchboard::restore_torn`] goes on from there.
     Torn(ValidPrefix),
     /// The limit isn't from 1 to 2^32.
@@ -31,8 +34,11 @@ impl fmt::Display for RestoreError {
     fn fmt(&self, f: &mut fmt::Formatter<'_>) -> fmt::Result {
         match self {
             RestoreError::Check(error) => error.fmt(f),
+            RestoreError::Open(kept) => {
+                write!(f, "the journal's last piece has no end, after {} entries", kept.entries)
+            }
             RestoreError::Torn(kept) => {
-                write!(f, "the journal ends in the middle, after {} entries", kept.entries)
+                write!(f, "the journal ends within a line, after {} entries", kept.entries)
             }
             RestoreError::OutOfBounds => Error::OutOfBounds.fmt(f),
         }
@@ -90,17 +96,20 @@ impl<R: MessageKind> Switchboard<R> {
     ///
     /// # Errors
     ///
-    /// The journal isn't lawful, has a fault, is of another type or version, or ends in the middle.
+    /// The text isn't lawful, has a fault, is of another type or version, is no journal, or has no
+    /// end.
     pub fn restore(journal: impl BufRead, limit: u64) -> Result<Switchboard<R>, RestoreError> {
         let checker = checked(journal)?;
-        if !checker.is_whole() {
-            return Err(RestoreError::Torn(checker.valid_prefix().map_err(CheckError::from)?));
-        }
-        restored(checker, limit)
+        let unended = match checker.text_end()? {
+            TextEnd::Whole => return restored(checker, limit),
+            TextEnd::Open => RestoreError::Open,
+            TextEnd::Torn => RestoreError::Torn,
+        };
+        Err(unended(checker.valid_prefix().map_err(CheckError::from)?))
     }
 
-    /// The same of a journal that may end in the middle, as after a crash. The switchboard goes on
-    /// from the last whole line.
+    /// Reads a journal whose text may have no end, as after a crash, and returns a switchboard that
+    /// goes on from the last whole line.
     ///
     /// Before you write the next piece, cut the text to the bytes that were kept, and write their
     /// ending. If the text has sums, write the next piece by
@@ -126,12 +135,13 @@ impl<R: MessageKind> Switchboard<R> {
     ///
     /// # Errors
     ///
-    /// The journal isn't lawful, has a fault, or is of another type or version.
+    /// The text isn't lawful, has a fault, is of another type or version, or is no journal.
     pub fn restore_torn(
         journal: impl BufRead,
         limit: u64,
     ) -> Result<(Switchboard<R>, ValidPrefix), RestoreError> {
         let checker = checked(journal)?;
+        checker.text_end()?;
         let kept = checker.valid_prefix().map_err(CheckError::from)?;
         Ok((restored(checker, limit)?, kept))
     }

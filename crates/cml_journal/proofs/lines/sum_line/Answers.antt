@@ -1,7 +1,7 @@
 use Rattle.std.proofs.Common.{◌≡◌, [], ◌∷◌, ap, sym, subst, ◌∙◌}
 use Rattle.cml_journal.specs.{Summed, and_bytes, Form, sums, with_line_end}
 use Rattle.cml_journal.proofs.SumsLemmas.{parts_summed}
-use Rattle.cml_journal.proofs.reader.sum_line.Goals as goal
+use Rattle.cml_journal.proofs.lines.sum_line.Goals as goal
 
 pub returns-in-Sealed : goal.returns-in-Sealed
 returns-in-Sealed c =
