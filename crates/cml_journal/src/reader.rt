@@ -5,8 +5,8 @@ ghost use Rattle.std.specs.Option.{option_to_list};
 ghost use Rattle.cml_journal.specs.{Gives, Meets, State, begun_at, fresh, waiting_at, has_end, is_end, held_all, most, kept_behind};
 ghost use Rattle.cml_journal.specs.{header_behind, turned, reading, end_of, kept_sum, last_sum, Leaves, due_line, shown_line, unended};
 
-use crate::due::{write_due, write_found};
 use crate::beginning::first_unended;
+use crate::due::{write_due, write_found};
 use crate::fault::{Unended, Unread, What};
 use crate::lines::{line_read, sum_read};
 use crate::sum::Sum;
@@ -71,14 +71,14 @@ impl Model for Reader {
     ghost Value = { State };
 
     ghost view = { λ reader. record {
-        stage = reader.stage;
-        lines = reader.lines;
-        kept = reader.kept;
-        header = reader.header;
-        line = reader.line.items;
-        summed = reader.summing;
-        over = reader.is_over;
-      } };
+      stage = reader.stage;
+      lines = reader.lines;
+      kept = reader.kept;
+      header = reader.header;
+      line = reader.line.items;
+      summed = reader.summing;
+      over = reader.is_over;
+    } };
 
     ghost invariant = { λ reader. (length reader.line.items ≤ most) × (reader.header ≤ most + 1) };
 }
@@ -213,8 +213,8 @@ impl Reader {
     /// Counts the bytes of a line that leads to this stage.
     fn count(&mut self, stage: Stage)
         ensures { self.new ≡ record self.old {
-            kept = kept_behind stage self.old.kept self.old.header (length self.old.line);
-            header = header_behind stage (length self.old.line);
+          kept = kept_behind stage self.old.kept self.old.header (length self.old.line);
+          header = header_behind stage (length self.old.line);
         } }
     {
         let length = self.line.len() as u64 + 1;
