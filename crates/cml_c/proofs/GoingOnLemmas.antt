@@ -5,6 +5,7 @@ use Rattle.std.specs.declared.alloc.Global.{Global}
 use Rattle.std_alloc.specs.Box.{with_value}
 use Rattle.cml_board.specs.{RestoredShown}
 use Rattle.cml_journal.specs.{Halt, Progress, IsSoFar, IsRestored}
+use Rattle.cml_room.specs.{RoomShown}
 use Rattle.cml_c.specs.declared.code.Code.TheVariants.{Unlawful}
 use Rattle.cml_c.specs.{Slot, Owned, Resource, number, IsLimit, Writes, IsRoomOn, OpensOn, RestoresBy, left_stopped, told_stopped}
 use Rattle.cml_c.specs.declared.owned.Resource.TheVariants.{Room, JournalCheck, Spent}
