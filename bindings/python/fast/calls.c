@@ -63,7 +63,7 @@ static void clear(struct request *request)
 {
     Py_XDECREF(request->seat);
     Py_XDECREF(request->object);
-    Py_XDECREF(request->sent.keeper);
+    Py_XDECREF(request->sent.utf8);
 }
 
 /* Makes the call. If the seat was parked, its call is withdrawn: it has done nothing. */

@@ -33,12 +33,12 @@ static bool text_is_encoded(PyObject *message, struct sent *sent)
         return true;
     }
     /* A text that was asked for its UTF-8 would keep it. */
-    sent->keeper = PyUnicode_AsUTF8String(message);
-    if (!sent->keeper) {
+    sent->utf8 = PyUnicode_AsUTF8String(message);
+    if (!sent->utf8) {
         return false;
     }
-    sent->at = PyBytes_AS_STRING(sent->keeper);
-    sent->length = (size_t)PyBytes_GET_SIZE(sent->keeper);
+    sent->at = PyBytes_AS_STRING(sent->utf8);
+    sent->length = (size_t)PyBytes_GET_SIZE(sent->utf8);
     return true;
 }
 

@@ -1,5 +1,4 @@
 mod HandleBoxLemmas
-mod KeeperBoxLemmas
 mod GoingOnLemmas
 mod ShorteningLemmas
 mod RoomShorteningLemmas

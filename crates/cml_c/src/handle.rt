@@ -1,4 +1,5 @@
-//! What C holds: where a room, a lane or a feed lies.
+//! What C owns: a handle, which points to a room, a lane, a message or another `Owned`, and the slot in which C gets one. Here it
+//! is made, lent, replaced and freed.
 ghost use Rattle.std.specs.Prelude.{◌≡◌, Option, Some, IfOk};
 ghost use Rattle.cml_c.specs.declared.owned.Owned.{Owned};
 ghost use Rattle.cml_c.specs.Owning.{owned_coded, slot_coded};
@@ -10,7 +11,7 @@ use std::alloc::{AllocError, Global};
 use std::marker::{Model, Send};
 use std::mem;
 
-/// A room, a lane or a feed on the heap. In C it is the same struct as `Slot`.
+/// An `Owned` on the heap. In C it is the same struct as `Slot`.
 #[repr(C)]
 pub struct Handle {
     at: *mut u8,
@@ -58,7 +59,14 @@ impl Handle {
     pub(crate) fn new(alloc: Global, owned: Owned) -> Result<Handle, AllocError>
         ensures { IfOk result (λ handle. handle.owned ≡ owned) }
     {
-        Ok(Handle::of(Loose::of(Box::new(alloc, owned)?)))
+        Ok(Handle::of_box(Box::new(alloc, owned)?))
+    }
+
+    /// Makes a handle whose memory is this box.
+    pub(crate) fn of_box(block: Box<Owned>) -> Handle
+        ensures { result.owned ≡ block.value }
+    {
+        Handle::of(Loose::of(block))
     }
 
     /// Returns what it leads to, and frees the handle's memory.

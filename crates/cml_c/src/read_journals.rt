@@ -50,7 +50,11 @@ fn open_bytes(alloc: Global, reading: &mut Slot) -> u32
     ensures { OpensBytes result reading.old reading.new }
 {
     match new_reading(alloc) {
-        Ok(opened) => write_handle(alloc, Owned::Bytes(Resource::JournalCheck(opened)), reading),
+        Ok(opened) => write_handle(
+            alloc,
+            Owned::Bytes(Resource::JournalCheck(opened), None),
+            reading,
+        ),
         Err(_) => Code::NoMemory.number(),
     }
 }

@@ -37,7 +37,7 @@ impl<R: MessageKind> State<R> {
     }
 
     /// Removes a guest. If it was the last one, waiting seats may become due.
-    pub fn let_go(&mut self) {
+    pub fn remove_guest(&mut self) {
         self.expected.guests -= 1;
         self.end_hosting();
     }
