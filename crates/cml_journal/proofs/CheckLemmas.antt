@@ -1,22 +1,21 @@
 -- What was read and checked so far, and what a halt says of it.
-use Rattle.std.proofs.Common.{◌≡◌, ◌⊎◌, inl, inr, ℕ, Bool, true, not, ◌&&◌, ◌==◌, is_none, ◌+◌, ◌%◌, ◌^◌, ◌≤◌, zero, suc}
+use Rattle.std.proofs.Common.{◌≡◌, ◌⊎◌, inl, inr, ℕ, not, ◌+◌, ◌%◌, ◌^◌, ◌≤◌, zero, suc}
 use Rattle.std.proofs.Common.{List, [], ◌∷◌, ◌++◌, length, reverse, take, slice_get, Option, Some, None, Ok, Err, refl, sym}
 use Rattle.std.proofs.Common.{ap, subst, ◌∙◌, arith, append_assoc, length-append}
 use Rattle.std.specs.Option.{option_to_list}
-use Rattle.std.proofs.lemmas.Bool.{and_parts}
 use Rattle.std.proofs.lemmas.List.{append-nil, reverse-append, length-reverse}
 use Rattle.std.proofs.lemmas.Option.{none-some, same_Some}
 use Rattle.cml_board.specs.{Entry, Expected, Lawful, no_entries, RestoredShown, before, Expects, Found, RestoresWith, IsExpected}
-use Rattle.cml_board.specs.{IsFirstUnlawful, IsLawfulNext, Pauses, StopsAt, Feeds, count_of, followed_by}
-use Rattle.cml_journal.specs.{What, Unread, Halt, Stop, line_of, HasFault, HasFront, Meets, State, waiting_at, end_of, behind, reading, Progress}
-use Rattle.cml_journal.specs.{IsSoFar, Goes, HaltsIn, StopsIn, MayHaltAt, HaltTells, IsTold, IsLawfulJournal, IsRestored, IsUnlawfulJournal}
+use Rattle.cml_board.specs.{IsFirstUnlawful, IsLawfulNext, Pauses, StopsAt, Feeds, followed_by}
+use Rattle.cml_journal.specs.{What, Unread, Halt, Stop, line_of, HasFault, HasFront, Meets, State, waiting_at, behind, reading, Progress}
+use Rattle.cml_journal.specs.{IsSoFar, Goes, HaltsIn, StopsIn, MayHaltAt, HaltTells, IsTold, IsRestored, IsUnlawfulJournal}
 use Rattle.cml_journal.specs.{ShowsUnlawful, ShowsFault, ShowsFront, halt_of, line_of_last}
 use Rattle.cml_journal.specs.declared.fault.Unread.TheVariants as unread
 use Rattle.cml_journal.specs.declared.stop.Halt.TheVariants as halt
 use Rattle.cml_journal.specs.declared.stop.Stop.TheVariants as stop
 use Rattle.std.specs.Prelude.{string_bytes}
 use Rattle.cml_journal.proofs.FeedLemmas.{on, placed, reading-append}
-use Rattle.cml_journal.proofs.PositionLemmas.{ends_behind_last, entries_are_counted}
+use Rattle.cml_journal.proofs.PositionLemmas.{entries_are_counted}
 
 pub lists_found : {M : Type 0} (state : State) {found other : Option (Entry M)} → found ≡ other
     → placed state (option_to_list found) ≡ placed state (option_to_list other)

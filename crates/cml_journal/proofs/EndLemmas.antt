@@ -1,12 +1,12 @@
 -- How a text ends.
-use Rattle.std.proofs.Common.{◌≡◌, ◌≢◌, ℕ, Bool, true, false, ◌==◌, if◌then◌else◌, List, length, Option, Some, None, Ok, refl, sym, ap}
+use Rattle.std.proofs.Common.{◌≡◌, ◌≢◌, ℕ, Bool, true, false, ◌==◌, if◌then◌else◌, List, length, Option, Some, None, refl, sym, ap}
 use Rattle.std.proofs.Common.{subst, ◌∙◌, eq-eqb}
 use Rattle.std.specs.Prelude.{◌↔◌}
 use Rattle.std.proofs.lemmas.Bool.{ne_eqb, false≢true}
 use Rattle.std.proofs.lemmas.List.{length-reverse}
 use Rattle.std.proofs.lemmas.Option.{none-some}
 use Rattle.cml_board.specs.{Entry, count_of}
-use Rattle.cml_journal.specs.{Stage, State, Unended, end_by, end_of, first_unended, unended, unended_at, unended_behind}
+use Rattle.cml_journal.specs.{Stage, State, Unended, end_by, first_unended, unended, unended_at, unended_behind}
 use Rattle.cml_journal.specs.{Progress, IsSoFar, IsLawfulJournal}
 use Rattle.cml_journal.specs.declared.fault.Unended.TheVariants.{Torn}
 use Rattle.cml_journal.specs.declared.reader.Stage.TheVariants.{Waiting, Headed, Inside}

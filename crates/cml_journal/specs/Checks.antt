@@ -1,5 +1,5 @@
 -- What a check has found of a journal's text so far, and why it stops.
-use Rattle.std.specs.Prelude.{◌≡◌, ◌⊎◌, ℕ, suc, ◌+◌, ◌%◌, ◌^◌, ◌≤◌, ◌==◌, Bool, not, ◌&&◌, ◌≢◌, is_some, is_none, List, [], ◌∷◌, ◌++◌}
+use Rattle.std.specs.Prelude.{◌≡◌, ◌⊎◌, ℕ, suc, ◌+◌, ◌%◌, ◌^◌, ◌≤◌, not, ◌≢◌, List, [], ◌∷◌, ◌++◌}
 use Rattle.std.specs.Prelude.{reverse, length, slice_get, string_bytes, Option, Some, None, Ok, Err, IfOk, ⊤}
 use Rattle.cml_board.specs.{Entry, Expected, Lawful, before, AreMakers, RestoredShown, Expects, Found, HasMade, IsFirstUnlawful, Pauses}
 use Rattle.cml_board.specs.{StopsAt, count_of}

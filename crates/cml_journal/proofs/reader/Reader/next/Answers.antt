@@ -1,6 +1,6 @@
-use Rattle.std.proofs.Common.{rules, ℕ, ◌∷◌, ◌++◌, [], List, refl, ap, sym, subst, ◌∙◌, append_assoc}
+use Rattle.std.proofs.Common.{rules, true, ℕ, ◌∷◌, ◌++◌, [], List, ap, sym, subst, ◌∙◌, append_assoc}
 use Rattle.std.proofs.lemmas.Result.{err_from_is_err_and}
-use Rattle.cml_journal.specs.{Meets, reading}
+use Rattle.cml_journal.specs.{Meets, State, reading}
 use Rattle.cml_journal.proofs.FeedLemmas.{reading-held, reading-over, alone, fault_held, fault_front, fault_turned, taken_line, taken_zero}
 use Rattle.cml_journal.proofs.LineEndsLemmas.{line_end_is, nothing_left}
 use Rattle.cml_journal.proofs.reader.Reader.next.Goals as goal
@@ -19,7 +19,8 @@ returns-then-cut-eq0-clause-taken g c =
       ap (reading g.M.Written.VERSION g.M.Written.meaning c.args.self.now) (c.in-Some.ensures.0
           ∙ ap (λ (b : ℕ). cut.front.now ++ b ∷ cut.rest.now) c.if-cut-eq0.true)
           ∙ taken_zero g.M.Written.VERSION g.M.Written.meaning c.args.self.now c.hold-2.new.self _ cut.front.now cut.rest.now
-          (search rules) c.hold-2.ensures.short c.in-Some.ensures.1 c.in_ok-hold-2.ensures.held (search rules) refl,
+          (search rules) c.hold-2.ensures.short c.in-Some.ensures.1 c.in_ok-hold-2.ensures.held (search rules)
+          (ap (λ (s : State). record s { over = true }) c.self-2.view_is),
     )
 
 pub returns-in_err-hold-clause-fault : goal.returns-in_err-hold-clause-fault
