@@ -10,7 +10,6 @@ use Rattle.std_heap.proofs.Global.TheSendSync as heap
 use Rattle.cml_c.specs.contracts.owned.Owned as Owned
 use Rattle.std.proofs.option.Option.TheSendSync as option
 use Rattle.std.proofs.boxed.Box.TheSendSync as box
-use Rattle.std.proofs.alloc.Global.TheSendSync as alloc
 use Rattle.cml_calls.proofs.bytes.Bytes.TheSendSync as bytes
 use Rattle.cml_c.proofs.owned.Owned.TheLaws.TheKnot as knot
 use Rattle.cml_c.proofs.owned.Resource.TheSendSync as resource
@@ -18,7 +17,7 @@ use Rattle.cml_c.specs.contracts.handle.Handle.{the_row, the_type}
 
 -- the box beside a room of bytes leads back to what it lies in
 owned_send : IsSend Owned.the_row
-owned_send = search (crosses, knot.crosses, option.the_send, box.the_send, alloc.the_send, bytes.the_send, resource.the_send, sendable)
+owned_send = search (crosses, knot.crosses, option.the_send, box.the_send, bytes.the_send, resource.the_send, sendable)
     depth 60 fits 20000
 
 pub send : IsSend the_row
