@@ -84,6 +84,19 @@ class Texts(unittest.TestCase):
         board = Switchboard.restore([text[:-4]], is_torn_fine=True)
         self.assertEqual(board.entries, 4)
 
+    def test_text_open(self):
+        text = b"journal 2\nseat 0 mailbox: made 0\n"
+        with self.assertRaises(seryugo.TextOpen):
+            Switchboard.restore([text])
+        # What is behind a byte 0 isn't read.
+        board = Switchboard.restore([text + b"\0\0", b"what\n"], is_torn_fine=True)
+        self.assertEqual(board.restored_from, seryugo.ValidPrefix(1, len(text), b"end 1\n", None))
+
+    def test_no_journal(self):
+        for other in (b'{"precious": 1}', b"journals", b"journal 10", b"\x7fELF"):
+            with self.assertRaisesRegex(seryugo.Fault, "this is no journal"):
+                Switchboard.restore([other], is_torn_fine=True)
+
     def test_compacted(self):
         text = self.history()
         short = seryugo.compacted(text)

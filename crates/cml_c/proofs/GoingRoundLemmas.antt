@@ -1,5 +1,5 @@
 -- An entry that C was shown is the same entry where C feeds it to a checker.
-use Rattle.std.proofs.Common.{◌≡◌, ℕ, List, [], Option, Some, None, slice_get, refl, sym, ap, ◌∙◌}
+use Rattle.std.proofs.Common.{◌≡◌, ℕ, List, [], Option, Some, None, slice_get, refl, ap, ◌∙◌}
 use Rattle.std.specs.Prelude.{unwrap_or}
 use Rattle.cml_board.specs.{message_of, Call, Name, Entry, Reply, Who}
 use Rattle.cml_board.specs.declared.call.Call.TheVariants as call

@@ -1,8 +1,8 @@
 -- A call gives a message that needs a block just if the board's readers say that one is there.
-use Rattle.std.proofs.Common.{◌≡◌, ℕ, ◌<◌, ◌≤◌, ◌⊎◌, Bool, true, false, cond, List, [], ◌∷◌, length, Option, Some, None}
+use Rattle.std.proofs.Common.{◌≡◌, ℕ, ◌<◌, Bool, true, false, cond, List, [], ◌∷◌, length, Option, Some, None}
 use Rattle.std.proofs.Common.{inl, inr, refl, sym, ap, subst, ◌∙◌, arith}
-use Rattle.std.specs.Prelude.{◌&&◌, unwrap_or, IsSome, IfSome, IsTrue, ⊤}
-use Rattle.std.specs.Option.{option_map, option_map_or}
+use Rattle.std.specs.Prelude.{◌&&◌, unwrap_or, IsSome, IfSome, IsTrue}
+use Rattle.std.specs.Option.{option_map_or}
 use Rattle.std.proofs.lemmas.Bool.{false≢true, cases_lt}
 use Rattle.std.proofs.lemmas.Option.{same_Some, none-some}
 use Rattle.cml_board.proofs.SuitingLemmas.{answer_suits}
@@ -13,7 +13,7 @@ use Rattle.cml_board.specs.declared.call.Call.TheVariants.{Recv, Poll, Get, GetP
 use Rattle.cml_board.specs.declared.entry.Reply.TheVariants.{Got, Nothing, Closed}
 use Rattle.cml_board.specs.declared.outcome.Response.TheVariants as response
 use Rattle.cml_calls.specs.{is_receiver, is_variable, is_mvar, Kind}
-use Rattle.cml_calls.specs.declared.kind.Kind.TheVariants.{Mailbox, Channel, Port, IVar, MVar}
+use Rattle.cml_calls.specs.declared.kind.Kind.TheVariants.{MVar}
 use Rattle.cml_room.specs.{Asks, RoomShown}
 use Rattle.cml_c.specs.{MayMake, chunk, MayBeLong, IsGiven, NeedsBlock, IsOwed, HoldsLong, IsThere, IsShortReply, IsShortResponse}
 

@@ -1,5 +1,5 @@
 -- What a call in a room of bytes returns to C, and the messages that it hands over.
-use Rattle.std.specs.Prelude.{ℕ, ◌≡◌, ◌<◌, ◌^◌, ◌⊎◌, Bool, false, List, length, take, Option, Some, None, ⊤}
+use Rattle.std.specs.Prelude.{ℕ, ◌≡◌, ◌<◌, ◌^◌, ◌⊎◌, Bool, false, List, length, take, Option, Some, None}
 use Rattle.cml_calls.specs.{IsTooLong}
 use Rattle.cml_board.specs.{Call, Reply}
 use Rattle.cml_board.specs.declared.outcome.Outcome.{Outcome}

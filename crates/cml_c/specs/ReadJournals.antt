@@ -1,5 +1,5 @@
 -- What C gets of a journal whose text is read back.
-use Rattle.std.specs.Prelude.{ℕ, ◌≡◌, ◌⊎◌, ◌↔◌, Bool, true, false, List, [], ◌∷◌, ◌++◌, Option, Some, None, ⊤}
+use Rattle.std.specs.Prelude.{ℕ, ◌≡◌, ◌⊎◌, ◌↔◌, List, [], ◌∷◌, ◌++◌, Option, Some, None, ⊤}
 use Rattle.cml_board.specs.{count_of}
 use Rattle.cml_journal.specs.{Halt, Progress, Unended, IsSoFar, HaltTells, IsLawfulJournal, unended, message_of_word, number_of}
 use Rattle.cml_journal.specs.declared.fault.Unended.TheVariants as unended

@@ -207,10 +207,29 @@ fn a_text_may_end_anywhere() {
         );
         match Board::restore(torn, LIMIT) {
             Ok(_) => assert!(kept.ending.is_empty() && whole == end),
-            Err(RestoreError::Torn(told)) => assert_eq!(told, kept),
+            Err(RestoreError::Open(told)) => assert_eq!((told, torn.last()), (kept, Some(&b'\n'))),
+            Err(RestoreError::Torn(told)) => {
+                assert_eq!(told, kept);
+                assert_ne!(torn.last(), Some(&b'\n'));
+            }
             Err(error) => panic!("{error}"),
         }
     }
+}
+
+/// A text that no journal begins with is refused, also where a torn one would be taken. What is
+/// behind a byte 0 isn't read.
+#[test]
+fn other_text_is_no_journal() {
+    for other in [&b"{\"precious\": 1}"[..], b"journals", b"journal 10", b"\x7fELF"] {
+        let restored = Board::restore_torn(other, LIMIT);
+        assert!(matches!(restored, Err(RestoreError::Check(CheckError::NoJournal))));
+        let restored = Board::restore(other, LIMIT);
+        assert!(matches!(restored, Err(RestoreError::Check(CheckError::NoJournal))));
+    }
+    let text = b"journal 1\nseat 0 mailbox: made 0\n\0\0what\nend 7\n";
+    let (_, kept) = Board::restore_torn(&text[..], LIMIT).unwrap();
+    assert_eq!((kept.entries, kept.bytes, kept.ending.as_str()), (1, 33, "end 1\n"));
 }
 
 #[test]

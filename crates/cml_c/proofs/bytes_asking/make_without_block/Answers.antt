@@ -1,4 +1,4 @@
-use Rattle.std.proofs.Common.{rules, sym, ◌∙◌}
+use Rattle.std.proofs.Common.{sym, ◌∙◌}
 use Rattle.std.proofs.lemmas.Bool.{false≢true}
 use Rattle.cml_c.proofs.NeedingLemmas.{gives_short}
 use Rattle.cml_c.proofs.bytes_asking.make_without_block.Goals as goal
