@@ -33,6 +33,56 @@ static const uint32_t *new_flag(void)
     return flag;
 }
 
+/* ---- forks ---- */
+
+/* All open files of the process. A forked child has copies of their descriptors, and would keep their locks after its parent's end. */
+static pthread_mutex_t list_lock = PTHREAD_MUTEX_INITIALIZER;
+static pthread_once_t is_listed = PTHREAD_ONCE_INIT;
+static struct seryugo_file *files;
+
+static void before_fork(void) { pthread_mutex_lock(&list_lock); }
+
+static void after_fork(void) { pthread_mutex_unlock(&list_lock); }
+
+/* To close a copy leaves the parent's lock as it is. */
+static void in_child(void)
+{
+    for (struct seryugo_file *file = files; file != NULL; file = file->following) {
+        if (file->descriptor >= 0) {
+            close(file->descriptor);
+        }
+        file->descriptor = -1;
+    }
+    pthread_mutex_unlock(&list_lock);
+}
+
+static void watch_forks(void) { pthread_atfork(before_fork, after_fork, in_child); }
+
+void seryugo_file_list(struct seryugo_file *file)
+{
+    pthread_once(&is_listed, watch_forks);
+    pthread_mutex_lock(&list_lock);
+    file->following = files;
+    files = file;
+    pthread_mutex_unlock(&list_lock);
+}
+
+static void forget(struct seryugo_file *file)
+{
+    struct seryugo_file **at = &files;
+
+    pthread_mutex_lock(&list_lock);
+    while (*at != NULL && *at != file) {
+        at = &(*at)->following;
+    }
+    if (*at != NULL) {
+        *at = file->following;
+    }
+    pthread_mutex_unlock(&list_lock);
+}
+
+/* ---- handles ---- */
+
 static bool has_locks(struct seryugo_file *file)
 {
     pthread_condattr_t attributes;
@@ -261,7 +311,10 @@ uint32_t seryugo_file_close(struct seryugo_file *file)
         /* The child has no such mapping, and something else may be there. */
         file->view.base = NULL;
     }
-    close(file->descriptor);
+    forget(file);
+    if (file->descriptor >= 0) {
+        close(file->descriptor);
+    }
     seryugo_file_free(file);
     pthread_setcancelstate(state, &state);
     return code;

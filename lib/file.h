@@ -66,6 +66,8 @@ struct seryugo_file {
     int error;
     char words[256];
 
+    /* The process's next open file. */
+    struct seryugo_file *following;
     int descriptor;
     uint64_t segment;
     uint64_t view_size;
@@ -106,6 +108,9 @@ SERYUGO_HIDDEN void seryugo_file_stop_helper(struct seryugo_file *file);
 
 /* Makes a handle on an open descriptor, with its locks and the page that a fork empties. Returns null if there is no memory. */
 SERYUGO_HIDDEN struct seryugo_file *seryugo_file_new(int descriptor, bool is_mapped, uint32_t messages, uint64_t limit);
+
+/* Puts a file on the list of those that a forked child closes. */
+SERYUGO_HIDDEN void seryugo_file_list(struct seryugo_file *file);
 
 /* Frees a handle whose helper has ended or never ran, but not its descriptor. */
 SERYUGO_HIDDEN void seryugo_file_free(struct seryugo_file *file);

@@ -377,6 +377,7 @@ static uint32_t start(struct seryugo_opening *opening, const struct seryugo_file
         seryugo_file_free(made);
         return seryugo_refuse(opening, SERYUGO_NO_MEMORY, "no thread can be started", EAGAIN);
     }
+    seryugo_file_list(made);
     *file = made;
     return SERYUGO_DONE;
 }
