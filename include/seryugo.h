@@ -84,7 +84,23 @@ enum seryugo_code {
     /* The lines of a journal's text are whole, and its last piece has no end: a program still writes it, or was stopped. */
     SERYUGO_TEXT_OPEN = 22,
     /* A text has no whole line, and no journal begins so. */
-    SERYUGO_NO_JOURNAL = 23
+    SERYUGO_NO_JOURNAL = 23,
+    /* Only calls on a journal's file return the codes from here on (seryugo_file.h). Another handle or program has the file open. */
+    SERYUGO_FILE_BUSY = 24,
+    /* The journal's version is none that this library knows. */
+    SERYUGO_OTHER_VERSION = 25,
+    /* The journal has messages of the other type: bytes in place of numbers, or numbers in place of bytes. */
+    SERYUGO_OTHER_MESSAGES = 26,
+    /* The journal begins after a cut, so that nobody knows what its first entries left. */
+    SERYUGO_BEGINS_LATER = 27,
+    /* The system refused a call on the file while it was opened. */
+    SERYUGO_FILE_FAILED = 28,
+    /* The disk is full, or the file may not grow: the call wasn't made. It may be made again. */
+    SERYUGO_FILE_FULL = 29,
+    /* The file has failed, or was changed by others. This and each later call fails. Open the file again. */
+    SERYUGO_FILE_LOST = 30,
+    /* The handle is its parent's: a process that was forked can't use it. */
+    SERYUGO_FORKED = 31
 };
 
 /* Returns a code in words, for an error message. The text is constant. */
@@ -115,6 +131,14 @@ static inline const char *seryugo_code_text(uint32_t code)
         "timed out",
         "the journal's last piece has no end",
         "the text is no journal",
+        "the file is in use",
+        "the journal is of another version",
+        "the journal has messages of another type",
+        "the journal begins after a cut",
+        "the file can't be opened",
+        "the file can't grow",
+        "the file is lost: open it again",
+        "the file is the parent's: this process was forked",
     };
 
     return code < sizeof texts / sizeof *texts ? texts[code] : "unknown code";

@@ -57,6 +57,7 @@
 
 #include <pthread.h>
 #include <seryugo.h>
+#include <seryugo_file.h>
 #include <stdlib.h>
 #include <string.h>
 #include <time.h>
@@ -79,6 +80,9 @@ struct seryugo_switchboard {
     size_t capacity;
     struct seryugo_keeper keeper;
     bool cuts;
+    /* Where the journal is kept, or null. */
+    struct seryugo_file *file;
+    bool is_lost;
 };
 
 /* A thread's seat. The fields are the header's. */
@@ -104,6 +108,8 @@ static inline uint32_t seryugo_switchboard_of(struct seryugo room, struct seryug
     board->capacity = 0;
     memset(&board->keeper, 0, sizeof board->keeper);
     board->cuts = false;
+    board->file = NULL;
+    board->is_lost = false;
     return SERYUGO_DONE;
 }
 
@@ -137,26 +143,72 @@ static inline uint32_t seryugo_bytes_switchboard_open(uint64_t limit, struct ser
     return code;
 }
 
-/* Closes a switchboard and its room, once each seat has left. Entries that a sink refused are lost. */
-static inline void seryugo_switchboard_close(struct seryugo_switchboard *board)
+/* Opens a switchboard whose journal is kept in the file `path`: before a call returns, its entry is there, and survives the end of the
+ * program. It makes the file, or goes on where its journal ends. Objects have the numbers that they had, and seats are new. `options` and
+ * `found` may be null. It fails as seryugo_file_open does, and *found has the cause.
+ *
+ * Each call may fail with SERYUGO_FILE_FULL, and then wasn't made. It may fail with SERYUGO_FILE_LOST, which wakes all who wait: nobody knows
+ * whether it is in the file. A message of more than SERYUGO_FILE_MESSAGE_MOST bytes is SERYUGO_TOO_LONG. A lane's message is kept once the lane
+ * is drained. */
+static inline uint32_t seryugo_switchboard_open_file(const char *path, uint32_t messages, const struct seryugo_file_options *options,
+                                                     struct seryugo_file_found *found, struct seryugo_switchboard *board)
 {
+    struct seryugo room;
+    struct seryugo_file *file = NULL;
+    uint32_t code = seryugo_file_open(path, messages, 65536, options, &room, found, &file);
+
+    if (code != SERYUGO_DONE) {
+        return code;
+    }
+    code = seryugo_switchboard_of(room, board);
+    if (code == SERYUGO_DONE) {
+        board->file = file;
+    } else {
+        (void)seryugo_file_close(file);
+        seryugo_close(room);
+    }
+    return code;
+}
+
+/* Waits until all calls that returned are on the disk. It fails as seryugo_file_sync does, and without a file it does nothing. */
+static inline uint32_t seryugo_switchboard_sync(struct seryugo_switchboard *board)
+{
+    return board->file == NULL ? (uint32_t)SERYUGO_DONE : seryugo_file_sync(board->file);
+}
+
+/* Closes a switchboard and its room, once each seat has left. Entries that a sink refused are lost. With a file it returns whether all is on
+ * the disk, as seryugo_file_close does, and the switchboard is closed in any case. */
+static inline uint32_t seryugo_switchboard_close(struct seryugo_switchboard *board)
+{
+    uint32_t code = SERYUGO_DONE, closed;
+
+    if (board->file != NULL) {
+        code = seryugo_file_note(board->file, &board->room, NULL);
+        closed = seryugo_file_close(board->file);
+        code = code == SERYUGO_DONE ? closed : code;
+    }
     if (board->keeper.is_kept) {
         seryugo_close(board->keeper.journal);
     }
     seryugo_close(board->room);
     free(board->seats);
     pthread_mutex_destroy(&board->lock);
+    return code;
 }
 
 /* Says what becomes of a full journal, before the first call: the call that finds it full cuts it, hands its entries to the sink, and is
  * then made. The sink runs under the lock. A sink in C++ must not throw. Without a sink (null) the entries are dropped. If you don't call
  * this, calls fail with SERYUGO_JOURNAL_FULL. If the sink returns false, so does the call that found the journal full, and no entry is
- * lost. */
-static inline void seryugo_switchboard_when_full(struct seryugo_switchboard *board, seryugo_sink *sink, void *context)
+ * lost. SERYUGO_WRONG_HANDLE: the journal is kept in a file, and never full. */
+static inline uint32_t seryugo_switchboard_when_full(struct seryugo_switchboard *board, seryugo_sink *sink, void *context)
 {
+    if (board->file != NULL) {
+        return SERYUGO_WRONG_HANDLE;
+    }
     board->keeper.sink = sink;
     board->keeper.context = context;
     board->cuts = true;
+    return SERYUGO_DONE;
 }
 
 /* Signals the thread of the next seat that is due, if there is one. It needs the lock, so that the seat doesn't leave meanwhile. */
@@ -179,12 +231,38 @@ static inline void seryugo_switchboard_lock(struct seryugo_switchboard *board)
     pthread_mutex_lock(&board->lock);
 }
 
-/* Wakes all threads whose calls may go on now, and unlocks the switchboard. */
-static inline void seryugo_switchboard_unlock(struct seryugo_switchboard *board)
+/* Wakes all waiting threads once the file is lost: their calls fail too. */
+static inline void seryugo_lose(struct seryugo_switchboard *board)
 {
+    for (size_t at = 0; at < board->made && !board->is_lost; at++) {
+        if (board->seats[at] != NULL) {
+            pthread_cond_signal(&board->seats[at]->due);
+        }
+    }
+    board->is_lost = true;
+}
+
+/* Keeps the entries of the calls that were made under this lock, if the journal has a file. */
+static inline uint32_t seryugo_note(struct seryugo_switchboard *board)
+{
+    uint32_t code = board->file == NULL ? (uint32_t)SERYUGO_DONE : seryugo_file_note(board->file, &board->room, NULL);
+
+    if (code == SERYUGO_FILE_LOST) {
+        seryugo_lose(board);
+    }
+    return code;
+}
+
+/* Wakes all threads whose calls may go on now, and unlocks the switchboard. With a file it returns whether the entries of your calls are kept,
+ * as seryugo_file_note does. */
+static inline uint32_t seryugo_switchboard_unlock(struct seryugo_switchboard *board)
+{
+    uint32_t code = seryugo_note(board);
+
     while (seryugo_wakes_next(board)) {
     }
     pthread_mutex_unlock(&board->lock);
+    return code;
 }
 
 /* Does so after one call of a seat: it wakes one thread, and that thread's call wakes the next. */
@@ -194,11 +272,16 @@ static inline void seryugo_let_go(struct seryugo_switchboard *board)
     pthread_mutex_unlock(&board->lock);
 }
 
-/* Hands the entries since the last cut to the sink, at the end or before a pause. It fails as seryugo_keep does. */
+/* Hands the entries since the last cut to the sink, at the end or before a pause. It fails as seryugo_keep does, or with SERYUGO_WRONG_HANDLE if
+ * the journal is kept in a file. */
 static inline uint32_t seryugo_switchboard_keep(struct seryugo_switchboard *board)
 {
     uint32_t code;
     int state = 0;
+
+    if (board->file != NULL) {
+        return SERYUGO_WRONG_HANDLE;
+    }
 
     pthread_setcancelstate(PTHREAD_CANCEL_DISABLE, &state);
     seryugo_switchboard_lock(board);
@@ -310,12 +393,15 @@ struct seryugo_turn {
     const struct timespec *deadline;
     bool is_again;
     uint32_t code;
+    /* With a file: the call wasn't made; and it was made, but isn't kept. */
+    bool is_refused;
+    bool is_unkept;
 };
 
 /* Locks the switchboard for a seat's call. */
 static inline struct seryugo_turn seryugo_begin(struct seryugo_seat *seat, const struct timespec *deadline)
 {
-    struct seryugo_turn turn = {seat, deadline, false, SERYUGO_DONE};
+    struct seryugo_turn turn = {seat, deadline, false, SERYUGO_DONE, false, false};
 
     seryugo_switchboard_lock(seat->board);
     return turn;
@@ -352,7 +438,7 @@ static inline bool seryugo_wait_until_due(struct seryugo_turn *turn)
     struct seryugo_seat *seat = turn->seat;
     bool has_time = true;
 
-    while (seryugo_is_due(&seat->board->room, seat->number) == SERYUGO_NOTHING) {
+    while (!seat->board->is_lost && seryugo_is_due(&seat->board->room, seat->number) == SERYUGO_NOTHING) {
         if (!has_time) {
             return false;
         }
@@ -377,6 +463,37 @@ static inline bool seryugo_cut_if_full(struct seryugo_turn *turn)
     return has_room;
 }
 
+/* Whether the call may be made: the file has room for its line, whose message has so many bytes. */
+static inline bool seryugo_may_call(struct seryugo_turn *turn, uint64_t bytes)
+{
+    struct seryugo_switchboard *board = turn->seat->board;
+
+    if (board->file == NULL) {
+        return true;
+    }
+    turn->code = seryugo_file_reserve(board->file, &board->room, bytes);
+    turn->is_refused = turn->code != SERYUGO_DONE;
+    return !turn->is_refused;
+}
+
+/* Keeps the call's entry. If the call was refused or isn't kept, a parked seat waits no longer. */
+static inline bool seryugo_is_kept(struct seryugo_turn *turn)
+{
+    struct seryugo_switchboard *board = turn->seat->board;
+    uint32_t code = turn->is_refused ? turn->code : seryugo_note(board);
+
+    if (code == SERYUGO_DONE) {
+        return true;
+    }
+    if (code == SERYUGO_FILE_LOST) {
+        seryugo_lose(board);
+    }
+    turn->is_unkept = !turn->is_refused && turn->code == SERYUGO_DONE;
+    turn->code = code;
+    (void)seryugo_withdraw(&board->room, turn->seat->number);
+    return false;
+}
+
 /* Returns true if the call has to be made again: the journal was full and has room now, or the call had to wait. Else it unlocks the
  * switchboard. */
 static inline bool seryugo_finish_or_repeat(struct seryugo_turn *turn)
@@ -385,6 +502,10 @@ static inline bool seryugo_finish_or_repeat(struct seryugo_turn *turn)
     bool was_again = turn->is_again;
 
     turn->is_again = false;
+    if (board->file != NULL && !seryugo_is_kept(turn)) {
+        seryugo_let_go(board);
+        return false;
+    }
     if (seryugo_cut_if_full(turn)) {
         return true;
     }
@@ -405,13 +526,29 @@ static inline bool seryugo_finish_or_repeat(struct seryugo_turn *turn)
     return false;
 }
 
-/* The body of a function that makes one call of `seat`, in which turn.is_again is there. */
-#define SERYUGO_MAKE(deadline, call)                              \
+/* Makes one call of `seat`, in which turn.is_again is there. Its message has so many bytes. */
+#define SERYUGO_TURN(deadline, bytes, call)                       \
     struct seryugo_turn turn = seryugo_begin(seat, deadline);     \
                                                                   \
     do {                                                          \
-        turn.code = (call);                                       \
-    } while (seryugo_finish_or_repeat(&turn));                             \
+        if (seryugo_may_call(&turn, bytes)) {                     \
+            turn.code = (call);                                   \
+        }                                                         \
+    } while (seryugo_finish_or_repeat(&turn))
+
+/* The body of a function that makes a call without bytes, with bytes, and one that may hand bytes over: these are freed if the call isn't
+ * kept. */
+#define SERYUGO_MAKE(deadline, call)                              \
+    SERYUGO_TURN(deadline, 0, call);                              \
+    return turn.code
+#define SERYUGO_MAKE_SENT(bytes, call)                            \
+    SERYUGO_TURN(NULL, bytes, call);                              \
+    return turn.code
+#define SERYUGO_MAKE_GOT(deadline, bytes, got, call)              \
+    SERYUGO_TURN(deadline, bytes, call);                          \
+    if (turn.is_unkept) {                                         \
+        seryugo_bytes_free(*(got));                               \
+    }                                                             \
     return turn.code
 
 /*
@@ -516,65 +653,99 @@ static inline uint32_t seryugo_seat_swap(struct seryugo_seat *seat, uint64_t var
     SERYUGO_MAKE(deadline, seryugo_swap(&seat->board->room, seat->number, variable, message, turn.is_again, held));
 }
 
+/* Makes the mailbox of this number, unless it is there: a program that goes on from a file finds its mailboxes so. Numbers of objects count from
+ * 0, as the objects are made. SERYUGO_WRONG_KIND: the number is another object's. SERYUGO_NO_SUCH: there is none of the number before. */
+static inline uint32_t seryugo_mailbox_again(struct seryugo *room, uint64_t seat, uint64_t number)
+{
+    uint64_t kind = 0, made = 0;
+
+    if (seryugo_kind(room, number, &kind) == SERYUGO_DONE) {
+        return kind == SERYUGO_MAILBOX ? SERYUGO_DONE : SERYUGO_WRONG_KIND;
+    }
+    if (number != 0 && seryugo_kind(room, number - 1, &kind) != SERYUGO_DONE) {
+        return SERYUGO_NO_SUCH;
+    }
+    return seryugo_new_mailbox(room, seat, &made);
+}
+
+static inline uint32_t seryugo_seat_mailbox_again(struct seryugo_seat *seat, uint64_t number)
+{
+    SERYUGO_MAKE(NULL, seryugo_mailbox_again(&seat->board->room, seat->number, number));
+}
+
 /* ---- the calls of a switchboard of bytes that have a message ---- */
+
+/* How many bytes both messages of a swap have. Without a file nobody asks. */
+static inline uint64_t seryugo_swap_bytes(struct seryugo_seat *seat, uint64_t variable, size_t length)
+{
+    struct seryugo_bytes held;
+    uint64_t both = length;
+
+    if (seat->board->file != NULL && seryugo_bytes_held(&seat->board->room, variable, &held) == SERYUGO_DONE) {
+        both += held.length;
+        seryugo_bytes_free(held);
+    }
+    return both;
+}
 
 static inline uint32_t seryugo_seat_bytes_send(struct seryugo_seat *seat, uint64_t mailbox, const void *at, size_t length)
 {
-    SERYUGO_MAKE(NULL, seryugo_bytes_send(&seat->board->room, seat->number, mailbox, at, length));
+    SERYUGO_MAKE_SENT(length, seryugo_bytes_send(&seat->board->room, seat->number, mailbox, at, length));
 }
 
 static inline uint32_t seryugo_seat_bytes_recv(struct seryugo_seat *seat, uint64_t source, const struct timespec *deadline,
                                                struct seryugo_bytes *message)
 {
-    SERYUGO_MAKE(deadline, seryugo_bytes_recv(&seat->board->room, seat->number, source, turn.is_again, message));
+    SERYUGO_MAKE_GOT(deadline, 0, message, seryugo_bytes_recv(&seat->board->room, seat->number, source, turn.is_again, message));
 }
 
 static inline uint32_t seryugo_seat_bytes_recv_poll(struct seryugo_seat *seat, uint64_t source, struct seryugo_bytes *message)
 {
-    SERYUGO_MAKE(NULL, seryugo_bytes_recv_poll(&seat->board->room, seat->number, source, message));
+    SERYUGO_MAKE_GOT(NULL, 0, message, seryugo_bytes_recv_poll(&seat->board->room, seat->number, source, message));
 }
 
 static inline uint32_t seryugo_seat_bytes_multicast(struct seryugo_seat *seat, uint64_t channel, const void *at, size_t length)
 {
-    SERYUGO_MAKE(NULL, seryugo_bytes_multicast(&seat->board->room, seat->number, channel, at, length));
+    SERYUGO_MAKE_SENT(length, seryugo_bytes_multicast(&seat->board->room, seat->number, channel, at, length));
 }
 
 static inline uint32_t seryugo_seat_bytes_mvar_init(struct seryugo_seat *seat, const void *at, size_t length, uint64_t *variable)
 {
-    SERYUGO_MAKE(NULL, seryugo_bytes_mvar_init(&seat->board->room, seat->number, at, length, variable));
+    SERYUGO_MAKE_SENT(length, seryugo_bytes_mvar_init(&seat->board->room, seat->number, at, length, variable));
 }
 
 static inline uint32_t seryugo_seat_bytes_put(struct seryugo_seat *seat, uint64_t variable, const void *at, size_t length)
 {
-    SERYUGO_MAKE(NULL, seryugo_bytes_put(&seat->board->room, seat->number, variable, at, length));
+    SERYUGO_MAKE_SENT(length, seryugo_bytes_put(&seat->board->room, seat->number, variable, at, length));
 }
 
 static inline uint32_t seryugo_seat_bytes_get(struct seryugo_seat *seat, uint64_t variable, const struct timespec *deadline,
                                               struct seryugo_bytes *message)
 {
-    SERYUGO_MAKE(deadline, seryugo_bytes_get(&seat->board->room, seat->number, variable, turn.is_again, message));
+    SERYUGO_MAKE_GOT(deadline, 0, message, seryugo_bytes_get(&seat->board->room, seat->number, variable, turn.is_again, message));
 }
 
 static inline uint32_t seryugo_seat_bytes_get_poll(struct seryugo_seat *seat, uint64_t variable, struct seryugo_bytes *message)
 {
-    SERYUGO_MAKE(NULL, seryugo_bytes_get_poll(&seat->board->room, seat->number, variable, message));
+    SERYUGO_MAKE_GOT(NULL, 0, message, seryugo_bytes_get_poll(&seat->board->room, seat->number, variable, message));
 }
 
 static inline uint32_t seryugo_seat_bytes_take(struct seryugo_seat *seat, uint64_t variable, const struct timespec *deadline,
                                                struct seryugo_bytes *message)
 {
-    SERYUGO_MAKE(deadline, seryugo_bytes_take(&seat->board->room, seat->number, variable, turn.is_again, message));
+    SERYUGO_MAKE_GOT(deadline, 0, message, seryugo_bytes_take(&seat->board->room, seat->number, variable, turn.is_again, message));
 }
 
 static inline uint32_t seryugo_seat_bytes_take_poll(struct seryugo_seat *seat, uint64_t variable, struct seryugo_bytes *message)
 {
-    SERYUGO_MAKE(NULL, seryugo_bytes_take_poll(&seat->board->room, seat->number, variable, message));
+    SERYUGO_MAKE_GOT(NULL, 0, message, seryugo_bytes_take_poll(&seat->board->room, seat->number, variable, message));
 }
 
 static inline uint32_t seryugo_seat_bytes_swap(struct seryugo_seat *seat, uint64_t variable, const void *at, size_t length,
                                                const struct timespec *deadline, struct seryugo_bytes *held)
 {
-    SERYUGO_MAKE(deadline, seryugo_bytes_swap(&seat->board->room, seat->number, variable, at, length, turn.is_again, held));
+    SERYUGO_MAKE_GOT(deadline, seryugo_swap_bytes(seat, variable, length), held,
+                     seryugo_bytes_swap(&seat->board->room, seat->number, variable, at, length, turn.is_again, held));
 }
 
 #ifdef __cplusplus

@@ -1,0 +1,412 @@
+/* A journal's file, part 2: it grows ahead and is synced, in a thread of its own. */
+#ifndef _GNU_SOURCE
+#define _GNU_SOURCE
+#endif
+#include "file.h"
+
+#include <errno.h>
+#include <signal.h>
+#include <stdio.h>
+#include <string.h>
+#include <sys/mman.h>
+#include <sys/resource.h>
+#include <sys/stat.h>
+#include <time.h>
+#include <unistd.h>
+#include <fcntl.h>
+
+#ifndef MADV_POPULATE_WRITE
+#define MADV_POPULATE_WRITE 23
+#endif
+
+/* ---- calls of the system ---- */
+
+int seryugo_write_at(int descriptor, const void *from, size_t size, uint64_t at)
+{
+    const char *rest = (const char *)from;
+
+    while (size != 0) {
+        ssize_t done = pwrite(descriptor, rest, size, (off_t)at);
+
+        if (done < 0 && errno == EINTR) {
+            continue;
+        }
+        if (done <= 0) {
+            return done < 0 ? errno : EIO;
+        }
+        rest += done;
+        size -= (size_t)done;
+        at += (uint64_t)done;
+    }
+    return 0;
+}
+
+int seryugo_read_at(int descriptor, void *to, size_t size, uint64_t at, size_t *length)
+{
+    *length = 0;
+    while (*length < size) {
+        ssize_t done = pread(descriptor, (char *)to + *length, size - *length, (off_t)(at + *length));
+
+        if (done < 0 && errno == EINTR) {
+            continue;
+        }
+        if (done < 0) {
+            return errno;
+        }
+        if (done == 0) {
+            return 0;
+        }
+        *length += (size_t)done;
+    }
+    return 0;
+}
+
+bool seryugo_may_reach(uint64_t end)
+{
+    struct rlimit limit;
+
+    return getrlimit(RLIMIT_FSIZE, &limit) != 0 || limit.rlim_cur == RLIM_INFINITY || end <= limit.rlim_cur;
+}
+
+/* ---- failures ---- */
+
+static void tell(struct seryugo_file *file, const char *words, int error)
+{
+    char cause[96];
+
+    file->error = error;
+    if (error == 0) {
+        snprintf(file->words, sizeof file->words, "%s", words);
+    } else {
+        snprintf(file->words, sizeof file->words, "%s: %s", words, strerror_r(error, cause, sizeof cause));
+    }
+}
+
+/* Needs the lock. */
+static void lose(struct seryugo_file *file, const char *words, int error)
+{
+    if (!atomic_load(&file->is_lost)) {
+        tell(file, words, error);
+        seryugo_store_end(&file->store, SERYUGO_STEP_SYNC, false, 0);
+        atomic_store(&file->is_lost, true);
+    }
+    pthread_cond_broadcast(&file->done);
+}
+
+void seryugo_file_lose(struct seryugo_file *file, const char *words, int error)
+{
+    pthread_mutex_lock(&file->lock);
+    lose(file, words, error);
+    pthread_mutex_unlock(&file->lock);
+}
+
+/* Whether the file still has all that it was given. A store behind its end would be a SIGBUS, and lines would be lost. */
+static bool is_whole(const struct seryugo_file *file)
+{
+    uint64_t least = atomic_load(file->is_mapped ? &file->grown : &file->told);
+    struct stat now;
+
+    return fstat(file->descriptor, &now) == 0 && (uint64_t)now.st_size >= least;
+}
+
+/* ---- growing ---- */
+
+static uint64_t to_page(uint64_t at) { return (at + SERYUGO_PAGE - 1) / SERYUGO_PAGE * SERYUGO_PAGE; }
+
+static int allocate(int descriptor, uint64_t from, uint64_t to)
+{
+    int error;
+
+    if (!seryugo_may_reach(to)) {
+        return EFBIG;
+    }
+    do {
+        error = posix_fallocate(descriptor, (off_t)from, (off_t)(to - from));
+    } while (error == EINTR);
+    return error;
+}
+
+/* Gives the file room, a segment or only what is needed. */
+static int give_room(struct seryugo_file *file, struct seryugo_step *step, uint64_t need)
+{
+    int error;
+
+    if (!is_whole(file)) {
+        seryugo_file_lose(file, "the file was cut by others", 0);
+        return EIO;
+    }
+    error = allocate(file->descriptor, step->from, step->to);
+    if (error != 0 && to_page(need) < step->to) {
+        step->to = to_page(need);
+        error = allocate(file->descriptor, step->from, step->to);
+    }
+    /* Where room can't be had ahead, pwrite(2) makes it. */
+    return !file->is_mapped && (error == EOPNOTSUPP || error == ENOSYS) ? 0 : error;
+}
+
+static bool begin_growing(struct seryugo_file *file, uint64_t need, struct seryugo_step *step)
+{
+    bool grows;
+
+    pthread_mutex_lock(&file->lock);
+    grows = file->store.grown < need
+            && seryugo_store_begin(&file->store, SERYUGO_STEP_GROW, to_page(file->store.grown + file->segment), step);
+    pthread_mutex_unlock(&file->lock);
+    return grows;
+}
+
+static void end_growing(struct seryugo_file *file, const struct seryugo_step *step, int error)
+{
+    pthread_mutex_lock(&file->lock);
+    seryugo_store_end(&file->store, SERYUGO_STEP_GROW, error == 0, step->to);
+    atomic_store(&file->grown, file->store.grown);
+    if (!atomic_load(&file->is_lost)) {
+        file->words[0] = 0;
+        file->error = 0;
+        if (error != 0) {
+            tell(file, "posix_fallocate", error);
+        }
+    }
+    pthread_mutex_unlock(&file->lock);
+}
+
+/* Two who grow would each take the other's room for free, so one does at a time. */
+int seryugo_file_grow(struct seryugo_file *file, uint64_t need)
+{
+    struct seryugo_step step;
+    int error = 0;
+
+    pthread_mutex_lock(&file->growing);
+    while (error == 0 && begin_growing(file, need, &step)) {
+        error = give_room(file, &step, need);
+        end_growing(file, &step, error);
+    }
+    pthread_mutex_unlock(&file->growing);
+    return error;
+}
+
+/* ---- views ---- */
+
+/* Room ahead is zeroed in memory, so that a store finds its page. Pages are taken one by one: a large one would be written whole at each
+ * sync. */
+static void populate(struct seryugo_file *file, uint64_t from, uint64_t to)
+{
+    struct seryugo_view view;
+
+    pthread_mutex_lock(&file->lock);
+    view = file->view;
+    pthread_mutex_unlock(&file->lock);
+    from = to_page(from < view.start ? view.start : from);
+    to = to < view.end ? to : view.end;
+    if (view.base != NULL && from < to) {
+        (void)madvise(view.base + (from - view.start), to - from, MADV_POPULATE_WRITE);
+    }
+}
+
+/* The helper alone unmaps, because it may be populating the view. */
+static void unmap_old_views(struct seryugo_file *file)
+{
+    struct seryugo_view view;
+
+    while (file->old_count != 0) {
+        view = file->old[--file->old_count];
+        pthread_mutex_unlock(&file->lock);
+        munmap(view.base, view.end - view.start);
+        pthread_mutex_lock(&file->lock);
+        pthread_cond_broadcast(&file->done);
+    }
+}
+
+uint32_t seryugo_file_move_view(struct seryugo_file *file)
+{
+    struct seryugo_view view = {NULL, file->stored / SERYUGO_PAGE * SERYUGO_PAGE, 0};
+    void *base = mmap(NULL, file->view_size, PROT_READ | PROT_WRITE, MAP_SHARED, file->descriptor, (off_t)view.start);
+
+    if (base == MAP_FAILED) {
+        return SERYUGO_NO_MEMORY;
+    }
+    view.base = (uint8_t *)base;
+    view.end = view.start + file->view_size;
+    (void)madvise(base, file->view_size, MADV_DONTFORK);
+    (void)madvise(base, file->view_size, MADV_RANDOM);
+    pthread_mutex_lock(&file->lock);
+    while (file->old_count == SERYUGO_OLD_VIEWS) {
+        pthread_cond_wait(&file->done, &file->lock);
+    }
+    if (file->view.base != NULL) {
+        file->old[file->old_count++] = file->view;
+    }
+    file->view = view;
+    file->is_asked = true;
+    pthread_cond_signal(&file->work);
+    pthread_mutex_unlock(&file->lock);
+    return SERYUGO_DONE;
+}
+
+/* ---- syncing ---- */
+
+/* The machine learns how far the writer came, and says what a sync covers. */
+static bool begin_sync(struct seryugo_file *file, struct seryugo_step *step)
+{
+    struct seryugo_step stored;
+    bool syncs;
+
+    pthread_mutex_lock(&file->lock);
+    if (seryugo_store_begin(&file->store, SERYUGO_STEP_STORE, 0, &stored)) {
+        seryugo_store_end(&file->store, SERYUGO_STEP_STORE, true, atomic_load_explicit(&file->told, memory_order_acquire));
+    }
+    syncs = seryugo_store_begin(&file->store, SERYUGO_STEP_SYNC, 0, step);
+    pthread_mutex_unlock(&file->lock);
+    return syncs;
+}
+
+/* A sync that fails is never made again: the system may have forgotten what it couldn't write. An interrupted one counts as failed. */
+static void sync_once(struct seryugo_file *file)
+{
+    struct seryugo_step step;
+    int error;
+
+    if (!begin_sync(file, &step)) {
+        return;
+    }
+    error = fdatasync(file->descriptor) == 0 ? 0 : errno;
+    pthread_mutex_lock(&file->lock);
+    if (error != 0) {
+        lose(file, "fdatasync", error);
+    } else if (!is_whole(file)) {
+        lose(file, "the file was cut by others", 0);
+    } else {
+        seryugo_store_end(&file->store, SERYUGO_STEP_SYNC, true, step.to);
+        atomic_store(&file->synced, file->store.synced);
+        pthread_cond_broadcast(&file->done);
+    }
+    pthread_mutex_unlock(&file->lock);
+}
+
+void seryugo_file_ask(struct seryugo_file *file)
+{
+    pthread_mutex_lock(&file->lock);
+    file->is_asked = true;
+    pthread_cond_signal(&file->work);
+    pthread_mutex_unlock(&file->lock);
+}
+
+uint32_t seryugo_file_wait(struct seryugo_file *file, uint64_t position)
+{
+    uint32_t code;
+
+    pthread_mutex_lock(&file->lock);
+    while (file->store.synced < position && !atomic_load(&file->is_lost)) {
+        file->wanted_sync = position > file->wanted_sync ? position : file->wanted_sync;
+        file->is_asked = true;
+        pthread_cond_signal(&file->work);
+        pthread_cond_wait(&file->done, &file->lock);
+    }
+    code = atomic_load(&file->is_lost) ? SERYUGO_FILE_LOST : SERYUGO_DONE;
+    pthread_mutex_unlock(&file->lock);
+    return code;
+}
+
+/* ---- the helper ---- */
+
+static struct timespec after(uint64_t milliseconds)
+{
+    struct timespec at;
+
+    clock_gettime(CLOCK_MONOTONIC, &at);
+    at.tv_sec += (time_t)(milliseconds / 1000);
+    at.tv_nsec += (long)(milliseconds % 1000) * 1000000;
+    if (at.tv_nsec >= 1000000000) {
+        at.tv_sec++;
+        at.tv_nsec -= 1000000000;
+    }
+    return at;
+}
+
+static bool has_passed(const struct timespec *due)
+{
+    struct timespec now = after(0);
+
+    return now.tv_sec > due->tv_sec || (now.tv_sec == due->tv_sec && now.tv_nsec >= due->tv_nsec);
+}
+
+/* Sleeps until there may be work. Needs the lock. */
+static void sleep_until_asked(struct seryugo_file *file, const struct timespec *due)
+{
+    int failure = 0;
+
+    while (!file->is_asked && !file->stops && failure == 0) {
+        if (file->period == 0) {
+            failure = pthread_cond_wait(&file->work, &file->lock);
+        } else {
+            failure = pthread_cond_timedwait(&file->work, &file->lock, due);
+        }
+    }
+    file->is_asked = false;
+}
+
+static void grow_ahead(struct seryugo_file *file)
+{
+    uint64_t was = atomic_load(&file->grown), need = atomic_load(&file->told) + file->margin + file->segment;
+
+    if (was < need && !atomic_load(&file->is_lost) && seryugo_file_grow(file, need) == 0 && file->is_mapped) {
+        populate(file, was, atomic_load(&file->grown));
+    }
+}
+
+static bool is_sync_due(struct seryugo_file *file)
+{
+    uint64_t told = atomic_load(&file->told), synced = atomic_load(&file->synced);
+
+    return told - synced >= SERYUGO_UNSYNCED_EARLY || file->wanted_sync > synced;
+}
+
+static void *help(void *given)
+{
+    struct seryugo_file *file = (struct seryugo_file *)given;
+    struct timespec due = after(file->period);
+
+    pthread_mutex_lock(&file->lock);
+    while (!file->stops) {
+        bool is_time, is_due;
+
+        sleep_until_asked(file, &due);
+        unmap_old_views(file);
+        is_due = is_sync_due(file);
+        is_time = file->period != 0 && has_passed(&due);
+        pthread_mutex_unlock(&file->lock);
+        grow_ahead(file);
+        if (is_time || is_due) {
+            sync_once(file);
+        }
+        due = is_time ? after(file->period) : due;
+        pthread_mutex_lock(&file->lock);
+    }
+    unmap_old_views(file);
+    pthread_mutex_unlock(&file->lock);
+    return NULL;
+}
+
+/* Signals are the program's, so the helper takes none but those that its own faults raise. */
+int seryugo_file_start_helper(struct seryugo_file *file)
+{
+    sigset_t blocked, before;
+    int error;
+
+    sigfillset(&blocked);
+    sigdelset(&blocked, SIGBUS);
+    sigdelset(&blocked, SIGSEGV);
+    pthread_sigmask(SIG_SETMASK, &blocked, &before);
+    error = pthread_create(&file->helper, NULL, help, file);
+    pthread_sigmask(SIG_SETMASK, &before, NULL);
+    return error;
+}
+
+void seryugo_file_stop_helper(struct seryugo_file *file)
+{
+    pthread_mutex_lock(&file->lock);
+    file->stops = true;
+    pthread_cond_signal(&file->work);
+    pthread_mutex_unlock(&file->lock);
+    pthread_join(file->helper, NULL);
+}

@@ -1,0 +1,458 @@
+/* A journal's file, part 4: what is in it is read, judged, and gone on with. Nothing is written before the file is found to be lawful. */
+#ifndef _GNU_SOURCE
+#define _GNU_SOURCE
+#endif
+#include "open.h"
+
+#include <errno.h>
+#include <fcntl.h>
+#include <stdio.h>
+#include <stdlib.h>
+#include <string.h>
+#include <sys/stat.h>
+#include <sys/vfs.h>
+#include <unistd.h>
+
+#define CHUNK ((size_t)256 << 10)
+#define HEADER_LENGTH 10
+#define DEFAULT_SEGMENT ((uint64_t)4 << 20)
+#define LIMIT_MOST ((uint64_t)1 << 32)
+#define EXT4_MAGIC 0xEF53
+#define XFS_MAGIC 0x58465342
+
+static uint32_t fails(struct seryugo_opening *opening, const char *words, int error)
+{
+    return seryugo_refuse(opening, SERYUGO_FILE_FAILED, words, error);
+}
+
+/* ---- reading ---- */
+
+/* What the first line says of the version, before anything is read: a reading says only that it has a fault. */
+static uint32_t judge_header(struct seryugo_opening *opening, size_t length)
+{
+    const char *at = opening->chunk + 8, *end = opening->chunk + length;
+    uint64_t version = 0;
+
+    if (length < 9 || memcmp(opening->chunk, "journal ", 8) != 0) {
+        return SERYUGO_DONE;
+    }
+    for (; at < end && *at >= '0' && *at <= '9' && version < 1000; at++) {
+        version = 10 * version + (uint64_t)(*at - '0');
+    }
+    if (at == opening->chunk + 8 || (at < end && *at != '\n' && *at != ' ' && *at != 0)) {
+        return seryugo_refuse(opening, SERYUGO_NO_JOURNAL, "the first line is none of a journal", 0);
+    }
+    if (version < 1 || version > 4) {
+        return seryugo_refuse(opening, SERYUGO_OTHER_VERSION, "a version that this library doesn't know", 0);
+    }
+    if (version % 2 != (opening->messages == SERYUGO_NUMBERS)) {
+        return seryugo_refuse(opening, SERYUGO_OTHER_MESSAGES, opening->messages == SERYUGO_NUMBERS ? "it has bytes" : "it has numbers", 0);
+    }
+    return SERYUGO_DONE;
+}
+
+/* Counts what was read. A reading that has stopped says no more than that. */
+static void count(struct seryugo_opening *opening)
+{
+    (void)seryugo_reading_entries(&opening->reading, &opening->found->entries);
+    (void)seryugo_reading_lines(&opening->reading, &opening->found->lines);
+    (void)seryugo_reading_kept(&opening->reading, &opening->found->kept);
+}
+
+/* Says by name why a text isn't read. The chunk is the text's first if no line was read. */
+static uint32_t refuse_text(struct seryugo_opening *opening, uint32_t code, bool is_first)
+{
+    uint64_t lines;
+    const char *second;
+
+    count(opening);
+    lines = opening->found->lines;
+    opening->found->kept = 0;
+    if (code == SERYUGO_NO_JOURNAL || (code == SERYUGO_FAULT && lines == 0)) {
+        return seryugo_refuse(opening, SERYUGO_NO_JOURNAL, "the first line is none of a journal", 0);
+    }
+    if (code == SERYUGO_FAULT && lines == 1 && is_first) {
+        second = strchr(opening->chunk, '\n');
+        if (second != NULL && strncmp(second + 1, "from ", 5) == 0) {
+            return seryugo_refuse(opening, SERYUGO_BEGINS_LATER, "what was before the cut isn't known", 0);
+        }
+    }
+    return seryugo_refuse(opening, code, code == SERYUGO_NO_MEMORY ? "no memory" : "the journal was changed", 0);
+}
+
+/* Reads the text up to its first byte 0, or to the file's end. */
+static uint32_t read_text(struct seryugo_opening *opening)
+{
+    uint32_t code = SERYUGO_DONE;
+    size_t length = CHUNK, part = CHUNK;
+
+    while (part == CHUNK) {
+        int error = seryugo_read_at(opening->descriptor, opening->chunk, CHUNK, opening->text, &length);
+
+        if (error != 0) {
+            return fails(opening, "read the file", error);
+        }
+        opening->chunk[length] = 0;
+        part = strlen(opening->chunk);
+        if (opening->text == 0) {
+            code = judge_header(opening, part);
+            if (code != SERYUGO_DONE) {
+                return code;
+            }
+        }
+        code = seryugo_reading_take(&opening->reading, opening->chunk, part);
+        if (code != SERYUGO_DONE) {
+            return refuse_text(opening, code, opening->text == 0);
+        }
+        opening->text += part;
+    }
+    return SERYUGO_DONE;
+}
+
+/* Where the last byte other than 0 is, plus one. */
+static uint32_t find_end(struct seryugo_opening *opening, uint64_t *end)
+{
+    size_t length = 0;
+
+    *end = opening->text;
+    for (uint64_t at = opening->text; at < opening->length; at += length) {
+        int error = seryugo_read_at(opening->descriptor, opening->chunk, CHUNK, at, &length);
+
+        if (error != 0 || length == 0) {
+            return fails(opening, "read the file", error == 0 ? EIO : error);
+        }
+        for (size_t i = length; i > 0; i--) {
+            if (opening->chunk[i - 1] != 0) {
+                *end = at + i;
+                break;
+            }
+        }
+    }
+    return SERYUGO_DONE;
+}
+
+/* A file of zeros alone is no journal. A new one has its header on the disk before it has its name. An empty file may become one, and so
+ * may what a crash left of the header in it. */
+static bool is_blank(const struct seryugo_opening *opening, uint64_t end)
+{
+    return opening->text == 0 && (end != 0 || opening->length > HEADER_LENGTH);
+}
+
+/* ---- what follows ---- */
+
+/* The last line that is kept, without its line feed, or nothing if it is longer than the end of a piece. */
+static int last_line(struct seryugo_opening *opening, char *line, size_t size)
+{
+    uint64_t kept = opening->found->kept, from = kept < size ? 0 : kept - size + 1;
+    size_t length = 0;
+    int error = seryugo_read_at(opening->descriptor, line, (size_t)(kept - from), from, &length);
+    char *before;
+
+    line[length == 0 ? 0 : length - 1] = 0;
+    before = strrchr(line, '\n');
+    if (before != NULL) {
+        memmove(line, before + 1, strlen(before));
+    } else if (from != 0) {
+        line[0] = 0;
+    }
+    return error;
+}
+
+/* What is written behind the kept text. An open piece is gone on with as it is, and what has an end by a new piece of the same version: so
+ * nothing of the past is lost, or copied. A sealed piece names the sum of the one before, which that one's last line has. */
+static uint32_t prepare_more(struct seryugo_opening *opening)
+{
+    struct seryugo_file_found *found = opening->found;
+    char line[256], header[HEADER_LENGTH + 1] = "";
+    const char *sum = NULL;
+    size_t length = 0;
+    int error = seryugo_read_at(opening->descriptor, header, HEADER_LENGTH, 0, &length);
+
+    error = error == 0 ? last_line(opening, line, sizeof line) : error;
+    if (error != 0) {
+        return fails(opening, "read the file", error);
+    }
+    if (found->kept == 0) {
+        found->kept = header[HEADER_LENGTH - 1] == '\n' ? HEADER_LENGTH : 0;
+        strcpy(opening->more, found->kept == 0 ? seryugo_header(opening->messages) : "");
+    } else if (strncmp(line, "end ", 4) == 0) {
+        sum = strchr(line + 4, ' ');
+        snprintf(opening->more, sizeof opening->more, "%.9s%s\n", header, sum == NULL ? "" : sum);
+        if (found->entries != 0) {
+            snprintf(opening->more + strlen(opening->more), 32, "from %llu\n", (unsigned long long)found->entries);
+        }
+    }
+    opening->more_length = strlen(opening->more);
+    return SERYUGO_DONE;
+}
+
+/* ---- what is cut off ---- */
+
+static int copy_to(struct seryugo_opening *opening, int other, uint64_t from, uint64_t end)
+{
+    for (uint64_t at = from; at < end;) {
+        size_t length = 0, part = end - at < CHUNK ? (size_t)(end - at) : CHUNK;
+        int error = seryugo_read_at(opening->descriptor, opening->chunk, part, at, &length);
+
+        if (error == 0 && length != 0) {
+            error = seryugo_may_reach(at - from + length) ? seryugo_write_at(other, opening->chunk, length, at - from) : EFBIG;
+        }
+        if (error != 0 || length == 0) {
+            return error == 0 ? EIO : error;
+        }
+        at += length;
+    }
+    return fsync(other) == 0 && fsync(opening->folder) == 0 ? 0 : errno;
+}
+
+/* Saves what is cut off in a file that didn't exist, on the disk before the cut. */
+static uint32_t save(struct seryugo_opening *opening, uint64_t end)
+{
+    struct seryugo_file_found *found = opening->found;
+    int other = -1, error;
+    struct stat mine;
+
+    for (int number = 1; other < 0 && number < 10000; number++) {
+        if (snprintf(found->saved, sizeof found->saved, "%s.cut-%d", opening->name, number) >= (int)sizeof found->saved) {
+            errno = ENAMETOOLONG;
+            break;
+        }
+        other = openat(opening->folder, found->saved, O_WRONLY | O_CREAT | O_EXCL | O_CLOEXEC, 0600);
+        if (other < 0 && errno != EEXIST && errno != EINTR) {
+            break;
+        }
+    }
+    error = other < 0 ? errno : copy_to(opening, other, found->kept, end);
+    if (error == 0 && fstat(opening->descriptor, &mine) == 0) {
+        (void)fchmod(other, mine.st_mode & 07777);
+    }
+    if (other >= 0) {
+        close(other);
+        if (error != 0) {
+            unlinkat(opening->folder, found->saved, 0);
+        }
+    }
+    if (error != 0) {
+        found->saved[0] = 0;
+        return fails(opening, "save what is cut off", error);
+    }
+    return SERYUGO_DONE;
+}
+
+/* ---- the opening's steps ---- */
+
+/* Writes kept bytes again as they are, and then the new lines: an earlier sync may have failed, and left bytes in memory alone. */
+static int write_again(struct seryugo_opening *opening, const struct seryugo_step *step)
+{
+    uint64_t kept = opening->found->kept;
+    size_t length = 0;
+
+    for (uint64_t at = step->from; at < kept; at += length) {
+        size_t part = kept - at < CHUNK ? (size_t)(kept - at) : CHUNK;
+        int error = seryugo_read_at(opening->descriptor, opening->chunk, part, at, &length);
+
+        if (error != 0 || length == 0) {
+            return error == 0 ? EIO : error;
+        }
+        error = seryugo_may_reach(at + length) ? seryugo_write_at(opening->descriptor, opening->chunk, length, at) : EFBIG;
+        if (error != 0) {
+            return error;
+        }
+    }
+    if (opening->more_length != 0 && !seryugo_may_reach(step->to)) {
+        return EFBIG;
+    }
+    return seryugo_write_at(opening->descriptor, opening->more, opening->more_length, kept);
+}
+
+static int do_step(struct seryugo_opening *opening, const struct seryugo_step *step)
+{
+    int failure = 0;
+
+    switch (step->kind) {
+    case SERYUGO_STEP_CUT:
+        do {
+            failure = ftruncate(opening->descriptor, (off_t)step->from);
+        } while (failure != 0 && errno == EINTR);
+        break;
+    case SERYUGO_STEP_STORE:
+        return write_again(opening, step);
+    case SERYUGO_STEP_SYNC:
+        failure = fsync(opening->descriptor);
+        break;
+    default:
+        failure = fsync(opening->folder);
+        break;
+    }
+    return failure == 0 ? 0 : errno;
+}
+
+/* Cuts, writes again, syncs, and syncs the folder. Only then the file is open. */
+static uint32_t mend(struct seryugo_opening *opening, struct seryugo_store *store)
+{
+    static const char *const words[] = {"", "cut the file", "", "write the file", "sync the file", "sync the folder"};
+    struct seryugo_step step;
+
+    seryugo_store_open(store, opening->length, opening->found->kept, opening->more_length);
+    while (seryugo_store_begin(store, SERYUGO_STEP_NOTHING, 0, &step)) {
+        int error = do_step(opening, &step);
+
+        seryugo_store_end(store, step.kind, error == 0, step.to);
+        if (error != 0) {
+            return fails(opening, words[step.kind], error);
+        }
+    }
+    return SERYUGO_DONE;
+}
+
+/* ---- all of it ---- */
+
+/* A store into memory needs room that the system keeps free for it: ext4 and xfs do so. */
+static bool may_be_mapped(const struct seryugo_opening *opening, const struct seryugo_file_options *options)
+{
+    struct statfs system;
+
+    if ((options->flags & SERYUGO_FILE_BY_WRITES) != 0 || fstatfs(opening->descriptor, &system) != 0) {
+        return false;
+    }
+    return (uint64_t)system.f_type == EXT4_MAGIC || (uint64_t)system.f_type == XFS_MAGIC;
+}
+
+/* Reads and judges the text, and makes a room of it. The file is as it was. */
+static uint32_t restore(struct seryugo_opening *opening, uint64_t *end)
+{
+    uint32_t code;
+
+    opening->chunk = (char *)malloc(CHUNK + 1);
+    code = opening->chunk == NULL ? (uint32_t)SERYUGO_NO_MEMORY : seryugo_open_reading(opening->messages, &opening->reading);
+    if (code != SERYUGO_DONE) {
+        return seryugo_refuse(opening, code, "no memory", 0);
+    }
+    opening->has_reading = true;
+    code = read_text(opening);
+    if (code == SERYUGO_DONE) {
+        code = find_end(opening, end);
+    }
+    if (code != SERYUGO_DONE) {
+        return code;
+    }
+    code = seryugo_reading_end(&opening->reading);
+    if (is_blank(opening, *end) || (code != SERYUGO_DONE && code != SERYUGO_TEXT_OPEN && code != SERYUGO_TORN)) {
+        return refuse_text(opening, SERYUGO_NO_JOURNAL, false);
+    }
+    count(opening);
+    code = prepare_more(opening);
+    if (code == SERYUGO_DONE) {
+        code = seryugo_room_restore(&opening->reading, opening->limit, &opening->room);
+        opening->has_room = code == SERYUGO_DONE;
+        code = opening->has_room ? code : seryugo_refuse(opening, code, "no room can be made of the journal", 0);
+    }
+    return code;
+}
+
+/* Makes the handle, and starts its helper. */
+static uint32_t start(struct seryugo_opening *opening, const struct seryugo_file_options *options, const struct seryugo_store *store,
+                      struct seryugo_file **file)
+{
+    struct seryugo_file *made = seryugo_file_new(opening->descriptor, may_be_mapped(opening, options), opening->messages, opening->limit);
+    uint64_t segment = options->segment == 0 ? DEFAULT_SEGMENT : options->segment;
+
+    if (made == NULL) {
+        return seryugo_refuse(opening, SERYUGO_NO_MEMORY, "no memory", 0);
+    }
+    made->store = *store;
+    made->stored = store->stored;
+    made->bound = store->stored;
+    made->next = opening->found->entries;
+    made->cut_next = made->next;
+    made->cut_stored = made->stored;
+    made->segment = (segment + SERYUGO_PAGE - 1) / SERYUGO_PAGE * SERYUGO_PAGE;
+    made->view_size = 16 * made->segment + 2 * made->margin / SERYUGO_PAGE * SERYUGO_PAGE;
+    made->period = options->sync_milliseconds;
+    made->is_asked = true;
+    atomic_store(&made->told, store->stored);
+    atomic_store(&made->synced, store->synced);
+    atomic_store(&made->grown, store->grown);
+    if (seryugo_file_start_helper(made) != 0) {
+        seryugo_file_free(made);
+        return seryugo_refuse(opening, SERYUGO_NO_MEMORY, "no thread can be started", EAGAIN);
+    }
+    seryugo_file_list(made);
+    *file = made;
+    return SERYUGO_DONE;
+}
+
+static uint32_t open_all(struct seryugo_opening *opening, const struct seryugo_file_options *options, struct seryugo_file **file)
+{
+    struct seryugo_store store;
+    uint64_t end = 0;
+    uint32_t code = seryugo_find_folder(opening);
+
+    if (code == SERYUGO_DONE) {
+        code = seryugo_find_file(opening);
+    }
+    if (code == SERYUGO_DONE) {
+        code = restore(opening, &end);
+    }
+    if (code != SERYUGO_DONE) {
+        return code;
+    }
+    opening->found->cut_off = end < opening->found->kept ? 0 : end - opening->found->kept;
+    if (opening->found->cut_off > SERYUGO_LINE_MOST) {
+        code = save(opening, end);
+    }
+    if (code == SERYUGO_DONE) {
+        code = mend(opening, &store);
+    }
+    return code == SERYUGO_DONE ? start(opening, options, &store, file) : code;
+}
+
+/* Frees what an opening has. What it gave away it doesn't have any more. */
+static void free_opening(struct seryugo_opening *opening)
+{
+    if (opening->has_reading) {
+        seryugo_close(opening->reading);
+    }
+    if (opening->has_room) {
+        seryugo_close(opening->room);
+    }
+    if (opening->descriptor >= 0) {
+        close(opening->descriptor);
+    }
+    if (opening->folder >= 0) {
+        close(opening->folder);
+    }
+    free(opening->chunk);
+}
+
+uint32_t seryugo_file_open(const char *path, uint32_t messages, uint64_t limit, const struct seryugo_file_options *options,
+                           struct seryugo *room, struct seryugo_file_found *found, struct seryugo_file **file)
+{
+    static const struct seryugo_file_options each_second = {1000, 0, 0};
+    struct seryugo_file_found unwanted;
+    struct seryugo_opening opening;
+    int state = 0;
+    uint32_t code;
+
+    found = found == NULL ? &unwanted : found;
+    memset(found, 0, sizeof *found);
+    memset(&opening, 0, sizeof opening);
+    opening.path = path;
+    opening.messages = messages;
+    opening.limit = limit;
+    opening.found = found;
+    opening.folder = opening.descriptor = -1;
+    if (messages > SERYUGO_BYTES || limit == 0 || limit > LIMIT_MOST) {
+        return seryugo_refuse(&opening, SERYUGO_OUT_OF_BOUNDS, "no such messages or limit", 0);
+    }
+    pthread_setcancelstate(PTHREAD_CANCEL_DISABLE, &state);
+    code = open_all(&opening, options == NULL ? &each_second : options, file);
+    if (code == SERYUGO_DONE) {
+        *room = opening.room;
+        opening.has_room = false;
+        opening.descriptor = -1;
+    }
+    free_opening(&opening);
+    pthread_setcancelstate(state, &state);
+    return code;
+}
