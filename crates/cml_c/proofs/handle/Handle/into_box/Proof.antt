@@ -1,6 +1,6 @@
 -- `into_box` says again what lies there.
 use Rattle.cml_log.proofs.WalksLemmas.{List, [], ◌∷◌, ◌++◌, ◌≡◌, refl, sym, ap, subst, raw, ‵, ◌⊛◌, some, later, at_ret, ◌$◌, ◌∵◌}
-use Rattle.cml_log.proofs.WalksLemmas.{!, qed, by, keep, move, drop, split, split3, join, fsplit, fjoin, pick, use0, use1, await}
+use Rattle.cml_log.proofs.WalksLemmas.{ !, qed, by, keep, move, drop, split, split3, join, fsplit, fjoin, pick, use0, use1, await}
 use Rattle.cml_log.proofs.WalksLemmas.{rewrite, feq_i, suffices, ent, id⊢, emp, ftrue, flft, fact, fact_i, SProp, WpFn, Val, vptr, owns}
 use Rattle.cml_log.proofs.WalksLemmas.{types_at, enter, alloc_all, pass_all, free_all, look_at, get, get_in, sets, lands_last, of_opd}
 use Rattle.cml_log.proofs.WalksLemmas.{fld, stop, sub, whole, no_more, and_then, first, blocks, exec, env, tail, returns, nothing}
