@@ -1,7 +1,8 @@
 #!/bin/sh
-# Installs the library for C and all that calls C: `sh bindings/install.sh PREFIX`. It writes PREFIX/include/seryugo.h and
-# PREFIX/include/seryugo_switchboard.h, and in PREFIX/lib the static library, the shared library, and pkgconfig/seryugo.pc. A program is then built by
-# `cc program.c $(pkg-config --cflags --libs seryugo)`, with PREFIX/lib/pkgconfig in PKG_CONFIG_PATH.
+# Installs the library for C and all that calls C: `sh bindings/install.sh PREFIX`. It writes the headers into PREFIX/include, and into
+# PREFIX/lib the static library, the shared library, and pkgconfig/seryugo.pc. A program is then built by
+# `cc program.c $(pkg-config --cflags --libs seryugo)`, with PREFIX/lib/pkgconfig in PKG_CONFIG_PATH. The part of the library that keeps a
+# journal in a file is in C (lib/): this script compiles it.
 #
 # It needs the archive that `(cd crates/cml_c && rt lib)` proves and writes. SERYUGO_ARCHIVE names another. If the archive of
 # `crates/cml_script_c` is there, or SERYUGO_SCRIPT_ARCHIVE names it, the library seryugo_script is installed too. SERYUGO_KIT
@@ -34,13 +35,30 @@ which proves and writes it, or name another one by SERYUGO_ARCHIVE"
 [ -n "$heap" ] || fail "there is no archive liblibc_c.a of the kit. Install the kit, whose command is rt, or name its folder c by \
 SERYUGO_KIT"
 command -v ar > /dev/null && command -v nm > /dev/null || fail 'there is no ar, or no nm. Install binutils'
+command -v "${CC:-cc}" > /dev/null || fail 'there is no C compiler'
 work=$(mktemp -d)
 trap 'rm -rf "$work"' EXIT
 version=$(sed -n 's/^#define SERYUGO_VERSION "\(.*\)"$/\1/p' include/seryugo.h)
 major=${version%%.*}
 
-# functions HEADER: the functions that a program calls in the library, and not in the header alone.
-functions() { sed -n 's/^[a-z][a-z0-9_]* \(seryugo_[a-z0-9_]*\)(.*/\1/p' "include/$1.h" | sort; }
+# headers NAME: those of this library.
+headers() {
+    echo "include/$1.h"
+    [ "$1" != seryugo ] || echo include/seryugo_file.h
+}
+
+# functions NAME: the functions that a program calls in the library, and not in its headers alone.
+functions() { headers "$1" | xargs sed -En 's/^([a-z][a-z0-9_]* |const char \*)(seryugo_[a-z0-9_]*)\(.*/\2/p' | sort; }
+
+# compiled NAME: the part of this library that is in C, as object files.
+compiled() {
+    [ "$1" = seryugo ] || return 0
+    for source in lib/*.c; do
+        object=$work/file_$(basename "$source" .c).o
+        "${CC:-cc}" -std=gnu11 -O2 -fPIC -pthread -I include -c "$source" -o "$object"
+        echo "addmod $(basename "$object")"
+    done
+}
 
 # exported LISTING: the functions of a listing by nm.
 exported() { sed -n 's/.* T \(seryugo_[a-z0-9_]*\)$/\1/p' "$1" | sort; }
@@ -53,14 +71,15 @@ put() {
     chmod "$1" "$prefix/$3/$(basename "$2")"
 }
 
-# static_library NAME ARCHIVE: one archive of both.
+# static_library NAME ARCHIVE: one archive of all parts.
 static_library() {
     cp "$2" "$work/library.a"
     cp "$heap" "$work/heap.a"
+    compiled "$1" > "$work/$1.modules"
     (
         cd "$work"
         rm -f "lib$1.a"
-        printf 'create lib%s.a\naddlib library.a\naddlib heap.a\nsave\nend\n' "$1" | ar -M
+        { printf 'create lib%s.a\naddlib library.a\naddlib heap.a\n' "$1"; cat "$1.modules"; printf 'save\nend\n'; } | ar -M
         nm -g "lib$1.a" > "$1.has"
     )
     functions "$1" > "$work/$1.header"
@@ -95,17 +114,13 @@ END
 library() {
     static_library "$1" "$2"
     described "$1" "$3" > "$work/$1.pc"
-    without=", without lib$1.so: there is no C compiler"
-    if command -v "${CC:-cc}" > /dev/null; then
-        shared_library "$1"
-        put 755 "$work/lib$1.so.$major" lib
-        ln -sf "lib$1.so.$major" "$prefix/lib/lib$1.so"
-        without=
-    fi
-    put 644 "include/$1.h" include
+    shared_library "$1"
+    put 755 "$work/lib$1.so.$major" lib
+    ln -sf "lib$1.so.$major" "$prefix/lib/lib$1.so"
+    for header in $(headers "$1"); do put 644 "$header" include; done
     put 644 "$work/lib$1.a" lib
     put 644 "$work/$1.pc" lib/pkgconfig
-    echo "installed $1 $version in $prefix$without"
+    echo "installed $1 $version in $prefix"
 }
 
 library seryugo "$rooms" 'Mailboxes, channels and variables for threads, proved'

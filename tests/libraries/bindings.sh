@@ -11,9 +11,15 @@ replay=$(absolute "$2")
 cd "$top" || exit 1
 kit=$(dirname "$(rt doc)")/c
 
+# The part of the library that is in C.
+keeps_files() {
+    mkdir "$work/library" && (cd "$work/library" && cc -std=gnu11 -O2 -Wall -Wextra -Werror -pthread -I "$top/include" -c "$top"/lib/*.c) &&
+        ar rc "$work/library.a" "$work"/library/*.o
+}
+
 # compile PROGRAM ARCHIVE
 compile() {
-    cc -O2 -Wall -Wextra -Werror -pthread -I include -o "$work/$1" "$(c_source "$1")" "$2" "$kit/liblibc_c.a"
+    cc -O2 -Wall -Wextra -Werror -pthread -I include -o "$work/$1" "$(c_source "$1")" "$work/library.a" "$2" "$kit/liblibc_c.a"
 }
 
 # What the program in C does with a script is what cml does with it.
@@ -84,7 +90,7 @@ sanitized() {
     program=$2
     shift 2
     cc -g -O1 "-fsanitize=$kind" -fno-sanitize-recover=undefined -Wall -Wextra -pthread -I include \
-        -o "$work/sanitized" "$(c_source "$program")" "$rooms" "$kit/liblibc_c.a" || return
+        -o "$work/sanitized" "$(c_source "$program")" lib/*.c "$rooms" "$kit/liblibc_c.a" || return
     bounded env ASAN_OPTIONS=use_sigaltstack=0 "$work/sanitized" "$@"
 }
 
@@ -122,7 +128,18 @@ refusals_from_c() {
     [ -x "$work/requests" ] && check 'the same with threads that try again' refuse_each_again
 }
 
+# A journal in a file: each refusal and trap, and a program that is killed thirty times.
+files_from_c() {
+    mkdir "$work/files"
+    check 'a program in C that keeps a file is built' compile file "$rooms"
+    [ -x "$work/file" ] && check 'a journal in a file' bounded "$work/file" "$work/files"
+    check 'a program in C that is killed is built' compile kills "$rooms"
+    [ -x "$work/kills" ] && check 'thirty kills' bounded env SERYUGO_TRY="$work" sh tests/c/kills.sh "$work/kills" 30
+}
+
 rooms_from_c() {
+    check 'the part of the library in C is built' keeps_files
+    files_from_c
     for program in calls messages keep sealed compact full threads requests switchboard; do
         check "a program in C of rooms is built: $program" compile $program "$rooms"
         [ -x "$work/$program" ] && check "rooms from C: $program" bounded "$work/$program"
