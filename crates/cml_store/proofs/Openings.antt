@@ -120,17 +120,20 @@ module _ (limit : ℕ) (whole : List ℕ → Bool) where
         → Holds limit whole (record { store = opened whole front limit growth c; disk = disk; text = text; stored = stored; synced = synced })
     opens text stored synced disk c m lasts seen next sp = opens_by (front (printed c)) text stored synced disk c m lasts seen next sp
 
+    nothing : (c : List ℕ) → c ≡ [] → Spotty 0 0 [] c
+    nothing c is = subst (λ x. Spotty 0 0 [] x) (sym is) (nothing_left 0 [])
+
     pub begins_well : Holds limit whole (fresh whole front limit growth)
-    begins_well = opens [] 0 0 (record { kept = []; calls = []; seen = []; next = []; mark = []; since = []; named = false; failing = false }) [] (record {
-      is_printed = tt;
-      order = omega arith;
-      within = omega arith;
-      whole_synced = none;
-      whole_stored = none;
-      whole_all = none;
-      near = omega arith;
-    }) (λ c may. ⊎_elim (λ (left : c ≡ []). nothing c left) (λ (gone : (false ≡ false) × (c ≡ [])). nothing c gone.1) may)
-    (nothing_left 0 []) (nothing_left 0 []) (nothing_left 0 [])
-      where
-        nothing : (c : List ℕ) → c ≡ [] → Spotty 0 0 [] c
-        nothing c is = subst (λ x. Spotty 0 0 [] x) (sym is) (nothing_left 0 [])
+    begins_well =
+        let marks : Marks limit whole [] 0 0 = record {
+          is_printed = tt;
+          order = omega arith;
+          within = omega arith;
+          whole_synced = none;
+          whole_stored = none;
+          whole_all = none;
+          near = omega arith;
+        } in
+        opens [] 0 0 (record { kept = []; calls = []; seen = []; next = []; mark = []; since = []; named = false; failing = false }) [] marks
+        (λ c may. ⊎_elim (λ (left : c ≡ []). nothing c left) (λ (gone : (false ≡ false) × (c ≡ [])). nothing c gone.1) may)
+        (nothing_left 0 []) (nothing_left 0 []) (nothing_left 0 [])

@@ -18,9 +18,9 @@ use Rattle.cml_store.proofs.Endings.{store_ends, sync_ends}
 use Rattle.cml_store.proofs.Openings.{forgets_more, opens}
 
 -- a mark stays, and so does the text before it
-pub record Stays (mark now : ℕ) (text later : List ℕ) : Type 0 where
+pub record Stays (mark now : ℕ) (old new : List ℕ) : Type 0 where
   pub later : mark ≤ now
-  pub same : take mark later ≡ take mark text
+  pub same : take mark new ≡ take mark old
 
 still : (mark : ℕ) (text : List ℕ) → Stays mark mark text text
 still mark text = record { later = omega arith; same = refl }
