@@ -106,7 +106,7 @@ Name: $1
 Description: $2
 Version: $version
 Cflags: -I\${includedir}
-Libs: -L\${libdir} -Wl,-rpath,\${libdir} -l$1
+Libs: -L\${libdir} -Wl,-rpath,\${libdir} -l$1 -pthread
 END
 }
 

@@ -55,10 +55,11 @@ same_version() {
         grep -qx "Version: $version" "$prefix/lib/pkgconfig/seryugo.pc"
 }
 
-# The shared library has the functions of the header to be seen, and nothing else.
+# The shared library has the functions of the headers to be seen, and nothing else.
 exports_the_header() {
     nm -D --defined-only "$prefix/lib/libseryugo.so" | sed 's/.* //' | sort > "$work/exported"
-    sed -n 's/^[a-z][a-z0-9_]* \(seryugo_[a-z0-9_]*\)(.*/\1/p' include/seryugo.h | sort > "$work/wanted"
+    sed -En 's/^([a-z][a-z0-9_]* |const char \*)(seryugo_[a-z0-9_]*)\(.*/\2/p' include/seryugo.h include/seryugo_file.h |
+        sort > "$work/wanted"
     [ -s "$work/wanted" ] && diff "$work/wanted" "$work/exported"
 }
 
@@ -151,7 +152,7 @@ replays() {
 }
 
 from_c() {
-    for program in calls threads requests switchboard; do
+    for program in calls threads requests switchboard durable; do
         check "with the shared library: $program" built $program
         check "with the static library: $program" built $program -static
     done
