@@ -12,7 +12,7 @@ work=$(mktemp -d "${SERYUGO_TRY:-.}/faults.XXXXXX")
 trap 'rm -rf "$work"' EXIT
 
 # text FILE: its text, up to the first byte 0 and the last line end.
-text() { tr '\0' '\n' < "$1" | awk '$0 == "" { exit } { print }'; }
+text() { { cat "$1"; printf '\0'; } | tr '\0\n' '\n\0' | head -n 1 | tr '\0\n' '\n\0' | sed '$d'; }
 
 fail() {
     echo "tests/c/faults.sh: $fault, $base, $way: $1" >&2

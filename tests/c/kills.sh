@@ -17,8 +17,8 @@ random() {
     drawn=$((seed / 65536 % $1))
 }
 
-# text FILE: its text, up to the first byte 0 and the last line end. A torn line has no reply, or one that no run printed.
-text() { tr '\0' '\n' < "$1" | awk '$0 == "" { exit } { print }'; }
+# text FILE: its text, up to the first byte 0 and the last line end.
+text() { { cat "$1"; printf '\0'; } | tr '\0\n' '\n\0' | head -n 1 | tr '\0\n' '\n\0' | sed '$d'; }
 
 told=0
 again=0
