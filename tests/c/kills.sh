@@ -1,7 +1,7 @@
 #!/bin/sh
 # Kills a program of four threads at random moments: `sh tests/c/kills.sh PROGRAM N [SEED]`, where PROGRAM is built of kills.c. After each kill the
 # journal has all that the program printed, each once, and the next run goes on from it. The file grows by one page, by sixteen, or by
-# megabytes; lines are mapped or written; messages are numbers or bytes. Each fifth run begins a new file.
+# megabytes; lines are mapped or written; messages are numbers or bytes. Each third run begins a new file.
 set -e
 program=$1
 many=$2
@@ -17,8 +17,8 @@ random() {
     drawn=$((seed / 65536 % $1))
 }
 
-# text FILE: its text, up to the first byte 0 and the last line end. A torn line has no reply, or one that no run printed.
-text() { tr '\0' '\n' < "$1" | awk '$0 == "" { exit } { print }'; }
+# text FILE: its text, up to the first byte 0 and the last line end.
+text() { { cat "$1"; printf '\0'; } | tr '\0\n' '\n\0' | head -n 1 | tr '\0\n' '\n\0' | sed '$d'; }
 
 told=0
 again=0
@@ -27,7 +27,7 @@ early=0
 grown=0
 run=1
 while [ "$run" -le "$many" ]; do
-    if [ $((run % 5)) -eq 1 ]; then
+    if [ $((run % 3)) -eq 1 ]; then
         file=$work/$run.journal
         random 2 && kind=$([ "$drawn" -eq 0 ] || echo bytes)
         : > "$work/all"
@@ -40,7 +40,7 @@ while [ "$run" -le "$many" ]; do
     pid=$!
     # Each eighth is killed while it opens the file, or soon after.
     [ $((run % 8)) -eq 0 ] || until grep -q opened "$work/error" || ! kill -0 "$pid" 2> "$work/wait"; do sleep 0.01; done
-    random 100
+    random 60
     sleep "0.$(printf %03d $((drawn + 1)))"
     kill -9 "$pid"
     status=0
