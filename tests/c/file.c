@@ -461,17 +461,19 @@ static void meet_a_fork(void)
 /* A child that lives longer than its parent doesn't keep the file from the next program. */
 static void meet_a_child_that_lives_on(void)
 {
-    int there[2];
-    char byte;
+    int there[2], begun[2];
+    char byte = 0;
     pid_t child;
 
     RETURNS(DONE, open_numbers("forked"));
-    HAS(pipe(there) == 0);
+    HAS(pipe(there) == 0 && pipe(begun) == 0);
     child = fork();
     if (child == 0) {
         close(there[1]);
-        _exit(read(there[0], &byte, 1) == 0 ? 0 : 1);
+        _exit(write(begun[1], &byte, 1) == 1 && read(there[0], &byte, 1) == 0 ? 0 : 1);
     }
+    /* As it begins, the child closes what it has of the file. */
+    HAS(read(begun[0], &byte, 1) == 1);
     RETURNS(DONE, seryugo_file_close(file));
     file = NULL;
     close_one(&has_room, room);
@@ -479,6 +481,8 @@ static void meet_a_child_that_lives_on(void)
     free_all();
     close(there[0]);
     close(there[1]);
+    close(begun[0]);
+    close(begun[1]);
     waitpid(child, NULL, 0);
     unlink("forked");
 }
