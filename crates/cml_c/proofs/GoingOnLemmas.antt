@@ -5,15 +5,14 @@ use Rattle.std.specs.declared.alloc.Global.{Global}
 use Rattle.std_alloc.specs.Box.{with_value}
 use Rattle.cml_board.specs.{RestoredShown}
 use Rattle.cml_journal.specs.{Halt, Progress, IsSoFar, IsRestored}
-use Rattle.cml_room.specs.{RoomShown}
 use Rattle.cml_c.specs.declared.code.Code.TheVariants.{Unlawful}
-use Rattle.cml_c.specs.{Slot, Owned, Resource, number, IsLimit, Writes, IsRoomOn, OpensOn, RestoresBy, left_stopped, told_stopped}
+use Rattle.cml_c.specs.{Slot, Owned, Resource, RoomWithSpare, number, IsLimit, Writes, IsRoomOn, OpensOn, RestoresBy, left_stopped, told_stopped}
 use Rattle.cml_c.specs.declared.owned.Resource.TheVariants.{Room, JournalCheck, Spent}
 
 -- a handle to a room on this board is written
 pub opens_on : {M : Type 0} (wrap : Resource M → Owned) (restored : RestoredShown M) (from to : Slot) (told : ℕ)
-    (owned : Owned) (room : Box (RoomShown M) Global)
-    → IsRoomOn restored room.value → owned ≡ wrap (Room room) → Writes owned told from to → OpensOn wrap restored from to told
+    (owned : Owned) (room : Box (RoomWithSpare M) Global)
+    → IsRoomOn restored room.value.room → owned ≡ wrap (Room room) → Writes owned told from to → OpensOn wrap restored from to told
 opens_on wrap restored from to told owned room on is (inl written) = inl (record {
   done = written.0;
   opened = room;

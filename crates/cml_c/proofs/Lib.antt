@@ -1,4 +1,5 @@
 mod HandleBoxLemmas
+mod KeeperBoxLemmas
 mod GoingOnLemmas
 mod ShorteningLemmas
 mod RoomShorteningLemmas

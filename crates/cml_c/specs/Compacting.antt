@@ -10,11 +10,11 @@ use Rattle.cml_c.specs.declared.code.Code.{Code}
 use Rattle.cml_c.specs.declared.code.Code.TheVariants.{Done, NoMemory, JournalFull}
 use Rattle.cml_c.specs.declared.handle.Slot.{Slot}
 use Rattle.cml_c.specs.declared.owned.Owned.{Owned}
-use Rattle.cml_c.specs.declared.owned.Owned.TheVariants.{Numbers, Bytes'}
+use Rattle.cml_c.specs.declared.owned.Owned.TheVariants.{Numbers, Bytes}
 use Rattle.cml_c.specs.declared.owned.Resource.{Resource}
 use Rattle.cml_c.specs.declared.owned.Resource.TheVariants.{Journal, JournalCheck, Spent}
 use Rattle.cml_c.specs.Codes.{number}
-use Rattle.cml_c.specs.Handles.{IsWrong, of_bytes}
+use Rattle.cml_c.specs.Handles.{IsWrong}
 use Rattle.cml_c.specs.Restoring.{HasStopped, OpensNone}
 
 -- a handle to a journal of such entries is written, with how many they are
@@ -59,8 +59,8 @@ module _ {M : Type 0} (version : ℕ) (meaning : List ℕ → Option M) where
 abbrev pub ShortensKept : Slot → Slot → ℕ → ℕ → ℕ → Owned → Owned → Type 0
 ShortensKept from to before after told (Numbers old) new = (left : Resource ℕ) × (new ≡ Numbers left)
     × Shortens 1 number_of Numbers from to before after told old left
-ShortensKept from to before after told (Bytes' old spare) new = (left : Resource (List ℕ)) × (new ≡ Bytes' left spare)
-    × Shortens 2 message_of_word of_bytes from to before after told old left
+ShortensKept from to before after told (Bytes old) new = (left : Resource (List ℕ)) × (new ≡ Bytes left)
+    × Shortens 2 message_of_word Bytes from to before after told old left
 
 module _ {M : Type 0} where
   -- the room shows the same, and its lanes, feeds and seats are unchanged

@@ -85,7 +85,7 @@ count_of None = 0
 -- a handle to this entry is written, with all that isn't bytes, and how many these are
 pub record IsShown (entry : Entry (List ℕ)) (to : SeryugoBytesEntry) : Type 0 where
   pub owner : Box (Entry (List ℕ)) Global
-  pub owns : to.owner.owned ≡ Some (owned.Bytes (resource.Entry owner) None)
+  pub owns : to.owner.owned ≡ Some (owned.Bytes (resource.Entry owner))
   pub shows : owner.value ≡ entry
   pub maker : to.maker ≡ maker_of entry.who
   pub call : to.call.kind ≡ call_kind entry.call

@@ -28,7 +28,7 @@ pub use Version.{number_of_version}
 pub use Owning.{owned_coded, slot_coded}
 pub use Lending.{with_owned}
 pub use Codes.{number, of_refusal, written_count}
-pub use Handles.{OnBoth, OnBytes, OnChecker, OnAnyMessages, OnAnyOwned, OnFeed, OnJournal, OnNumbers, OnReading, OnRoom, of_bytes}
+pub use Handles.{OnBoth, OnBytes, OnChecker, OnAnyMessages, OnAnyOwned, OnFeed, OnJournal, OnNumbers, OnReading, OnRoom}
 pub use Asking.{Calls, CallsPlain, Makes, MayMake, MayWant, Names, NamesNothing, chunk, named_outcome, sending_call, told_reply}
 pub use Asking.{written_outcome}
 pub use Needing.{HoldsLong, IsGiven, IsOwed, IsShortReply, IsShortResponse, IsThere, MayBeLong, NeedsBlock, WouldGive}
@@ -58,5 +58,7 @@ pub use Restoring.{IsRoomOn, OpensOn, Restores, RestoresBy, RestoresKept, left_h
 pub use Compacting.{CompactsNone, CompactsRoom, CutsShortRoom, IsNotShort, IsShortOf, LeavesShort, MakesShort, Shortens, ShortensBy, ShortensKept}
 pub use Compacting.{ShowsSameRoom, WritesShort, WritesTaken}
 pub use declared.handle.Slot.{Slot}
+pub use declared.keeper.Held.{Held}
 pub use declared.owned.Owned.{Owned}
 pub use declared.owned.Resource.{Resource}
+pub use declared.owned.RoomWithSpare.{RoomWithSpare}

@@ -8,10 +8,9 @@ use Rattle.cml_room.specs.{RoomShown}
 use Rattle.cml_board.specs.declared.outcome.Outcome.TheVariants as outcome
 use Rattle.cml_c.specs.declared.code.Code.TheVariants.{Done, Nothing, NoSuch, NoMemory, OutOfBounds}
 use Rattle.cml_c.specs.declared.owned.Owned.{Owned}
-use Rattle.cml_c.specs.declared.owned.Resource.TheVariants.{Message}
 use Rattle.cml_c.specs.declared.messages.SeryugoBytes.{SeryugoBytes}
 use Rattle.cml_c.specs.Codes.{number}
-use Rattle.cml_c.specs.Handles.{OnBytes, OnBytesRoom, OnRoom, of_bytes}
+use Rattle.cml_c.specs.Handles.{OnBytes, OnRoom}
 use Rattle.cml_c.specs.Asking.{MayMake, Makes, named_outcome}
 use Rattle.cml_c.specs.Needing.{NeedsBlock, IsShort}
 
@@ -21,7 +20,7 @@ LiesIn message to = IsShort message × (take (length message) to.in_place ≡ me
 
 -- more are kept by what C has
 abbrev pub IsKept : List ℕ → SeryugoBytes → Type 0
-IsKept message to = (78 < length message) × (to.owner.owned ≡ Some (of_bytes (Message message)))
+IsKept message to = (78 < length message) × (to.owner.kept ≡ Some (record { bytes = Some message }))
 
 -- this message is handed over, with how many bytes it has
 pub record IsHanded (message : List ℕ) (to : SeryugoBytes) : Type 0 where
@@ -63,7 +62,7 @@ pub record MakesBytes (again : Bool) (seat : ℕ) (call : Call (List ℕ)) (code
 
 -- a call in a room of bytes, with the content before and after of the place where a message is handed over
 abbrev pub CallsBytes : Bool → ℕ → Call (List ℕ) → Owned → Owned → ℕ → SeryugoBytes → SeryugoBytes → Type 0
-CallsBytes again seat call old new code from to = OnBytesRoom (MakesBytes again seat call code from to) (to ≡ from) code old new
+CallsBytes again seat call old new code from to = OnBytes (OnRoom (MakesBytes again seat call code from to)) (to ≡ from) code old new
 
 -- the bytes were not copied: they are too many, or there is no memory for them
 abbrev pub NotCopied : List ℕ → ℕ → Type 0
@@ -99,4 +98,4 @@ SwapsCopied again seat bytes call code from to old new =
 
 abbrev pub SwapsBytes : Bool → ℕ → List ℕ → Call (List ℕ) → Owned → Owned → ℕ → SeryugoBytes → SeryugoBytes → Type 0
 SwapsBytes again seat bytes call old new code from to =
-    OnBytesRoom (SwapsCopied again seat bytes call code from to) (to ≡ from) code old new
+    OnBytes (OnRoom (SwapsCopied again seat bytes call code from to)) (to ≡ from) code old new

@@ -1,4 +1,4 @@
--- What a call that opens something writes: a handle to a new room, to a new checker or to what else it opens; and when it writes none.
+-- What a call writes that opens a room, a checker or a reading, and when it writes nothing.
 use Rattle.std.specs.Prelude.{ℕ, ◌≡◌, ◌≤◌, ◌^◌, ◌⊎◌, [], Option, Some, None, Ok, Box}
 use Rattle.std.specs.declared.alloc.Global.{Global}
 use Rattle.cml_board.specs.{no_entries}
@@ -10,9 +10,9 @@ use Rattle.cml_c.specs.declared.message_kind.MessageKind.TheVariants as messages
 use Rattle.cml_c.specs.declared.owned.Owned.{Owned}
 use Rattle.cml_c.specs.declared.owned.Owned.TheVariants as owned
 use Rattle.cml_c.specs.declared.owned.Resource.{Resource}
+use Rattle.cml_c.specs.declared.owned.RoomWithSpare.{RoomWithSpare}
 use Rattle.cml_c.specs.declared.owned.Resource.TheVariants.{Room, Checker}
 use Rattle.cml_c.specs.Codes.{number}
-use Rattle.cml_c.specs.Handles.{of_bytes}
 
 -- no kind has such a number, and nothing is opened
 abbrev pub OpensNothing : ℕ → Slot → Slot → Type 0
@@ -46,7 +46,7 @@ pub record WritesNew {X : Type 0} (IsSuch : X → Type 0) (wrap : Box X Global �
 -- the limit is such a one, and a handle to a new room is written, or there is no memory; or it is not, and the slot is as it was
 abbrev pub OpensARoom : {M : Type 0} → (Resource M → Owned) → ℕ → ℕ → Slot → Slot → Type 0
 OpensARoom {M} wrap limit told old new =
-    (IsLimit limit × WritesNew (λ (room : RoomShown M). IsNew limit room) (λ room. wrap (Room room)) told new)
+    (IsLimit limit × WritesNew (λ (room : RoomWithSpare M). IsNew limit room.room) (λ room. wrap (Room room)) told new)
     ⊎ ((told ≡ number NoMemory) × IsLimit limit × (new ≡ old)) ⊎ ((told ≡ number OutOfBounds) × ¬ (IsLimit limit) × (new ≡ old))
 
 -- a handle to a new checker is written; or there is no memory, and the slot is as it was
@@ -57,10 +57,10 @@ OpensAChecker wrap told old new =
 -- the same by the kind of the messages
 abbrev pub OpensRoomOf : Option MessageKind → ℕ → ℕ → Slot → Slot → Type 0
 OpensRoomOf (Some messages.Numbers) limit told old new = OpensARoom owned.Numbers limit told old new
-OpensRoomOf (Some messages.Bytes) limit told old new = OpensARoom of_bytes limit told old new
+OpensRoomOf (Some messages.Bytes) limit told old new = OpensARoom owned.Bytes limit told old new
 OpensRoomOf None limit told old new = OpensNothing told old new
 
 abbrev pub OpensCheckerOf : Option MessageKind → ℕ → Slot → Slot → Type 0
 OpensCheckerOf (Some messages.Numbers) told old new = OpensAChecker owned.Numbers told old new
-OpensCheckerOf (Some messages.Bytes) told old new = OpensAChecker of_bytes told old new
+OpensCheckerOf (Some messages.Bytes) told old new = OpensAChecker owned.Bytes told old new
 OpensCheckerOf None told old new = OpensNothing told old new

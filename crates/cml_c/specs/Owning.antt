@@ -1,5 +1,5 @@
--- What a handle owns: the block of memory in which what it leads to lies. A slot owns that of the handle that was written there, or
--- nothing.
+-- What a handle or a keeper owns: the block of memory in which what it leads to lies; and what a slot or a share owns: that of a
+-- handle or a keeper that was written there, or nothing.
 use Rattle.std.specs.Prelude.{Option, Some, None}
 use base.Fml.{Fml, ftrue}
 use denote.RattleType.{RattleType}

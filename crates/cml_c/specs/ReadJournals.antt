@@ -10,13 +10,13 @@ use Rattle.cml_c.specs.declared.handle.Slot.{Slot}
 use Rattle.cml_c.specs.declared.message_kind.MessageKind.{MessageKind}
 use Rattle.cml_c.specs.declared.message_kind.MessageKind.TheVariants as messages
 use Rattle.cml_c.specs.declared.owned.Owned.{Owned}
-use Rattle.cml_c.specs.declared.owned.Owned.TheVariants.{Numbers, Bytes'}
+use Rattle.cml_c.specs.declared.owned.Owned.TheVariants.{Numbers, Bytes}
 use Rattle.cml_c.specs.declared.owned.Resource.{Resource}
 use Rattle.cml_c.specs.declared.owned.Resource.TheVariants.{JournalCheck}
 use Rattle.cml_c.specs.declared.read_journals.ReadingState.{ReadingState}
 use Rattle.cml_c.specs.declared.read_journals.ReadingState.TheVariants as wanted
 use Rattle.cml_c.specs.Codes.{number}
-use Rattle.cml_c.specs.Handles.{OnReading, of_bytes}
+use Rattle.cml_c.specs.Handles.{OnReading}
 use Rattle.cml_c.specs.Opening.{OpensNothing, WritesNew}
 
 -- the code of what a reading stopped by
@@ -34,7 +34,7 @@ abbrev pub OpensNumbers : ℕ → Slot → Slot → Type 0
 OpensNumbers = OpensAReading 1 number_of Numbers
 
 abbrev pub OpensBytes : ℕ → Slot → Slot → Type 0
-OpensBytes = OpensAReading 2 message_of_word of_bytes
+OpensBytes = OpensAReading 2 message_of_word Bytes
 
 -- the same by the kind of the messages
 abbrev pub OpensReadingOf : Option MessageKind → ℕ → Slot → Slot → Type 0
@@ -62,7 +62,7 @@ pub record Takes {M : Type 0} (version : ℕ) (meaning : List ℕ → Option M) 
 abbrev pub TakesPart : List ℕ → ℕ → Owned → Owned → Type 0
 TakesPart bytes code (Numbers old) new = (left : Resource ℕ) × (new ≡ Numbers left)
     × OnReading (Takes 1 number_of bytes code) ⊤ code old left
-TakesPart bytes code (Bytes' old spare) new = (left : Resource (List ℕ)) × (new ≡ Bytes' left spare)
+TakesPart bytes code (Bytes old) new = (left : Resource (List ℕ)) × (new ≡ Bytes left)
     × OnReading (Takes 2 message_of_word bytes code) ⊤ code old left
 
 -- how many entries are lawful, how many lines have ended, and how many bytes may be kept of the text
@@ -115,7 +115,7 @@ IsTold version meaning wanted.Kept before after code old new = Tells bytes_kept 
 abbrev pub TellsThis : ReadingState → ℕ → ℕ → ℕ → Owned → Owned → Type 0
 TellsThis what before after code (Numbers old) new = (left : Resource ℕ) × (new ≡ Numbers left)
     × OnReading (IsTold 1 number_of what before after code) (after ≡ before) code old left
-TellsThis what before after code (Bytes' old spare) new = (left : Resource (List ℕ)) × (new ≡ Bytes' left spare)
+TellsThis what before after code (Bytes old) new = (left : Resource (List ℕ)) × (new ≡ Bytes left)
     × OnReading (IsTold 2 message_of_word what before after code) (after ≡ before) code old left
 
 abbrev pub TellsState : Option ReadingState → ℕ → ℕ → ℕ → Owned → Owned → Type 0

@@ -10,11 +10,12 @@ use Rattle.cml_c.specs.declared.code.Code.{Code}
 use Rattle.cml_c.specs.declared.code.Code.TheVariants.{NoMemory, OutOfBounds, Unlawful}
 use Rattle.cml_c.specs.declared.handle.Slot.{Slot}
 use Rattle.cml_c.specs.declared.owned.Owned.{Owned}
-use Rattle.cml_c.specs.declared.owned.Owned.TheVariants.{Numbers, Bytes'}
+use Rattle.cml_c.specs.declared.owned.Owned.TheVariants.{Numbers, Bytes}
 use Rattle.cml_c.specs.declared.owned.Resource.{Resource}
+use Rattle.cml_c.specs.declared.owned.RoomWithSpare.{RoomWithSpare}
 use Rattle.cml_c.specs.declared.owned.Resource.TheVariants.{Room, JournalCheck, Spent}
 use Rattle.cml_c.specs.Codes.{number}
-use Rattle.cml_c.specs.Handles.{IsWrong, of_bytes}
+use Rattle.cml_c.specs.Handles.{IsWrong}
 use Rattle.cml_c.specs.Opening.{IsLimit, WritesNew}
 use Rattle.cml_c.specs.ReadJournals.{told_halt}
 
@@ -29,7 +30,7 @@ pub record IsRoomOn {M : Type 0} (restored : RestoredShown M) (room : RoomShown 
 -- a handle to such a room is written; or there is no memory, and the slot is as it was
 abbrev pub OpensOn : {M : Type 0} → (Resource M → Owned) → RestoredShown M → Slot → Slot → ℕ → Type 0
 OpensOn {M} wrap restored from to told =
-    WritesNew (λ (room : RoomShown M). IsRoomOn restored room) (λ room. wrap (Room room)) told to
+    WritesNew (λ (room : RoomWithSpare M). IsRoomOn restored room.room) (λ room. wrap (Room room)) told to
     ⊎ ((told ≡ number NoMemory) × (to ≡ from))
 
 -- what C gets of a reading that has stopped, and what is left of it
@@ -61,7 +62,7 @@ module _ {M : Type 0} (version : ℕ) (meaning : List ℕ → Option M) where
   -- a handle to such a room is written, and the reading is spent
   pub record OpensRoom (wrap : Resource M → Owned) (limit : ℕ) (to : Slot) (reading : Progress M)
       (left : Resource M) (told : ℕ) : Type 0 where
-    pub opened : WritesNew (λ (room : RoomShown M). GoesOn reading limit room) (λ room. wrap (Room room)) told to
+    pub opened : WritesNew (λ (room : RoomWithSpare M). GoesOn reading limit room.room) (λ room. wrap (Room room)) told to
     pub spent : left ≡ Spent
 
   -- the reading has stopped: no bytes were read without a fault and without an unlawful entry
@@ -85,5 +86,5 @@ module _ {M : Type 0} (version : ℕ) (meaning : List ℕ → Option M) where
 abbrev pub RestoresKept : ℕ → Slot → Slot → ℕ → Owned → Owned → Type 0
 RestoresKept limit from to told (Numbers old) new = (left : Resource ℕ) × (new ≡ Numbers left)
     × Restores 1 number_of Numbers limit from to told old left
-RestoresKept limit from to told (Bytes' old spare) new = (left : Resource (List ℕ)) × (new ≡ Bytes' left spare)
-    × Restores 2 message_of_word of_bytes limit from to told old left
+RestoresKept limit from to told (Bytes old) new = (left : Resource (List ℕ)) × (new ≡ Bytes left)
+    × Restores 2 message_of_word Bytes limit from to told old left

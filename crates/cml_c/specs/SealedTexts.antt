@@ -6,7 +6,7 @@ use Rattle.cml_journal.specs.{AreShort, Progress, bytes_text, kept_sum, piece_su
 use Rattle.cml_c.specs.declared.code.Code.TheVariants.{Done, NoMemory, Nothing, OutOfBounds}
 use Rattle.cml_c.specs.declared.code.Code.{Code}
 use Rattle.cml_c.specs.declared.owned.Owned.{Owned}
-use Rattle.cml_c.specs.declared.owned.Owned.TheVariants.{Numbers, Bytes'}
+use Rattle.cml_c.specs.declared.owned.Owned.TheVariants.{Numbers, Bytes}
 use Rattle.cml_c.specs.declared.owned.Resource.{Resource}
 use Rattle.cml_c.specs.declared.messages.SeryugoBytes.{SeryugoBytes}
 use Rattle.cml_c.specs.declared.sealed_texts.SeryugoSum.{SeryugoSum}
@@ -45,7 +45,7 @@ HandsSealedTaken version text at before after from to code old new =
 abbrev pub HandsSealedJournal : ℕ → SeryugoSum → SeryugoSum → SeryugoBytes → SeryugoBytes → ℕ → Owned → Owned → Type 0
 HandsSealedJournal at before after from to code (Numbers old) new = (left : Resource ℕ) × (new ≡ Numbers left)
     × HandsSealedTaken 1 decimal at before after from to code old left
-HandsSealedJournal at before after from to code (Bytes' old spare) new = (left : Resource (List ℕ)) × (new ≡ Bytes' left spare)
+HandsSealedJournal at before after from to code (Bytes old) new = (left : Resource (List ℕ)) × (new ≡ Bytes left)
     × HandsSealedTaken 2 bytes_text at before after from to code old left
 
 -- this sum is written, if there is one

@@ -6,7 +6,7 @@ use Rattle.cml_journal.specs.{AreShort, IsTooLong, bytes_text, text_of, piece_li
 use Rattle.cml_c.specs.declared.code.Code.TheVariants.{Done, NoMemory, OutOfBounds, TooLong}
 use Rattle.cml_c.specs.declared.code.Code.{Code}
 use Rattle.cml_c.specs.declared.owned.Owned.{Owned}
-use Rattle.cml_c.specs.declared.owned.Owned.TheVariants.{Numbers, Bytes'}
+use Rattle.cml_c.specs.declared.owned.Owned.TheVariants.{Numbers, Bytes}
 use Rattle.cml_c.specs.declared.owned.Resource.{Resource}
 use Rattle.cml_c.specs.declared.messages.SeryugoBytes.{SeryugoBytes}
 use Rattle.cml_c.specs.Codes.{number}
@@ -35,5 +35,5 @@ HandsTaken version text at from to code old new = OnJournal (HandsText version t
 -- the same of whichever journal a handle leads to: numbers are written in version 1, as their digits, and bytes in version 2
 abbrev pub HandsJournal : ℕ → SeryugoBytes → SeryugoBytes → ℕ → Owned → Owned → Type 0
 HandsJournal at from to code (Numbers old) new = (left : Resource ℕ) × (new ≡ Numbers left) × HandsTaken 1 decimal at from to code old left
-HandsJournal at from to code (Bytes' old spare) new = (left : Resource (List ℕ)) × (new ≡ Bytes' left spare)
+HandsJournal at from to code (Bytes old) new = (left : Resource (List ℕ)) × (new ≡ Bytes left)
     × HandsTaken 2 bytes_text at from to code old left

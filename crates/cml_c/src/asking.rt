@@ -77,7 +77,7 @@ pub(crate) fn make_call(
 ) -> u32
     ensures { Calls is_again seat call handle.old.owned handle.new.owned result given.old given.new }
 {
-    with_kind!(handle, Numbers(Room(room)) => tell(ask(room, seat, is_again, call), given))
+    with_kind!(handle, Numbers(Room(room)) => tell(ask(&mut room.room, seat, is_again, call), given))
 }
 
 /// Makes a call that gives none.

@@ -6,10 +6,9 @@ ghost use Rattle.cml_c.specs.{CallsBytes, FillsBytes, SwapsBytes};
 
 use crate::bytes_asking::make_call;
 use crate::bytes_sending::{make_nameless_sending_call, make_sending_call, swap};
-use crate::code::Code;
 use crate::handle::Handle;
 use crate::messages::SeryugoBytes;
-use crate::owned::{Owned, Resource};
+use crate::owned::with_kind;
 use crate::sending::Sending;
 use cml_board::{Call, Name};
 use std::alloc::Global;
@@ -176,20 +175,5 @@ pub extern "C" fn seryugo_bytes_swap_from(
     ensures { SwapsBytes is_again seat message.now
         (Swap (record { 0 = variable }) message.now) room.old.owned room.new.owned result held.old held.new }
 {
-    match room.as_mut() {
-        Owned::Bytes(resource, spare) => match resource {
-            Resource::Room(room) => swap(
-                alloc,
-                room,
-                spare,
-                seat,
-                is_again,
-                Name(variable),
-                message,
-                held,
-            ),
-            _ => Code::WrongHandle.number(),
-        },
-        Owned::Numbers(_) => Code::WrongHandle.number(),
-    }
+    with_kind!(room, Bytes(Room(room)) => swap(alloc, room, seat, is_again, Name(variable), message, held))
 }

@@ -8,8 +8,9 @@ use crate::asking::{ask, code_of_reply, code_of_response};
 use crate::blocks::needs_block;
 use crate::code::Code;
 use crate::handle::Handle;
+use crate::keeper::Held;
 use crate::messages::{SeryugoBytes, hand_over, new_block, show_short};
-use crate::owned::{Owned, Resource, RoomOf};
+use crate::owned::{Owned, Resource, RoomOf, RoomWithSpare};
 use cml_board::{Bytes, Call, Reply, Response};
 use std::alloc::{AllocError, Global};
 
@@ -26,14 +27,10 @@ pub(crate) fn make_call(
     ensures { CallsBytes is_again seat call handle.old.owned handle.new.owned result given.old given.new }
 {
     match handle.as_mut() {
-        Owned::Bytes(resource, spare) => match resource {
-            Resource::Room(room) => make_in_room(alloc, room, spare, seat, is_again, call, given),
-            _ => {
-                drop(call);
-                Code::WrongHandle.number()
-            }
-        },
-        Owned::Numbers(_) => {
+        Owned::Bytes(Resource::Room(room)) => make_in_room(
+            alloc, room, seat, is_again, call, given,
+        ),
+        _ => {
             drop(call);
             Code::WrongHandle.number()
         }
@@ -43,21 +40,20 @@ pub(crate) fn make_call(
 #[inline(always)]
 pub(crate) fn make_in_room(
     alloc: Global,
-    room: &mut RoomOf<Bytes>,
-    spare: &mut Option<Box<Owned>>,
+    room: &mut RoomWithSpare<Bytes>,
     seat: u64,
     is_again: bool,
     call: Call<Bytes>,
     given: &mut SeryugoBytes,
 ) -> u32
-    ensures { MakesBytes is_again seat call result given.old given.new room.old room.new }
+    ensures { MakesBytes is_again seat call result given.old given.new room.old.room room.new.room }
 {
     // The memory that keeps a long message is there first, so that none is received without it.
-    if stock(alloc, spare).is_err() {
-        return make_without_block(room, seat, is_again, call, given);
+    if stock(alloc, &mut room.spare).is_err() {
+        return make_without_block(&mut room.room, seat, is_again, call, given);
     }
-    let response = ask(room, seat, is_again, call);
-    tell(spare, response, given)
+    let response = ask(&mut room.room, seat, is_again, call);
+    tell(&mut room.spare, response, given)
 }
 
 /// Makes a call though there is no memory to keep a long message. If the call needs some, nothing is changed.
@@ -80,7 +76,7 @@ fn make_without_block(
 
 /// Sees that there is a spare block.
 #[inline]
-fn stock(alloc: Global, spare: &mut Option<Box<Owned>>) -> Result<(), AllocError>
+fn stock(alloc: Global, spare: &mut Option<Box<Held>>) -> Result<(), AllocError>
     ensures { OnOk result (IsSome spare.new) }
 {
     if spare.is_none() {
@@ -91,7 +87,7 @@ fn stock(alloc: Global, spare: &mut Option<Box<Owned>>) -> Result<(), AllocError
 
 /// The code of what became of a call. A message that the call gave is handed over, a long one in the spare block.
 #[inline(always)]
-fn tell(spare: &mut Option<Box<Owned>>, response: Response<Bytes>, given: &mut SeryugoBytes) -> u32
+fn tell(spare: &mut Option<Box<Held>>, response: Response<Bytes>, given: &mut SeryugoBytes) -> u32
     requires { IsSome spare.old }
     ensures code { (entries : ℕ) (call : Call (List ℕ)) → result ≡ number (told_outcome (outcome_of entries call response)) }
     ensures written { (entries : ℕ) (call : Call (List ℕ)) → HandsOutcome given.old given.new (outcome_of entries call response) }

@@ -84,7 +84,7 @@ fn find(
 fn find_in_room(alloc: Global, room: &mut Handle, at: u64, entry: &mut SeryugoBytesEntry) -> u32
     ensures { OnBytes (OnRoom (FindsBytesIn at result entry.old entry.new)) (entry.new ≡ entry.old) result room.old.owned room.new.owned }
 {
-    with_kind!(room, Bytes(Room(room)) => find_in(alloc, room, at, entry))
+    with_kind!(room, Bytes(Room(room)) => find_in(alloc, &mut room.room, at, entry))
 }
 
 fn find_taken(alloc: Global, journal: &mut Handle, place: u64, entry: &mut SeryugoBytesEntry) -> u32
@@ -129,13 +129,10 @@ fn shown(alloc: Global, entry: &Entry<Bytes>) -> Result<SeryugoBytesEntry, Alloc
         call: entry.call.share(alloc)?,
         reply: share_reply(alloc, &entry.reply)?,
     };
-    let shared = Owned::Bytes(Resource::Entry(Box::new(alloc, shared)?), None);
+    let shared = Owned::Bytes(Resource::Entry(Box::new(alloc, shared)?));
     let mut owner = Handle::new(alloc, shared)?;
     let (call, reply) = match owner.as_mut() {
-        Owned::Bytes(Resource::Entry(kept), _) => (
-            shown_call(&kept.call),
-            shown_reply(&kept.reply),
-        ),
+        Owned::Bytes(Resource::Entry(kept)) => (shown_call(&kept.call), shown_reply(&kept.reply)),
         _ => unreachable!(),
     };
     Ok(SeryugoBytesEntry {

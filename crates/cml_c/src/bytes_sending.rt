@@ -9,7 +9,7 @@ use crate::bytes_asking::make_in_room;
 use crate::code::Code;
 use crate::handle::Handle;
 use crate::messages::{SeryugoBytes, copied};
-use crate::owned::{Owned, RoomOf, with_kind};
+use crate::owned::{RoomOf, RoomWithSpare, with_kind};
 use crate::sending::Sending;
 use cml_board::{Bytes, Call, Name, Want};
 use std::alloc::Global;
@@ -26,7 +26,7 @@ pub(crate) fn make_sending_call(
 ) -> u32
     ensures { FillsBytes seat message.now (sending_call sending message.now) handle.old.owned handle.new.owned result name.old name.new }
 {
-    with_kind!(handle, Bytes(Room(room)) => send_in(alloc, room, seat, sending, message, name))
+    with_kind!(handle, Bytes(Room(room)) => send_in(alloc, &mut room.room, seat, sending, message, name))
 }
 
 /// Copies a message and makes the call that sends it. The call gives no name.
@@ -69,23 +69,22 @@ fn send_in(
 /// Copies a message and makes the call that swaps it for another, and hands that over.
 pub(crate) fn swap(
     alloc: Global,
-    room: &mut RoomOf<Bytes>,
-    spare: &mut Option<Box<Owned>>,
+    room: &mut RoomWithSpare<Bytes>,
     seat: u64,
     is_again: bool,
     variable: Name,
     message: &[u8],
     held: &mut SeryugoBytes,
 ) -> u32
-    ensures { SwapsCopied is_again seat message.now (Swap variable message.now) result held.old held.new room.old room.new }
+    ensures { SwapsCopied is_again seat message.now (Swap variable message.now) result held.old held.new room.old.room room.new.room }
 {
     match copied(alloc, message) {
         Ok(bytes) => {
             let call = Call::Swap(variable, bytes);
-            make_in_room(alloc, room, spare, seat, is_again, call, held)
+            make_in_room(alloc, room, seat, is_again, call, held)
         }
         Err(code) => {
-            if may_make(room, seat, is_again, Some(Want::Swap(variable))) {
+            if may_make(&room.room, seat, is_again, Some(Want::Swap(variable))) {
                 return code.number();
             }
             Code::Gone.number()

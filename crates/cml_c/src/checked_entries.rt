@@ -94,7 +94,7 @@ fn feed_bytes(checker: &mut Owned, entry: Option<Entry<Bytes>>) -> u32
     ensures { OnBytes (OnChecker (FeedsEntry entry result)) ⊤ result checker.old checker.new }
 {
     match checker {
-        Owned::Bytes(Resource::Checker(checker), _) => feed_bytes_to(checker, entry),
+        Owned::Bytes(Resource::Checker(checker)) => feed_bytes_to(checker, entry),
         _ => {
             drop(entry);
             Code::WrongHandle.number()

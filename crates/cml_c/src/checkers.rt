@@ -3,7 +3,7 @@ ghost use Rattle.std.specs.Prelude.{◌≡◌, IfOk, Ok, slice_get, ⊤};
 ghost use Rattle.cml_board.specs.{no_entries};
 ghost use Rattle.cml_c.specs.declared.owned.Owned.TheVariants as owned;
 ghost use Rattle.cml_c.specs.{OpensAChecker, OpensCheckerOf, FeedsIn, FeedsFrom, FeedsTaken, FeedsJournal, TellsVerdict, told_verdict, OnAnyMessages, OnBoth};
-ghost use Rattle.cml_c.specs.{message_kinds, of_bytes};
+ghost use Rattle.cml_c.specs.{message_kinds};
 ghost use Rattle.cml_c.specs.{OnChecker};
 
 use crate::code::Code;
@@ -42,14 +42,10 @@ fn open_numbers(alloc: Global, checker: &mut Slot) -> u32
 }
 
 fn open_bytes(alloc: Global, checker: &mut Slot) -> u32
-    ensures { OpensAChecker of_bytes result checker.old checker.new }
+    ensures { OpensAChecker owned.Bytes result checker.old checker.new }
 {
     match new_checker(alloc) {
-        Ok(opened) => write_handle(
-            alloc,
-            Owned::Bytes(Resource::Checker(opened), None),
-            checker,
-        ),
+        Ok(opened) => write_handle(alloc, Owned::Bytes(Resource::Checker(opened)), checker),
         Err(_) => Code::NoMemory.number(),
     }
 }

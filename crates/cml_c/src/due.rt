@@ -14,7 +14,7 @@ use cml_board::Message;
 pub extern "C" fn seryugo_next_due(room: &mut Handle, seat: &mut u64) -> u32
     ensures { OnAnyMessages (λ M sure. OnRoom (GivesNext result seat.old seat.new)) (seat.new ≡ seat.old) result room.old.owned room.new.owned }
 {
-    on_any_messages!(room, Room(room) => give_next(room, seat))
+    on_any_messages!(room, Room(room) => give_next(&mut room.room, seat))
 }
 
 fn give_next<M: Message>(room: &mut RoomOf<M>, seat: &mut u64) -> u32
@@ -31,7 +31,7 @@ fn give_next<M: Message>(room: &mut RoomOf<M>, seat: &mut u64) -> u32
 pub extern "C" fn seryugo_is_due(room: &mut Handle, seat: u64) -> u32
     ensures { OnAnyMessages (λ M sure. OnRoom (TellsDue seat result)) ⊤ result room.old.owned room.new.owned }
 {
-    on_any_messages!(room, Room(room) => tell_due(room, seat))
+    on_any_messages!(room, Room(room) => tell_due(&mut room.room, seat))
 }
 
 fn tell_due<M: Message>(room: &mut RoomOf<M>, seat: u64) -> u32

@@ -91,7 +91,7 @@ fn find(handle: &mut Handle, source: Option<EntrySource>, at: u64, entry: &mut S
 fn find_in_room(room: &mut Handle, at: u64, entry: &mut SeryugoEntry) -> u32
     ensures { OnNumbers (OnRoom (FindsIn at result entry.old entry.new)) (entry.new ≡ entry.old) result room.old.owned room.new.owned }
 {
-    with_kind!(room, Numbers(Room(room)) => find_in(room, at, entry))
+    with_kind!(room, Numbers(Room(room)) => find_in(&mut room.room, at, entry))
 }
 
 fn find_taken(journal: &mut Handle, place: u64, entry: &mut SeryugoEntry) -> u32

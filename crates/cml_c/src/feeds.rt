@@ -46,7 +46,14 @@ fn open<M: Payload>(
         ((feed_number.new ≡ feed_number.old) × (feed.new ≡ feed.old)) result resource.old resource.new }
 {
     match resource {
-        Resource::Room(room) => open_in(alloc, room, channel, capacity, feed, feed_number),
+        Resource::Room(room) => open_in(
+            alloc,
+            &mut room.room,
+            channel,
+            capacity,
+            feed,
+            feed_number,
+        ),
         _ => Code::WrongHandle.number(),
     }
 }
@@ -85,7 +92,7 @@ pub extern "C" fn seryugo_feed_pump(room: &mut Handle, feed_number: u64, count: 
     ensures { OnAnyMessages (λ M sure. OnRoom (Counts (Pumps chunk sure feed_number) (Stirs MakesNoneDue) result count.old count.new))
         (count.new ≡ count.old) result room.old.owned room.new.owned }
 {
-    on_any_messages!(room, Room(room) => pump(room, feed_number, count))
+    on_any_messages!(room, Room(room) => pump(&mut room.room, feed_number, count))
 }
 
 fn pump<M: Message>(room: &mut RoomOf<M>, feed_number: u64, count: &mut u64) -> u32
@@ -147,7 +154,7 @@ pub extern "C" fn seryugo_feed_port(feed: &mut Handle, port: &mut u64) -> u32
 pub extern "C" fn seryugo_feed_end(room: &mut Handle, feed_number: u64) -> u32
     ensures { OnAnyMessages (λ M sure. OnRoom (EndsFeed feed_number result)) ⊤ result room.old.owned room.new.owned }
 {
-    on_any_messages!(room, Room(room) => end(room, feed_number))
+    on_any_messages!(room, Room(room) => end(&mut room.room, feed_number))
 }
 
 fn end<M: Message>(room: &mut RoomOf<M>, feed_number: u64) -> u32

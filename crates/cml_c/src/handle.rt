@@ -1,5 +1,4 @@
-//! What C owns: a handle, which points to a room, a lane, a message or another `Owned`, and the slot in which C gets one. Here it
-//! is made, lent, replaced and freed.
+//! What C holds: a handle, which leads to a room, a lane, a feed, a journal, a check or an entry, and the slot that C gets one in.
 ghost use Rattle.std.specs.Prelude.{◌≡◌, Option, Some, IfOk};
 ghost use Rattle.cml_c.specs.declared.owned.Owned.{Owned};
 ghost use Rattle.cml_c.specs.Owning.{owned_coded, slot_coded};
@@ -11,7 +10,7 @@ use std::alloc::{AllocError, Global};
 use std::marker::{Model, Send};
 use std::mem;
 
-/// An `Owned` on the heap. In C it is the same struct as `Slot`.
+/// A room, a lane or a feed on the heap. In C it is the same struct as `Slot`.
 #[repr(C)]
 pub struct Handle {
     at: *mut u8,
@@ -59,14 +58,7 @@ impl Handle {
     pub(crate) fn new(alloc: Global, owned: Owned) -> Result<Handle, AllocError>
         ensures { IfOk result (λ handle. handle.owned ≡ owned) }
     {
-        Ok(Handle::of_box(Box::new(alloc, owned)?))
-    }
-
-    /// Makes a handle whose memory is this box.
-    pub(crate) fn of_box(block: Box<Owned>) -> Handle
-        ensures { result.owned ≡ block.value }
-    {
-        Handle::of(Loose::of(block))
+        Ok(Handle::of(Loose::of(Box::new(alloc, owned)?)))
     }
 
     /// Returns what it leads to, and frees the handle's memory.

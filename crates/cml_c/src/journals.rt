@@ -17,7 +17,7 @@ use std::alloc::Global;
 pub extern "C" fn seryugo_reserve(room: &mut Handle, entries: usize) -> u32
     ensures { OnAnyMessages (λ M sure. OnRoom (Does (ReservesSome entries) KeepsSeats result)) ⊤ result room.old.owned room.new.owned }
 {
-    on_any_messages!(room, Room(room) => reserve(room, entries))
+    on_any_messages!(room, Room(room) => reserve(&mut room.room, entries))
 }
 
 fn reserve<M: Message>(room: &mut RoomOf<M>, entries: usize) -> u32
@@ -32,7 +32,7 @@ fn reserve<M: Message>(room: &mut RoomOf<M>, entries: usize) -> u32
 pub extern "C" fn seryugo_cut_by(room: &mut Handle, is_open: bool) -> u32
     ensures { OnAnyMessages (λ M sure. OnRoom (CutsBy is_open result)) ⊤ result room.old.owned room.new.owned }
 {
-    on_any_messages!(room, Room(room) => cut_by(room, is_open))
+    on_any_messages!(room, Room(room) => cut_by(&mut room.room, is_open))
 }
 
 fn cut_by<M: Message>(room: &mut RoomOf<M>, is_open: bool) -> u32
@@ -60,13 +60,13 @@ fn cut_open<M: Message>(room: &mut RoomOf<M>) -> u32
 /// What is done to a room's journal as it is handed out.
 #[derive(Clone, Copy)]
 pub enum Taking {
-    /// Takes the entries out of it, and cuts it. Refused while a lane or a feed is open.
+    /// The entries are taken out of the room's journal, which is cut.
     Cut,
-    /// Takes the entries out of it, and cuts it, also while lanes and feeds are open.
+    /// They are taken while lanes and feeds are open.
     CutOpen,
-    /// Leaves it as it is, and hands out a short journal.
+    /// A short journal is made, and the room stays as it was.
     Short,
-    /// Hands out a short journal, and cuts the room's, also while lanes and feeds are open.
+    /// A short journal is made, and the room's journal is cut while lanes and feeds are open.
     ShortAndCut,
 }
 
@@ -139,7 +139,7 @@ fn take_from<M: Payload>(
         ((count.new ≡ count.old) × (journal.new ≡ journal.old)) result resource.old resource.new }
 {
     match resource {
-        Resource::Room(room) => take_of(alloc, room, taking, journal, count),
+        Resource::Room(room) => take_of(alloc, &mut room.room, taking, journal, count),
         _ => Code::WrongHandle.number(),
     }
 }

@@ -50,7 +50,7 @@ fn open<M: Payload>(
         ((lane_number.new ≡ lane_number.old) × (lane.new ≡ lane.old)) result resource.old resource.new }
 {
     match resource {
-        Resource::Room(room) => open_in(alloc, room, target, capacity, lane, lane_number),
+        Resource::Room(room) => open_in(alloc, &mut room.room, target, capacity, lane, lane_number),
         _ => Code::WrongHandle.number(),
     }
 }
@@ -157,7 +157,7 @@ fn close<M: Message>(resource: &mut Resource<M>, lane: &mut Resource<M>) -> u32
     ensures { Closes M.SURE result resource.old resource.new lane.old lane.new }
 {
     match resource {
-        Resource::Room(room) => close_in(room, lane),
+        Resource::Room(room) => close_in(&mut room.room, lane),
         _ => Code::WrongHandle.number(),
     }
 }
@@ -189,7 +189,7 @@ pub extern "C" fn seryugo_lane_drain(room: &mut Handle, lane_number: u64, count:
     ensures { OnAnyMessages (λ M sure. OnRoom (Counts (Drains chunk sure lane_number) (Stirs MakesFewByOne) result count.old count.new))
         (count.new ≡ count.old) result room.old.owned room.new.owned }
 {
-    on_any_messages!(room, Room(room) => drain(room, lane_number, count))
+    on_any_messages!(room, Room(room) => drain(&mut room.room, lane_number, count))
 }
 
 fn drain<M: Message>(room: &mut RoomOf<M>, lane_number: u64, count: &mut u64) -> u32
@@ -205,7 +205,7 @@ pub extern "C" fn seryugo_lane_drop(room: &mut Handle, lane_number: u64, count: 
     ensures { OnAnyMessages (λ M sure. OnRoom (DropsLane sure lane_number result count.old count.new))
         (count.new ≡ count.old) result room.old.owned room.new.owned }
 {
-    on_any_messages!(room, Room(room) => drop_lane(room, lane_number, count))
+    on_any_messages!(room, Room(room) => drop_lane(&mut room.room, lane_number, count))
 }
 
 fn drop_lane<M: Message>(room: &mut RoomOf<M>, lane_number: u64, count: &mut u64) -> u32
@@ -234,7 +234,7 @@ fn tell_dropped(outcome: Result<(usize, bool), Refusal>, count: &mut u64) -> u32
 pub extern "C" fn seryugo_lane_abandon(room: &mut Handle, lane_number: u64) -> u32
     ensures { OnAnyMessages (λ M sure. OnRoom (Does (Abandons lane_number) (Stirs MakesNoneDue) result)) ⊤ result room.old.owned room.new.owned }
 {
-    on_any_messages!(room, Room(room) => abandon(room, lane_number))
+    on_any_messages!(room, Room(room) => abandon(&mut room.room, lane_number))
 }
 
 fn abandon<M: Message>(room: &mut RoomOf<M>, lane_number: u64) -> u32

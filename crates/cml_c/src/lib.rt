@@ -17,6 +17,7 @@ mod entries;
 mod feeds;
 mod handle;
 mod journals;
+mod keeper;
 mod lanes;
 pub mod laws;
 mod message_kind;

@@ -3,8 +3,7 @@ ghost use Rattle.std.specs.Prelude.{◌≡◌, ◌<◌, ◌≤◌, length, IfOk,
 ghost use Rattle.cml_c.specs.{number, IsHanded, NotCopied, HandsHeld, HandsShare};
 
 use crate::code::Code;
-use crate::handle::{Handle, Slot};
-use crate::owned::{Owned, Resource};
+use crate::keeper::{Held, Keeper, Share};
 use cml_board::Bytes;
 use std::alloc::{AllocError, Global};
 use std::ptr;
@@ -19,13 +18,13 @@ pub(crate) const IN_PLACE: usize = 78;
 pub struct SeryugoBytes {
     pub length: usize,
     pub block: *const u8,
-    pub owner: Slot,
+    pub owner: Share,
     pub in_place: [u8; 78],
 }
 
-/// Closes the handle to a message of more than 78 bytes. Its bytes are freed once no clone is left, in a journal or elsewhere.
+/// Frees what keeps a message of more than 78 bytes. Its bytes are freed once no clone is left, in a journal or elsewhere.
 #[unsafe(no_mangle)]
-pub extern "C" fn seryugo_bytes_release(owner: Handle) {
+pub extern "C" fn seryugo_bytes_release(owner: Keeper) {
     drop(owner);
 }
 
@@ -95,16 +94,16 @@ pub(crate) fn hand_over_new(alloc: Global, given: Bytes, message: &mut SeryugoBy
     Code::Done.number()
 }
 
-/// The memory of a handle to a message.
+/// Memory in which a message is kept.
 #[inline(never)]
-pub(crate) fn new_block(alloc: Global) -> Result<Box<Owned>, AllocError> {
-    Ok(Box::new(alloc, Owned::Numbers(Resource::Spent))?)
+pub(crate) fn new_block(alloc: Global) -> Result<Box<Held>, AllocError> {
+    Ok(Box::new(alloc, Held { bytes: None })?)
 }
 
 /// Hands a message over. A long one is kept in the spare block, whose memory was there before the message was taken. A short one
 /// leaves the block there.
 #[inline(always)]
-pub(crate) fn hand_over(spare: &mut Option<Box<Owned>>, message: Bytes, to: &mut SeryugoBytes)
+pub(crate) fn hand_over(spare: &mut Option<Box<Held>>, message: Bytes, to: &mut SeryugoBytes)
     requires { IsSome spare.old }
     ensures { IsHanded message to.new }
 {
@@ -119,15 +118,17 @@ pub(crate) fn hand_over(spare: &mut Option<Box<Owned>>, message: Bytes, to: &mut
 
 /// Keeps a long message in the block, and writes where it is.
 #[inline(never)]
-fn keep_long(mut block: Box<Owned>, message: Bytes, to: &mut SeryugoBytes)
+fn keep_long(mut block: Box<Held>, message: Bytes, to: &mut SeryugoBytes)
     requires { 78 < length message }
     ensures { IsHanded message to.new }
 {
     let (at, length) = place_of(message.as_slice());
-    *block = Owned::Bytes(Resource::Message(message), None);
+    *block = Held {
+        bytes: Some(message),
+    };
     to.length = length;
     to.block = at;
-    to.owner = Handle::of_box(block).into_slot();
+    to.owner = Keeper::new(block).into_slot();
 }
 
 /// Writes a short message into the struct. What keeps a long one isn't read then, and is left as it was.

@@ -4,8 +4,8 @@ ghost use Rattle.cml_c.specs.declared.owned.Owned.{Owned};
 ghost use Rattle.cml_c.specs.declared.owned.Resource.{Resource};
 ghost use Rattle.cml_c.specs.declared.owned.Owned.TheVariants as owned;
 ghost use Rattle.cml_c.specs.declared.owned.Resource.TheVariants as resource;
-ghost use Rattle.cml_c.specs.{of_bytes};
 
+use crate::keeper::Held;
 use cml_board::{Board, Bytes, Checker, Entry, Message};
 use cml_journal::Check;
 use cml_lanes::{Feed, Lane, LaneEnd};
@@ -25,18 +25,24 @@ pub type CheckerOf<M> = Checker<M, LogOf<M>>;
 
 pub type CheckOf<M> = Check<M, LogOf<M>>;
 
+/// A room, with memory for the next long message that is handed over, unless it is used.
+#[derive(Drop)]
+pub struct RoomWithSpare<M: Message> {
+    pub room: RoomOf<M>,
+    pub spare: Option<Box<Held>>,
+}
+
 /// What a handle leads to, by the messages that it has to do with.
 #[derive(Drop)]
 pub enum Owned {
     Numbers(Resource<u64>),
-    /// Beside a room lies the memory of the next handle to a long message, unless it is used.
-    Bytes(Resource<Bytes>, Option<Box<Owned>>),
+    Bytes(Resource<Bytes>),
 }
 
 /// What a handle leads to that has to do with messages of this type. What is large lies in a box, so that this is small.
 #[derive(Drop)]
 pub enum Resource<M: Message> {
-    Room(Box<RoomOf<M>>),
+    Room(Box<RoomWithSpare<M>>),
     Lane(Lane<M>),
     /// A lane that has finished, and isn't closed yet.
     LaneEnd(LaneEnd<M>),
@@ -48,8 +54,6 @@ pub enum Resource<M: Message> {
     JournalCheck(Box<CheckOf<M>>),
     /// An entry that C has, with its messages.
     Entry(Box<Entry<M>>),
-    /// A message that C has.
-    Message(M),
     /// Nothing: a lane that was closed, or a reading that was restored.
     Spent,
 }
@@ -59,7 +63,7 @@ macro_rules! for_both {
     ($owned:expr, $resource:ident => $result:expr) => {
         match $owned {
             $crate::owned::Owned::Numbers($resource) => $result,
-            $crate::owned::Owned::Bytes($resource, _) => $result,
+            $crate::owned::Owned::Bytes($resource) => $result,
         }
     };
 }
@@ -69,7 +73,7 @@ macro_rules! on_any_messages {
     ($handle:expr, $variant:ident($resource:ident) => $result:expr) => {
         match $handle.as_mut() {
             $crate::owned::Owned::Numbers($crate::owned::Resource::$variant($resource)) => $result,
-            $crate::owned::Owned::Bytes($crate::owned::Resource::$variant($resource), _) => $result,
+            $crate::owned::Owned::Bytes($crate::owned::Resource::$variant($resource)) => $result,
             _ => $crate::code::Code::WrongHandle.number(),
         }
     };
@@ -79,7 +83,7 @@ macro_rules! on_any_messages {
 macro_rules! with_kind {
     ($handle:expr, $kind:ident($variant:ident($resource:ident)) => $result:expr) => {
         match $handle.as_mut() {
-            $crate::owned::Owned::$kind($crate::owned::Resource::$variant($resource), ..) => $result,
+            $crate::owned::Owned::$kind($crate::owned::Resource::$variant($resource)) => $result,
             _ => $crate::code::Code::WrongHandle.number(),
         }
     };
@@ -91,10 +95,10 @@ macro_rules! on_both {
         match $one.as_mut() {
             $crate::owned::Owned::Numbers($one) => match $other.as_mut() {
                 $crate::owned::Owned::Numbers($other) => $result,
-                $crate::owned::Owned::Bytes(..) => $crate::code::Code::WrongHandle.number(),
+                $crate::owned::Owned::Bytes(_) => $crate::code::Code::WrongHandle.number(),
             },
-            $crate::owned::Owned::Bytes($one, _) => match $other.as_mut() {
-                $crate::owned::Owned::Bytes($other, _) => $result,
+            $crate::owned::Owned::Bytes($one) => match $other.as_mut() {
+                $crate::owned::Owned::Bytes($other) => $result,
                 $crate::owned::Owned::Numbers(_) => $crate::code::Code::WrongHandle.number(),
             },
         }
@@ -111,7 +115,7 @@ pub trait Payload: Message {
     /// What a handle to such a resource leads to.
     ghost OWNED: { Resource Self → Owned };
 
-    fn own_room(room: Box<RoomOf<Self>>) -> Owned
+    fn own_room(room: Box<RoomWithSpare<Self>>) -> Owned
         ensures { result ≡ OWNED (resource.Room room) };
 
     fn own_lane(lane: Lane<Self>) -> Owned
@@ -127,7 +131,7 @@ pub trait Payload: Message {
 impl Payload for u64 {
     ghost OWNED = { owned.Numbers };
 
-    fn own_room(room: Box<RoomOf<u64>>) -> Owned
+    fn own_room(room: Box<RoomWithSpare<u64>>) -> Owned
         ensures { result ≡ owned.Numbers (resource.Room room) }
     {
         Owned::Numbers(Resource::Room(room))
@@ -153,29 +157,29 @@ impl Payload for u64 {
 }
 
 impl Payload for Bytes {
-    ghost OWNED = { of_bytes };
+    ghost OWNED = { owned.Bytes };
 
-    fn own_room(room: Box<RoomOf<Bytes>>) -> Owned
-        ensures { result ≡ of_bytes (resource.Room room) }
+    fn own_room(room: Box<RoomWithSpare<Bytes>>) -> Owned
+        ensures { result ≡ owned.Bytes (resource.Room room) }
     {
-        Owned::Bytes(Resource::Room(room), None)
+        Owned::Bytes(Resource::Room(room))
     }
 
     fn own_lane(lane: Lane<Bytes>) -> Owned
-        ensures { result ≡ of_bytes (resource.Lane lane) }
+        ensures { result ≡ owned.Bytes (resource.Lane lane) }
     {
-        Owned::Bytes(Resource::Lane(lane), None)
+        Owned::Bytes(Resource::Lane(lane))
     }
 
     fn own_feed(feed: Feed<Bytes>) -> Owned
-        ensures { result ≡ of_bytes (resource.Feed feed) }
+        ensures { result ≡ owned.Bytes (resource.Feed feed) }
     {
-        Owned::Bytes(Resource::Feed(feed), None)
+        Owned::Bytes(Resource::Feed(feed))
     }
 
     fn own_journal(entries: Vec<Entry<Bytes>>) -> Owned
-        ensures { result ≡ of_bytes (resource.Journal entries) }
+        ensures { result ≡ owned.Bytes (resource.Journal entries) }
     {
-        Owned::Bytes(Resource::Journal(entries), None)
+        Owned::Bytes(Resource::Journal(entries))
     }
 }

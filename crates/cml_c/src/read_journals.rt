@@ -50,11 +50,7 @@ fn open_bytes(alloc: Global, reading: &mut Slot) -> u32
     ensures { OpensBytes result reading.old reading.new }
 {
     match new_reading(alloc) {
-        Ok(opened) => write_handle(
-            alloc,
-            Owned::Bytes(Resource::JournalCheck(opened), None),
-            reading,
-        ),
+        Ok(opened) => write_handle(alloc, Owned::Bytes(Resource::JournalCheck(opened)), reading),
         Err(_) => Code::NoMemory.number(),
     }
 }

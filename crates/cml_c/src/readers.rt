@@ -80,7 +80,7 @@ fn read_by(room: &mut Handle, reader: Reader, number: &mut u64) -> u32
     ensures { OnAnyMessages (λ M sure. OnRoom (Reads reader result number.old number.new))
         (number.new ≡ number.old) result room.old.owned room.new.owned }
 {
-    on_any_messages!(room, Room(room) => tell_found(found_in(room, reader), number))
+    on_any_messages!(room, Room(room) => tell_found(found_in(&room.room, reader), number))
 }
 
 fn found_in<M: Message>(room: &RoomOf<M>, reader: Reader) -> Option<u64>
@@ -136,7 +136,7 @@ pub extern "C" fn seryugo_held(room: &mut Handle, variable: u64, message: &mut u
     ensures { OnNumbers (OnRoom (Holds variable result message.old message.new))
         (message.new ≡ message.old) result room.old.owned room.new.owned }
 {
-    with_kind!(room, Numbers(Room(room)) => tell_held(room.board().held(Name(variable)), message))
+    with_kind!(room, Numbers(Room(room)) => tell_held(room.room.board().held(Name(variable)), message))
 }
 
 /// Hands over what a variable of a room of bytes holds. Fails with `NoSuch` if no variable has the name.
@@ -150,7 +150,7 @@ pub extern "C" fn seryugo_bytes_held(
     ensures { OnBytes (OnRoom (HoldsBytes variable result message.old message.new))
         (message.new ≡ message.old) result room.old.owned room.new.owned }
 {
-    with_kind!(room, Bytes(Room(room)) => hand_over_held(alloc, room.board().held(Name(variable)), message))
+    with_kind!(room, Bytes(Room(room)) => hand_over_held(alloc, room.room.board().held(Name(variable)), message))
 }
 
 /// Returns `Done` if the journal takes more entries, and else `JournalFull`.
@@ -158,5 +158,5 @@ pub extern "C" fn seryugo_bytes_held(
 pub extern "C" fn seryugo_is_full(room: &mut Handle) -> u32
     ensures { OnAnyMessages (λ M sure. OnRoom (TellsFull result)) ⊤ result room.old.owned room.new.owned }
 {
-    on_any_messages!(room, Room(room) => tell_full(room.board().is_full()))
+    on_any_messages!(room, Room(room) => tell_full(room.room.board().is_full()))
 }

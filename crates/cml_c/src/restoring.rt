@@ -4,7 +4,7 @@ ghost use Rattle.cml_c.specs.{number, told_halt, IsRoomOn, OpensOn, Restores, Re
 
 use crate::code::Code;
 use crate::handle::{Handle, Slot};
-use crate::owned::{CheckOf, LogOf, Owned, Payload, Resource, RoomOf, for_both};
+use crate::owned::{CheckOf, LogOf, Owned, Payload, Resource, RoomWithSpare, for_both};
 use crate::read_journals::code_of_halt;
 use crate::rooms::{MOST, write_handle};
 use cml_board::Restored;
@@ -86,8 +86,14 @@ fn open<M: Payload>(alloc: Global, restored: Restored<M, LogOf<M>>, room: &mut S
 fn new_room<M: Payload>(
     alloc: Global,
     restored: Restored<M, LogOf<M>>,
-) -> Result<Box<RoomOf<M>>, AllocError>
-    ensures { IfOk result (λ room. IsRoomOn restored room.value) }
+) -> Result<Box<RoomWithSpare<M>>, AllocError>
+    ensures { IfOk result (λ room. IsRoomOn restored room.value.room) }
 {
-    Ok(Box::new(alloc, Room::restore(alloc, restored)?)?)
+    Ok(Box::new(
+        alloc,
+        RoomWithSpare {
+            room: Room::restore(alloc, restored)?,
+            spare: None,
+        },
+    )?)
 }

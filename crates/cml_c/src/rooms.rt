@@ -1,16 +1,15 @@
-//! The calls that open a room, make a seat, let it leave and withdraw its call, and the one that closes any handle. Other calls that
-//! open something write its handle by `write_handle`.
+//! The calls that open rooms, make seats, let them leave and withdraw their calls, and the one that closes any handle.
 ghost use Rattle.std.specs.Prelude.{◌≡◌, ◌⊎◌, IfOk, IfErr, slice_get, ⊤};
 ghost use Rattle.cml_c.specs.declared.code.Code.TheVariants.{NoMemory, OutOfBounds};
 ghost use Rattle.cml_c.specs.declared.owned.Owned.TheVariants as owned;
 ghost use Rattle.cml_c.specs.Codes.{told_outcome};
-ghost use Rattle.cml_c.specs.{message_kinds, of_bytes};
+ghost use Rattle.cml_c.specs.{message_kinds};
 ghost use Rattle.cml_c.specs.{number, MakesSeat, Leaves, Withdraws, OnAnyMessages, OnRoom, IsLimit, IsNew, OpensARoom, OpensRoomOf, Writes};
 
 use crate::code::Code;
 use crate::handle::{Handle, Slot};
 use crate::message_kind::MessageKind;
-use crate::owned::{Owned, Resource, RoomOf, on_any_messages};
+use crate::owned::{Owned, Resource, RoomOf, RoomWithSpare, on_any_messages};
 use crate::telling::write_number;
 use cml_board::{Message, Refusal};
 use cml_room::Room;
@@ -52,16 +51,16 @@ fn open_numbers(alloc: Global, limit: u64, room: &mut Slot) -> u32
 }
 
 fn open_bytes(alloc: Global, limit: u64, room: &mut Slot) -> u32
-    ensures { OpensARoom of_bytes limit result room.old room.new }
+    ensures { OpensARoom owned.Bytes limit result room.old room.new }
 {
     match new_room(alloc, limit) {
-        Ok(opened) => write_handle(alloc, Owned::Bytes(Resource::Room(opened), None), room),
+        Ok(opened) => write_handle(alloc, Owned::Bytes(Resource::Room(opened)), room),
         Err(code) => code.number(),
     }
 }
 
-fn new_room<M: Message>(alloc: Global, limit: u64) -> Result<Box<RoomOf<M>>, Code>
-    ensures opened { IfOk result (λ room. IsLimit limit × IsNew limit room.value) }
+fn new_room<M: Message>(alloc: Global, limit: u64) -> Result<Box<RoomWithSpare<M>>, Code>
+    ensures opened { IfOk result (λ room. IsLimit limit × IsNew limit room.value.room) }
     ensures refused { IfErr result (λ code. (code ≡ NoMemory × IsLimit limit) ⊎ (code ≡ OutOfBounds × ¬ (IsLimit limit))) }
 {
     if limit < 1 || limit > MOST {
@@ -70,7 +69,7 @@ fn new_room<M: Message>(alloc: Global, limit: u64) -> Result<Box<RoomOf<M>>, Cod
     let Ok(room) = Room::new(alloc, limit) else {
         return Err(Code::NoMemory);
     };
-    match Box::new(alloc, room) {
+    match Box::new(alloc, RoomWithSpare { room, spare: None }) {
         Ok(room) => Ok(room),
         Err(_) => Err(Code::NoMemory),
     }
@@ -100,7 +99,7 @@ pub extern "C" fn seryugo_close(handle: Handle) {
 pub extern "C" fn seryugo_new_seat(room: &mut Handle, seat: &mut u64) -> u32
     ensures { OnAnyMessages (λ M sure. OnRoom (MakesSeat result seat.old seat.new)) (seat.new ≡ seat.old) result room.old.owned room.new.owned }
 {
-    on_any_messages!(room, Room(room) => new_seat(room, seat))
+    on_any_messages!(room, Room(room) => new_seat(&mut room.room, seat))
 }
 
 fn new_seat<M: Message>(room: &mut RoomOf<M>, seat: &mut u64) -> u32
@@ -117,7 +116,7 @@ fn new_seat<M: Message>(room: &mut RoomOf<M>, seat: &mut u64) -> u32
 pub extern "C" fn seryugo_leave(room: &mut Handle, seat: u64) -> u32
     ensures { OnAnyMessages (λ M sure. OnRoom (Leaves seat result)) ⊤ result room.old.owned room.new.owned }
 {
-    on_any_messages!(room, Room(room) => leave(room, seat))
+    on_any_messages!(room, Room(room) => leave(&mut room.room, seat))
 }
 
 fn leave<M: Message>(room: &mut RoomOf<M>, seat: u64) -> u32
@@ -131,7 +130,7 @@ fn leave<M: Message>(room: &mut RoomOf<M>, seat: u64) -> u32
 pub extern "C" fn seryugo_withdraw(room: &mut Handle, seat: u64) -> u32
     ensures { OnAnyMessages (λ M sure. OnRoom (Withdraws seat result)) ⊤ result room.old.owned room.new.owned }
 {
-    on_any_messages!(room, Room(room) => withdraw(room, seat))
+    on_any_messages!(room, Room(room) => withdraw(&mut room.room, seat))
 }
 
 fn withdraw<M: Message>(room: &mut RoomOf<M>, seat: u64) -> u32

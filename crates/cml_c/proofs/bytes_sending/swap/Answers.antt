@@ -10,6 +10,6 @@ pub returns-else-may_make : goal.returns-else-may_make
 returns-else-may_make c = inl (record {
   becomes = inl
       (is_gone false c.args.is_again c.args.seat (Swap c.args.variable c.args.message.now) c.number-in-Err.result
-      (HandsOutcome c.args.held.now c.args.held.now) c.args.room.now
+      (HandsOutcome c.args.held.now c.args.held.now) c.args.room.now.room
       (λ may. false≢true (sym c.if-may_make.false ∙ c.may_make.ensures.1 may)) c.number-in-Err.ensures refl);
 })

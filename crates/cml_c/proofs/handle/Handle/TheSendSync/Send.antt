@@ -4,23 +4,14 @@ use denote.Memory.{lone}
 use denote.Struct.Struct.{exits_of}
 use denote.Struct.Owning.{shape, fields, to}
 use denote.Param.Send.{IsSend, AllSend, owning_send, struct_send, sendable}
-use Rattle.std.proofs.Crossing.{crosses, frees}
+use Rattle.std.proofs.Crossing.{frees}
 use Rattle.std_alloc.proofs.SendSync.{quiet, lies}
 use Rattle.std_heap.proofs.Global.TheSendSync as heap
 use Rattle.cml_c.specs.contracts.owned.Owned as Owned
-use Rattle.std.proofs.option.Option.TheSendSync as option
-use Rattle.std.proofs.boxed.Box.TheSendSync as box
-use Rattle.cml_calls.proofs.bytes.Bytes.TheSendSync as bytes
-use Rattle.cml_c.proofs.owned.Owned.TheLaws.TheKnot as knot
-use Rattle.cml_c.proofs.owned.Resource.TheSendSync as resource
+use Rattle.cml_c.proofs.owned.Owned.TheSendSync as owned
 use Rattle.cml_c.specs.contracts.handle.Handle.{the_row, the_type}
-
--- the box beside a room of bytes leads back to what it lies in
-owned_send : IsSend Owned.the_row
-owned_send = search (crosses, knot.crosses, option.the_send, box.the_send, bytes.the_send, resource.the_send, sendable)
-    depth 60 fits 20000
 
 pub send : IsSend the_row
 send = let all : AllSend (fields the_type) = (search sendable, (heap.the_field_send, tt)) in
-    owning_send the_type all (λ d. (lies Owned.the_row owned_send d.at d.owned, frees.frees d.alloc (raw (lone Owned.the_row.mir)) d.at))
+    owning_send the_type all (λ d. (lies Owned.the_row owned.the_send d.at d.owned, frees.frees d.alloc (raw (lone Owned.the_row.mir)) d.at))
     (λ k. quiet (to the_type) (exits_of k (fields the_type)) ((struct_send (shape the_type) all).leaving k))
