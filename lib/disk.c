@@ -187,8 +187,8 @@ int seryugo_file_grow(struct seryugo_file *file, uint64_t need)
 
 /* ---- views ---- */
 
-/* Room ahead is zeroed in memory, so that a store finds its page. Pages are taken one by one: a large one would be written whole at each
- * sync. */
+/* Room ahead is zeroed in memory, so that a store finds its page. Pages are taken one by one: a large one would be written
+ * whole at each sync. */
 static void populate(struct seryugo_file *file, uint64_t from, uint64_t to)
 {
     struct seryugo_view view;
@@ -260,7 +260,8 @@ static bool begin_sync(struct seryugo_file *file, struct seryugo_step *step)
     return syncs;
 }
 
-/* A sync that fails is never made again: the system may have forgotten what it couldn't write. An interrupted one counts as failed. */
+/* A sync that fails is never made again: the system may have forgotten what it couldn't write. An interrupted one counts as
+ * failed. */
 static void sync_once(struct seryugo_file *file)
 {
     struct seryugo_step step;

@@ -35,7 +35,8 @@ static const uint32_t *new_flag(void)
 
 /* ---- forks ---- */
 
-/* All open files of the process. A forked child has copies of their descriptors, and would keep their locks after its parent's end. */
+/* All open files of the process. A forked child has copies of their descriptors, and would keep their locks after its parent's
+ * end. */
 static pthread_mutex_t list_lock = PTHREAD_MUTEX_INITIALIZER;
 static pthread_once_t is_listed = PTHREAD_ONCE_INIT;
 static struct seryugo_file *files;
@@ -202,7 +203,9 @@ static uint32_t write_lines(struct seryugo_file *file, size_t length)
 
     pthread_setcancelstate(PTHREAD_CANCEL_DISABLE, &state);
     if (length != 0) {
-        error = seryugo_may_reach(file->stored + length) ? seryugo_write_at(file->descriptor, file->lines, length, file->stored) : EFBIG;
+        error = seryugo_may_reach(file->stored + length)
+                    ? seryugo_write_at(file->descriptor, file->lines, length, file->stored)
+                    : EFBIG;
     }
     pthread_setcancelstate(state, &state);
     if (error != 0) {
