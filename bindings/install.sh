@@ -39,8 +39,21 @@ trap 'rm -rf "$work"' EXIT
 version=$(sed -n 's/^#define SERYUGO_VERSION "\(.*\)"$/\1/p' include/seryugo.h)
 major=${version%%.*}
 
-# functions HEADER: the functions that a program calls in the library, and not in the header alone.
-functions() { sed -n 's/^[a-z][a-z0-9_]* \(seryugo_[a-z0-9_]*\)(.*/\1/p' "include/$1.h" | sort; }
+# functions HEADER: the functions that a program calls in the library, and not in the header alone. Those on a journal's file are in
+# the library seryugo.
+functions() {
+    set -- "include/$1.h" "$1"
+    [ "$2" != seryugo ] || set -- "$1" include/seryugo_file.h
+    sed -n 's/^\(const char \*\|[a-z][a-z0-9_]* \)\(seryugo_[a-z0-9_]*\)(.*/\2/p' "$1" $([ ! -f "$2" ] || echo "$2") | sort
+}
+
+# file_objects: compiles the journal's file, which is in C.
+file_objects() {
+    command -v "${CC:-cc}" > /dev/null || fail 'there is no C compiler, which the journal in a file needs'
+    for source in lib/*.c; do
+        "${CC:-cc}" -std=gnu11 -O2 -fPIC -I include -c "$source" -o "$work/journal_$(basename "$source" .c).o"
+    done
+}
 
 # exported LISTING: the functions of a listing by nm.
 exported() { sed -n 's/.* T \(seryugo_[a-z0-9_]*\)$/\1/p' "$1" | sort; }
@@ -61,6 +74,7 @@ static_library() {
         cd "$work"
         rm -f "lib$1.a"
         printf 'create lib%s.a\naddlib library.a\naddlib heap.a\nsave\nend\n' "$1" | ar -M
+        [ "$1" != seryugo ] || ar r "lib$1.a" journal_*.o
         nm -g "lib$1.a" > "$1.has"
     )
     functions "$1" > "$work/$1.header"
@@ -108,8 +122,10 @@ library() {
     echo "installed $1 $version in $prefix$without"
 }
 
+file_objects
 library seryugo "$rooms" 'Mailboxes, channels and variables for threads, proved'
 put 644 include/seryugo_switchboard.h include
+put 644 include/seryugo_file.h include
 if [ -n "$scripts" ]; then
     library seryugo_script "$scripts" 'Scripts of threads replayed, proved'
 else
