@@ -18,7 +18,7 @@
  * - Make seryugo_file_reserve and seryugo_file_note under the lock of the room, as all calls on the room. All other calls may
  *   be made by any thread without that lock.
  * - Don't change the file while it is open. The lock by flock(2) keeps out only who asks for it. If another program cuts the
- *   file, a call ends the program by SIGBUS, or fails with SERYUGO_FILE_LOST.
+ *   file, a call ends the program by SIGBUS, or fails with SERYUGO_FILE_LOST once the file grows or is synced.
  * - Don't cut or take the room's journal: the file does so.
  */
 #ifndef SERYUGO_FILE_H
@@ -88,7 +88,7 @@ uint32_t seryugo_file_open(const char *path, uint32_t messages, uint64_t limit, 
                            struct seryugo *room, struct seryugo_file_found *found, struct seryugo_file **file);
 
 /* Sees to room for the lines of the next call, before it is made. `bytes` is how many the call's message has, of a swap with
- * those of the message that the variable holds, and else 0.
+ * those of the message that the variable holds, and else 0. It waits for a sync if 64 MiB aren't synced yet.
  *
  * If it fails, don't make the call. SERYUGO_FILE_FULL: the disk is full, or RLIMIT_FSIZE doesn't allow more. SERYUGO_TOO_LONG:
  * a message of more than SERYUGO_FILE_MESSAGE_MOST bytes. SERYUGO_NO_MEMORY, SERYUGO_FILE_LOST or SERYUGO_FORKED. */
@@ -101,6 +101,10 @@ uint32_t seryugo_file_reserve(struct seryugo_file *file, struct seryugo *room, u
  * SERYUGO_FILE_FULL: some entries aren't stored yet (many calls were made before this one). They stay in the room, and the
  * next seryugo_file_reserve or seryugo_file_note stores them. SERYUGO_FILE_LOST or SERYUGO_FORKED: they aren't stored. */
 uint32_t seryugo_file_note(struct seryugo_file *file, struct seryugo *room, uint64_t *position);
+
+/* Says whether calls may be made: SERYUGO_DONE, SERYUGO_FILE_LOST, or SERYUGO_FORKED. It takes no lock, so a child of a fork asks
+ * this before it takes one, which a thread that isn't there may have. */
+uint32_t seryugo_file_state(const struct seryugo_file *file);
 
 /* Waits until all that was stored before is on the disk. SERYUGO_FILE_LOST: a sync has failed, so nobody knows what is there. */
 uint32_t seryugo_file_sync(struct seryugo_file *file);

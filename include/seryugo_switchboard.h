@@ -397,14 +397,22 @@ struct seryugo_turn {
     /* With a file: the call wasn't made; and it was made, but isn't kept. */
     bool is_refused;
     bool is_unkept;
+    /* The process is a forked child: another thread of its parent may have the lock for ever. */
+    bool is_forked;
 };
 
 /* Locks the switchboard for a seat's call. */
 static inline struct seryugo_turn seryugo_begin(struct seryugo_seat *seat, const struct timespec *deadline)
 {
-    struct seryugo_turn turn = {seat, deadline, false, SERYUGO_DONE, false, false};
+    struct seryugo_turn turn = {seat, deadline, false, SERYUGO_DONE, false, false, false};
+    struct seryugo_switchboard *board = seat->board;
 
-    seryugo_switchboard_lock(seat->board);
+    if (board->file != NULL && seryugo_file_state(board->file) == SERYUGO_FORKED) {
+        turn.code = SERYUGO_FORKED;
+        turn.is_forked = true;
+        return turn;
+    }
+    seryugo_switchboard_lock(board);
     return turn;
 }
 
@@ -469,8 +477,8 @@ static inline bool seryugo_may_call(struct seryugo_turn *turn, uint64_t bytes)
 {
     struct seryugo_switchboard *board = turn->seat->board;
 
-    if (board->file == NULL) {
-        return true;
+    if (board->file == NULL || turn->is_forked) {
+        return !turn->is_forked;
     }
     turn->code = seryugo_file_reserve(board->file, &board->room, bytes);
     turn->is_refused = turn->code != SERYUGO_DONE;
@@ -503,6 +511,9 @@ static inline bool seryugo_finish_or_repeat(struct seryugo_turn *turn)
     bool was_again = turn->is_again;
 
     turn->is_again = false;
+    if (turn->is_forked) {
+        return false;
+    }
     if (board->file != NULL && !seryugo_is_kept(turn)) {
         seryugo_let_go(board);
         return false;

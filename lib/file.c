@@ -126,8 +126,7 @@ void seryugo_file_free(struct seryugo_file *file)
     free(file);
 }
 
-/* Why no call is possible, or SERYUGO_DONE. */
-static uint32_t standing(const struct seryugo_file *file)
+uint32_t seryugo_file_state(const struct seryugo_file *file)
 {
     if (*file->alive == 0) {
         return SERYUGO_FORKED;
@@ -154,7 +153,7 @@ static uint32_t make_room(struct seryugo_file *file)
     }
     file->bound = least(atomic_load(&file->grown), atomic_load(&file->synced) + SERYUGO_UNSYNCED_MOST);
     file->bound = file->is_mapped ? least(file->bound, file->view.end) : file->bound;
-    return code == SERYUGO_DONE ? standing(file) : code;
+    return code == SERYUGO_DONE ? seryugo_file_state(file) : code;
 }
 
 /* A thread that is cancelled here would leave the locks locked. */
@@ -171,7 +170,7 @@ static uint32_t make_room_uncancelled(struct seryugo_file *file)
 
 uint32_t seryugo_file_reserve(struct seryugo_file *file, struct seryugo *room, uint64_t bytes)
 {
-    uint32_t code = standing(file);
+    uint32_t code = seryugo_file_state(file);
 
     if (code != SERYUGO_DONE) {
         return code;
@@ -250,7 +249,7 @@ static void drop_entries(struct seryugo_file *file, struct seryugo *room)
 
 uint32_t seryugo_file_note(struct seryugo_file *file, struct seryugo *room, uint64_t *position)
 {
-    uint32_t code = standing(file);
+    uint32_t code = seryugo_file_state(file);
 
     if (code != SERYUGO_DONE) {
         return code;

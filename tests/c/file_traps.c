@@ -98,6 +98,35 @@ static void meet_a_fork(void)
     unlink("forked");
 }
 
+/* A child whose parent has the switchboard's lock, which nobody in the child ever lets go of. */
+static void meet_a_fork_under_the_lock(void)
+{
+    struct seryugo_switchboard board;
+    struct seryugo_seat seat;
+    int status = 0;
+    pid_t child;
+
+    RETURNS(DONE, seryugo_switchboard_open_file("forked", SERYUGO_NUMBERS, NULL, &found, &board));
+    RETURNS(DONE, seryugo_seat_open(&board, &seat));
+    RETURNS(DONE, seryugo_seat_mailbox_again(&seat, 0));
+    seryugo_switchboard_lock(&board);
+    child = fork();
+    if (child == 0) {
+        alarm(20);
+        RETURNS(FORKED, seryugo_seat_send(&seat, 0, 5));
+        RETURNS(FORKED, seryugo_switchboard_close(&board));
+        _exit(0);
+    }
+    RETURNS(DONE, seryugo_switchboard_unlock(&board));
+    waitpid(child, &status, 0);
+    IS(0, (uint64_t)status);
+    RETURNS(DONE, seryugo_seat_send(&seat, 0, 5));
+    seryugo_seat_leave(&seat);
+    RETURNS(DONE, seryugo_switchboard_close(&board));
+    BEGINS("forked", "journal 1\nseat 0 mailbox: made 0\nseat 0 send 0 5: done\n");
+    unlink("forked");
+}
+
 /* A child that lives longer than its parent doesn't keep the file from the next program. */
 static void meet_a_child_that_lives_on(void)
 {
@@ -230,6 +259,7 @@ int main(int many, char **words)
     meet_a_cut(0);
     meet_a_cut(SERYUGO_FILE_BY_WRITES);
     meet_a_fork();
+    meet_a_fork_under_the_lock();
     meet_a_child_that_lives_on();
     meet_a_foreign_cut();
     keep_lanes();
