@@ -50,13 +50,10 @@ headers() {
 # functions NAME: the functions that a program calls in the library, and not in its headers alone.
 functions() { headers "$1" | xargs sed -En 's/^([a-z][a-z0-9_]* |const char \*)(seryugo_[a-z0-9_]*)\(.*/\2/p' | sort; }
 
-# compiled NAME: the part of this library that is in C, as object files.
-compiled() {
-    [ "$1" = seryugo ] || return 0
+# file_objects: compiles the part that is in C.
+file_objects() {
     for source in lib/*.c; do
-        object=$work/file_$(basename "$source" .c).o
-        "${CC:-cc}" -std=gnu11 -O2 -fPIC -pthread -I include -c "$source" -o "$object"
-        echo "addmod $(basename "$object")"
+        "${CC:-cc}" -std=gnu11 -O2 -fPIC -pthread -I include -c "$source" -o "$work/file_$(basename "$source" .c).o"
     done
 }
 
@@ -75,11 +72,11 @@ put() {
 static_library() {
     cp "$2" "$work/library.a"
     cp "$heap" "$work/heap.a"
-    compiled "$1" > "$work/$1.modules"
     (
         cd "$work"
         rm -f "lib$1.a"
-        { printf 'create lib%s.a\naddlib library.a\naddlib heap.a\n' "$1"; cat "$1.modules"; printf 'save\nend\n'; } | ar -M
+        printf 'create lib%s.a\naddlib library.a\naddlib heap.a\nsave\nend\n' "$1" | ar -M
+        [ "$1" != seryugo ] || ar r "lib$1.a" file_*.o
         nm -g "lib$1.a" > "$1.has"
     )
     functions "$1" > "$work/$1.header"
@@ -123,6 +120,7 @@ library() {
     echo "installed $1 $version in $prefix"
 }
 
+file_objects
 library seryugo "$rooms" 'Mailboxes, channels and variables for threads, proved'
 put 644 include/seryugo_switchboard.h include
 if [ -n "$scripts" ]; then

@@ -1,23 +1,24 @@
 /*
  * A room's journal in a file: each call that returned survives the end of the program, even by kill -9. Most programs call
- * seryugo_switchboard_open_file of seryugo_switchboard.h, which makes these calls for them. The code is in C: it is tested, and not
- * proved.
+ * seryugo_switchboard_open_file of seryugo_switchboard.h, which makes these calls for them. The code is in C: it is tested,
+ * and not proved.
  *
  * What holds after what:
  *
  * - After a kill, a panic or an abort: each call that returned before. This costs a store into memory for each call.
- * - After a loss of power: what was synced, and a beginning of the rest. A thread syncs each second. seryugo_file_sync waits until all
- *   before it is on the disk.
+ * - After a loss of power: what was synced, and a beginning of the rest. A thread syncs each second. seryugo_file_sync waits
+ *   until all before it is on the disk.
  *
- * The text in the file ends before its first byte 0, at its last line end. docs/FORMATS.md, "Journals", has the lines. The file is mapped on
- * ext4 and xfs. Elsewhere, as on NFS, lines are written by pwrite(2), and there a full disk may show only after a call was made.
+ * The text in the file ends before its first byte 0, at its last line end. docs/FORMATS.md, "Journals", has the lines. The
+ * file is mapped on ext4 and xfs. Elsewhere, as on NFS, lines are written by pwrite(2), and there a full disk may show only
+ * after a call was made.
  *
  * Keep these rules.
  *
- * - Make seryugo_file_reserve and seryugo_file_note under the lock of the room, as all calls on the room. All other calls may be made by any
- *   thread without that lock.
- * - Don't change the file while it is open. The lock by flock(2) keeps out only who asks for it. If another program cuts the file, a call
- *   ends the program by SIGBUS, or fails with SERYUGO_FILE_LOST.
+ * - Make seryugo_file_reserve and seryugo_file_note under the lock of the room, as all calls on the room. All other calls may
+ *   be made by any thread without that lock.
+ * - Don't change the file while it is open. The lock by flock(2) keeps out only who asks for it. If another program cuts the
+ *   file, a call ends the program by SIGBUS, or fails with SERYUGO_FILE_LOST once the file grows or is synced.
  * - Don't cut or take the room's journal: the file does so.
  */
 #ifndef SERYUGO_FILE_H
@@ -42,8 +43,8 @@ enum seryugo_file_flag {
 
 /* How a file is kept. Pass null for: each second. */
 struct seryugo_file_options {
-    /* Milliseconds from one sync to the next. With 0 the file is synced only by seryugo_file_sync, by seryugo_file_close, and where 32 MiB
-     * aren't synced yet. */
+    /* Milliseconds from one sync to the next. With 0 the file is synced only by seryugo_file_sync, by seryugo_file_close, and
+     * where 32 MiB aren't synced yet. */
     uint64_t sync_milliseconds;
     /* Of seryugo_file_flag. */
     uint32_t flags;
@@ -63,49 +64,57 @@ struct seryugo_file_found {
     bool is_new;
     /* The cause as errno, or 0. */
     int error;
-    /* In the same folder, the name of the file that has what was cut off, or nothing. So much is saved only of more than a line's length. */
+    /* In the same folder, the name of the file that has what was cut off, or nothing. So much is saved only of more than a
+     * line's length. */
     char saved[256];
     /* The cause in words, or nothing. */
     char words[256];
 };
 
 /*
- * Opens a room on the journal in the file `path`, and keeps its journal there. If there is no file, it makes one. Else it recovers the room:
- * objects, and what waits in them, are those after the last whole line. `messages` are SERYUGO_NUMBERS or SERYUGO_BYTES, and `limit` is the
- * room's. *found is always written, unless it is null. The room is yours: close the file first, and then the room.
+ * Opens a room on the journal in the file `path`, and keeps its journal there. If there is no file, it makes one. Else it
+ * recovers the room: objects, and what waits in them, are those after the last whole line. `messages` are SERYUGO_NUMBERS or
+ * SERYUGO_BYTES, and `limit` is the room's. *found is always written, unless it is null. The room is yours: close the file
+ * first, and then the room.
  *
- * These refusals leave the file as it was. SERYUGO_FILE_BUSY, SERYUGO_NO_JOURNAL, SERYUGO_OTHER_VERSION, SERYUGO_OTHER_MESSAGES and
- * SERYUGO_BEGINS_LATER: as they say. SERYUGO_FAULT, SERYUGO_UNLAWFUL: the journal was changed. SERYUGO_OUT_OF_BOUNDS: the limit isn't from 1
- * to 2^32, or there are no such messages.
+ * These refusals leave the file as it was. SERYUGO_FILE_BUSY, SERYUGO_NO_JOURNAL, SERYUGO_OTHER_VERSION,
+ * SERYUGO_OTHER_MESSAGES and SERYUGO_BEGINS_LATER: as they say. SERYUGO_FAULT, SERYUGO_UNLAWFUL: the journal was changed.
+ * SERYUGO_OUT_OF_BOUNDS: the limit isn't from 1 to 2^32, or there are no such messages.
  *
- * SERYUGO_FILE_FAILED or SERYUGO_NO_MEMORY: what the file had is still there, but its end may be cut off, and the file may be new.
+ * SERYUGO_FILE_FAILED or SERYUGO_NO_MEMORY: what the file had is still there, but its end may be cut off, and the file may be
+ * new.
  */
 uint32_t seryugo_file_open(const char *path, uint32_t messages, uint64_t limit, const struct seryugo_file_options *options,
                            struct seryugo *room, struct seryugo_file_found *found, struct seryugo_file **file);
 
-/* Sees to room for the lines of the next call, before it is made. `bytes` is how many the call's message has, of a swap with those of
- * the message that the variable holds, and else 0.
+/* Sees to room for the lines of the next call, before it is made. `bytes` is how many the call's message has, of a swap with
+ * those of the message that the variable holds, and else 0. It waits for a sync if 64 MiB aren't synced yet.
  *
- * If it fails, don't make the call. SERYUGO_FILE_FULL: the disk is full, or RLIMIT_FSIZE doesn't allow more. SERYUGO_TOO_LONG: a message of more
- * than SERYUGO_FILE_MESSAGE_MOST bytes. SERYUGO_NO_MEMORY, SERYUGO_FILE_LOST or SERYUGO_FORKED. */
+ * If it fails, don't make the call. SERYUGO_FILE_FULL: the disk is full, or RLIMIT_FSIZE doesn't allow more. SERYUGO_TOO_LONG:
+ * a message of more than SERYUGO_FILE_MESSAGE_MOST bytes. SERYUGO_NO_MEMORY, SERYUGO_FILE_LOST or SERYUGO_FORKED. */
 uint32_t seryugo_file_reserve(struct seryugo_file *file, struct seryugo *room, uint64_t bytes);
 
-/* Stores the lines of all entries since the last note, before the lock is released. Those of a call for which seryugo_file_reserve made
- * room always fit. Writes how many bytes the file has then, unless `position` is null. The entries leave the room.
+/* Stores the lines of all entries since the last note, before the lock is released. Those of a call for which
+ * seryugo_file_reserve made room always fit. Writes how many bytes the file has then, unless `position` is null. The entries
+ * leave the room.
  *
- * SERYUGO_FILE_FULL: some entries aren't stored yet (many calls were made before this one). They stay in the room, and the next
- * seryugo_file_reserve or seryugo_file_note stores them. SERYUGO_FILE_LOST or SERYUGO_FORKED: they aren't stored. */
+ * SERYUGO_FILE_FULL: some entries aren't stored yet (many calls were made before this one). They stay in the room, and the
+ * next seryugo_file_reserve or seryugo_file_note stores them. SERYUGO_FILE_LOST or SERYUGO_FORKED: they aren't stored. */
 uint32_t seryugo_file_note(struct seryugo_file *file, struct seryugo *room, uint64_t *position);
+
+/* Says whether calls may be made: SERYUGO_DONE, SERYUGO_FILE_LOST, or SERYUGO_FORKED. It takes no lock, so a child of a fork asks
+ * this before it takes one, which a thread that isn't there may have. */
+uint32_t seryugo_file_state(const struct seryugo_file *file);
 
 /* Waits until all that was stored before is on the disk. SERYUGO_FILE_LOST: a sync has failed, so nobody knows what is there. */
 uint32_t seryugo_file_sync(struct seryugo_file *file);
 
-/* Syncs the file, cuts off the zeros behind its text, and closes it. It returns as seryugo_file_sync, and the handle is closed in any case.
- * In a child of a fork it only frees what the child has. */
+/* Syncs the file, cuts off the zeros behind its text, and closes it. It returns as seryugo_file_sync, and the handle is closed
+ * in any case. In a child of a fork it only frees what the child has. */
 uint32_t seryugo_file_close(struct seryugo_file *file);
 
-/* Returns in words why calls fail with SERYUGO_FILE_FULL or SERYUGO_FILE_LOST, or null, and writes the cause as errno or 0. The words are there
- * until the file is closed. */
+/* Returns in words why calls fail with SERYUGO_FILE_FULL or SERYUGO_FILE_LOST, or null, and writes the cause as errno or 0.
+ * The words are there until the file is closed. */
 const char *seryugo_file_error(struct seryugo_file *file, int *number);
 
 #ifdef __cplusplus

@@ -143,15 +143,16 @@ static inline uint32_t seryugo_bytes_switchboard_open(uint64_t limit, struct ser
     return code;
 }
 
-/* Opens a switchboard whose journal is kept in the file `path`: before a call returns, its entry is there, and survives the end of the
- * program. It makes the file, or goes on where its journal ends. Objects have the numbers that they had, and seats are new. `options` and
- * `found` may be null. It fails as seryugo_file_open does, and *found has the cause.
+/* Opens a switchboard whose journal is kept in the file `path`: before a call returns, its entry is there, and survives the
+ * end of the program. It makes the file, or goes on where its journal ends. Objects have the numbers that they had, and seats
+ * are new. `options` and `found` may be null. It fails as seryugo_file_open does, and *found has the cause.
  *
- * Each call may fail with SERYUGO_FILE_FULL, and then wasn't made. It may fail with SERYUGO_FILE_LOST, which wakes all who wait: nobody knows
- * whether it is in the file. A message of more than SERYUGO_FILE_MESSAGE_MOST bytes is SERYUGO_TOO_LONG. A lane's message is kept once the lane
- * is drained. */
-static inline uint32_t seryugo_switchboard_open_file(const char *path, uint32_t messages, const struct seryugo_file_options *options,
-                                                     struct seryugo_file_found *found, struct seryugo_switchboard *board)
+ * Each call may fail with SERYUGO_FILE_FULL, and then wasn't made. It may fail with SERYUGO_FILE_LOST, which wakes all who
+ * wait: nobody knows whether it is in the file. A message of more than SERYUGO_FILE_MESSAGE_MOST bytes is SERYUGO_TOO_LONG. A
+ * lane's message is kept once the lane is drained. */
+static inline uint32_t seryugo_switchboard_open_file(const char *path, uint32_t messages,
+                                                     const struct seryugo_file_options *options, struct seryugo_file_found *found,
+                                                     struct seryugo_switchboard *board)
 {
     struct seryugo room;
     struct seryugo_file *file = NULL;
@@ -176,8 +177,8 @@ static inline uint32_t seryugo_switchboard_sync(struct seryugo_switchboard *boar
     return board->file == NULL ? (uint32_t)SERYUGO_DONE : seryugo_file_sync(board->file);
 }
 
-/* Closes a switchboard and its room, once each seat has left. Entries that a sink refused are lost. With a file it returns whether all is on
- * the disk, as seryugo_file_close does, and the switchboard is closed in any case. */
+/* Closes a switchboard and its room, once each seat has left. Entries that a sink refused are lost. With a file it returns
+ * whether all is on the disk, as seryugo_file_close does, and the switchboard is closed in any case. */
 static inline uint32_t seryugo_switchboard_close(struct seryugo_switchboard *board)
 {
     uint32_t code = SERYUGO_DONE, closed;
@@ -253,8 +254,8 @@ static inline uint32_t seryugo_note(struct seryugo_switchboard *board)
     return code;
 }
 
-/* Wakes all threads whose calls may go on now, and unlocks the switchboard. With a file it returns whether the entries of your calls are kept,
- * as seryugo_file_note does. */
+/* Wakes all threads whose calls may go on now, and unlocks the switchboard. With a file it returns whether the entries of your
+ * calls are kept, as seryugo_file_note does. */
 static inline uint32_t seryugo_switchboard_unlock(struct seryugo_switchboard *board)
 {
     uint32_t code = seryugo_note(board);
@@ -272,8 +273,8 @@ static inline void seryugo_let_go(struct seryugo_switchboard *board)
     pthread_mutex_unlock(&board->lock);
 }
 
-/* Hands the entries since the last cut to the sink, at the end or before a pause. It fails as seryugo_keep does, or with SERYUGO_WRONG_HANDLE if
- * the journal is kept in a file. */
+/* Hands the entries since the last cut to the sink, at the end or before a pause. It fails as seryugo_keep does, or with
+ * SERYUGO_WRONG_HANDLE if the journal is kept in a file. */
 static inline uint32_t seryugo_switchboard_keep(struct seryugo_switchboard *board)
 {
     uint32_t code;
@@ -396,14 +397,22 @@ struct seryugo_turn {
     /* With a file: the call wasn't made; and it was made, but isn't kept. */
     bool is_refused;
     bool is_unkept;
+    /* The process is a forked child: another thread of its parent may have the lock for ever. */
+    bool is_forked;
 };
 
 /* Locks the switchboard for a seat's call. */
 static inline struct seryugo_turn seryugo_begin(struct seryugo_seat *seat, const struct timespec *deadline)
 {
-    struct seryugo_turn turn = {seat, deadline, false, SERYUGO_DONE, false, false};
+    struct seryugo_turn turn = {seat, deadline, false, SERYUGO_DONE, false, false, false};
+    struct seryugo_switchboard *board = seat->board;
 
-    seryugo_switchboard_lock(seat->board);
+    if (board->file != NULL && seryugo_file_state(board->file) == SERYUGO_FORKED) {
+        turn.code = SERYUGO_FORKED;
+        turn.is_forked = true;
+        return turn;
+    }
+    seryugo_switchboard_lock(board);
     return turn;
 }
 
@@ -468,8 +477,8 @@ static inline bool seryugo_may_call(struct seryugo_turn *turn, uint64_t bytes)
 {
     struct seryugo_switchboard *board = turn->seat->board;
 
-    if (board->file == NULL) {
-        return true;
+    if (board->file == NULL || turn->is_forked) {
+        return !turn->is_forked;
     }
     turn->code = seryugo_file_reserve(board->file, &board->room, bytes);
     turn->is_refused = turn->code != SERYUGO_DONE;
@@ -502,6 +511,9 @@ static inline bool seryugo_finish_or_repeat(struct seryugo_turn *turn)
     bool was_again = turn->is_again;
 
     turn->is_again = false;
+    if (turn->is_forked) {
+        return false;
+    }
     if (board->file != NULL && !seryugo_is_kept(turn)) {
         seryugo_let_go(board);
         return false;
@@ -536,8 +548,8 @@ static inline bool seryugo_finish_or_repeat(struct seryugo_turn *turn)
         }                                                         \
     } while (seryugo_finish_or_repeat(&turn))
 
-/* The body of a function that makes a call without bytes, with bytes, and one that may hand bytes over: these are freed if the call isn't
- * kept. */
+/* The body of a function that makes a call without bytes, with bytes, and one that may hand bytes over: these are freed if the
+ * call isn't kept. */
 #define SERYUGO_MAKE(deadline, call)                              \
     SERYUGO_TURN(deadline, 0, call);                              \
     return turn.code
@@ -653,8 +665,9 @@ static inline uint32_t seryugo_seat_swap(struct seryugo_seat *seat, uint64_t var
     SERYUGO_MAKE(deadline, seryugo_swap(&seat->board->room, seat->number, variable, message, turn.is_again, held));
 }
 
-/* Makes the mailbox of this number, unless it is there: a program that goes on from a file finds its mailboxes so. Numbers of objects count from
- * 0, as the objects are made. SERYUGO_WRONG_KIND: the number is another object's. SERYUGO_NO_SUCH: there is none of the number before. */
+/* Makes the mailbox of this number, unless it is there: a program that goes on from a file finds its mailboxes so. Numbers of
+ * objects count from 0, as the objects are made. SERYUGO_WRONG_KIND: the number is another object's. SERYUGO_NO_SUCH: there is
+ * none of the number before. */
 static inline uint32_t seryugo_mailbox_again(struct seryugo *room, uint64_t seat, uint64_t number)
 {
     uint64_t kind = 0, made = 0;
@@ -733,7 +746,8 @@ static inline uint32_t seryugo_seat_bytes_get_poll(struct seryugo_seat *seat, ui
 static inline uint32_t seryugo_seat_bytes_take(struct seryugo_seat *seat, uint64_t variable, const struct timespec *deadline,
                                                struct seryugo_bytes *message)
 {
-    SERYUGO_MAKE_GOT(deadline, 0, message, seryugo_bytes_take(&seat->board->room, seat->number, variable, turn.is_again, message));
+    SERYUGO_MAKE_GOT(deadline, 0, message,
+                     seryugo_bytes_take(&seat->board->room, seat->number, variable, turn.is_again, message));
 }
 
 static inline uint32_t seryugo_seat_bytes_take_poll(struct seryugo_seat *seat, uint64_t variable, struct seryugo_bytes *message)

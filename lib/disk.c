@@ -109,6 +109,15 @@ static bool is_whole(const struct seryugo_file *file)
     return fstat(file->descriptor, &now) == 0 && (uint64_t)now.st_size >= least;
 }
 
+/* Whether what was synced still has its last line end. A file that was cut and has grown since has a 0 there. */
+static bool has_line_end(const struct seryugo_file *file, uint64_t synced)
+{
+    char last = 0;
+    size_t length = 0;
+
+    return seryugo_read_at(file->descriptor, &last, 1, synced - 1, &length) == 0 && length == 1 && last == '\n';
+}
+
 /* ---- growing ---- */
 
 static uint64_t to_page(uint64_t at) { return (at + SERYUGO_PAGE - 1) / SERYUGO_PAGE * SERYUGO_PAGE; }
@@ -187,8 +196,8 @@ int seryugo_file_grow(struct seryugo_file *file, uint64_t need)
 
 /* ---- views ---- */
 
-/* Room ahead is zeroed in memory, so that a store finds its page. Pages are taken one by one: a large one would be written whole at each
- * sync. */
+/* Room ahead is zeroed in memory, so that a store finds its page. Pages are taken one by one: a large one would be written
+ * whole at each sync. */
 static void populate(struct seryugo_file *file, uint64_t from, uint64_t to)
 {
     struct seryugo_view view;
@@ -260,7 +269,8 @@ static bool begin_sync(struct seryugo_file *file, struct seryugo_step *step)
     return syncs;
 }
 
-/* A sync that fails is never made again: the system may have forgotten what it couldn't write. An interrupted one counts as failed. */
+/* A sync that fails is never made again: the system may have forgotten what it couldn't write. An interrupted one counts as
+ * failed. */
 static void sync_once(struct seryugo_file *file)
 {
     struct seryugo_step step;
@@ -273,7 +283,7 @@ static void sync_once(struct seryugo_file *file)
     pthread_mutex_lock(&file->lock);
     if (error != 0) {
         lose(file, "fdatasync", error);
-    } else if (!is_whole(file)) {
+    } else if (!is_whole(file) || !has_line_end(file, step.from)) {
         lose(file, "the file was cut by others", 0);
     } else {
         seryugo_store_end(&file->store, SERYUGO_STEP_SYNC, true, step.to);

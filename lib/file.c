@@ -35,7 +35,8 @@ static const uint32_t *new_flag(void)
 
 /* ---- forks ---- */
 
-/* All open files of the process. A forked child has copies of their descriptors, and would keep their locks after its parent's end. */
+/* All open files of the process. A forked child has copies of their descriptors, and would keep their locks after its parent's
+ * end. */
 static pthread_mutex_t list_lock = PTHREAD_MUTEX_INITIALIZER;
 static pthread_once_t is_listed = PTHREAD_ONCE_INIT;
 static struct seryugo_file *files;
@@ -125,8 +126,7 @@ void seryugo_file_free(struct seryugo_file *file)
     free(file);
 }
 
-/* Why no call is possible, or SERYUGO_DONE. */
-static uint32_t standing(const struct seryugo_file *file)
+uint32_t seryugo_file_state(const struct seryugo_file *file)
 {
     if (*file->alive == 0) {
         return SERYUGO_FORKED;
@@ -153,7 +153,7 @@ static uint32_t make_room(struct seryugo_file *file)
     }
     file->bound = least(atomic_load(&file->grown), atomic_load(&file->synced) + SERYUGO_UNSYNCED_MOST);
     file->bound = file->is_mapped ? least(file->bound, file->view.end) : file->bound;
-    return code == SERYUGO_DONE ? standing(file) : code;
+    return code == SERYUGO_DONE ? seryugo_file_state(file) : code;
 }
 
 /* A thread that is cancelled here would leave the locks locked. */
@@ -170,7 +170,7 @@ static uint32_t make_room_uncancelled(struct seryugo_file *file)
 
 uint32_t seryugo_file_reserve(struct seryugo_file *file, struct seryugo *room, uint64_t bytes)
 {
-    uint32_t code = standing(file);
+    uint32_t code = seryugo_file_state(file);
 
     if (code != SERYUGO_DONE) {
         return code;
@@ -202,7 +202,9 @@ static uint32_t write_lines(struct seryugo_file *file, size_t length)
 
     pthread_setcancelstate(PTHREAD_CANCEL_DISABLE, &state);
     if (length != 0) {
-        error = seryugo_may_reach(file->stored + length) ? seryugo_write_at(file->descriptor, file->lines, length, file->stored) : EFBIG;
+        error = seryugo_may_reach(file->stored + length)
+                    ? seryugo_write_at(file->descriptor, file->lines, length, file->stored)
+                    : EFBIG;
     }
     pthread_setcancelstate(state, &state);
     if (error != 0) {
@@ -247,7 +249,7 @@ static void drop_entries(struct seryugo_file *file, struct seryugo *room)
 
 uint32_t seryugo_file_note(struct seryugo_file *file, struct seryugo *room, uint64_t *position)
 {
-    uint32_t code = standing(file);
+    uint32_t code = seryugo_file_state(file);
 
     if (code != SERYUGO_DONE) {
         return code;

@@ -160,7 +160,8 @@ static uint32_t open_named(struct seryugo_opening *opening, const char *name)
 
 /* ---- a new file ---- */
 
-/* A file beside that is already there is this library's, if it has a beginning of the header and nothing else: its program was killed. */
+/* A file beside that is already there is this library's, if it has a beginning of the header and nothing else: its program was
+ * killed. */
 static uint32_t take_leftover(struct seryugo_opening *opening, const char *beside)
 {
     char bytes[HEADER_LENGTH + 1];
@@ -235,5 +236,8 @@ uint32_t seryugo_find_file(struct seryugo_opening *opening)
             code = create(opening);
         }
     }
-    return code == SERYUGO_NOTHING ? seryugo_refuse(opening, SERYUGO_FILE_BUSY, "the file is exchanged again and again", 0) : code;
+    if (code == SERYUGO_NOTHING) {
+        return seryugo_refuse(opening, SERYUGO_FILE_BUSY, "the file is exchanged again and again", 0);
+    }
+    return code;
 }

@@ -22,8 +22,10 @@ struct line {
 
 static char *put_number(char *to, uint64_t number)
 {
-    static const char pairs[] = "0001020304050607080910111213141516171819202122232425262728293031323334353637383940414243444546474849"
-                                "5051525354555657585960616263646566676869707172737475767778798081828384858687888990919293949596979899";
+    static const char pairs[] = "00010203040506070809101112131415161718192021222324"
+                                "25262728293031323334353637383940414243444546474849"
+                                "50515253545556575859606162636465666768697071727374"
+                                "75767778798081828384858687888990919293949596979899";
     size_t length = 1;
     char *at;
 
@@ -249,7 +251,8 @@ static uint32_t store_line(const struct line *line, char *to, size_t size, size_
     return SERYUGO_DONE;
 }
 
-uint32_t seryugo_entries_text(const struct seryugo *room, uint64_t from, void *buffer, size_t size, uint64_t *next, size_t *length)
+uint32_t seryugo_entries_text(const struct seryugo *room, uint64_t from, void *buffer, size_t size, uint64_t *next,
+                               size_t *length)
 {
     struct line line;
     struct seryugo owner;

@@ -1,4 +1,5 @@
-/* A journal's file, part 4: what is in it is read, judged, and gone on with. Nothing is written before the file is found to be lawful. */
+/* A journal's file, part 4: what is in it is read, judged, and gone on with. Nothing is written before the file is found to be
+ * lawful. */
 #ifndef _GNU_SOURCE
 #define _GNU_SOURCE
 #endif
@@ -46,7 +47,7 @@ static uint32_t judge_header(struct seryugo_opening *opening, size_t length)
         return seryugo_refuse(opening, SERYUGO_OTHER_VERSION, "a version that this library doesn't know", 0);
     }
     if (version % 2 != (opening->messages == SERYUGO_NUMBERS)) {
-        return seryugo_refuse(opening, SERYUGO_OTHER_MESSAGES, opening->messages == SERYUGO_NUMBERS ? "it has bytes" : "it has numbers", 0);
+        return seryugo_refuse(opening, SERYUGO_OTHER_MESSAGES, version % 2 == 0 ? "it has bytes" : "it has numbers", 0);
     }
     return SERYUGO_DONE;
 }
@@ -131,8 +132,8 @@ static uint32_t find_end(struct seryugo_opening *opening, uint64_t *end)
     return SERYUGO_DONE;
 }
 
-/* A file of zeros alone is no journal. A new one has its header on the disk before it has its name. An empty file may become one, and so
- * may what a crash left of the header in it. */
+/* A file of zeros alone is no journal. A new one has its header on the disk before it has its name. An empty file may become
+ * one, and so may what a crash left of the header in it. */
 static bool is_blank(const struct seryugo_opening *opening, uint64_t end)
 {
     return opening->text == 0 && (end != 0 || opening->length > HEADER_LENGTH);
@@ -158,8 +159,9 @@ static int last_line(struct seryugo_opening *opening, char *line, size_t size)
     return error;
 }
 
-/* What is written behind the kept text. An open piece is gone on with as it is, and what has an end by a new piece of the same version: so
- * nothing of the past is lost, or copied. A sealed piece names the sum of the one before, which that one's last line has. */
+/* What is written behind the kept text. An open piece is gone on with as it is, and what has an end by a new piece of the same
+ * version: so nothing of the past is lost, or copied. A sealed piece names the sum of the one before, which that one's last
+ * line has. */
 static uint32_t prepare_more(struct seryugo_opening *opening)
 {
     struct seryugo_file_found *found = opening->found;
@@ -241,7 +243,8 @@ static uint32_t save(struct seryugo_opening *opening, uint64_t end)
 
 /* ---- the opening's steps ---- */
 
-/* Writes kept bytes again as they are, and then the new lines: an earlier sync may have failed, and left bytes in memory alone. */
+/* Writes kept bytes again as they are, and then the new lines: an earlier sync may have failed, and left bytes in memory
+ * alone. */
 static int write_again(struct seryugo_opening *opening, const struct seryugo_step *step)
 {
     uint64_t kept = opening->found->kept;
@@ -351,10 +354,11 @@ static uint32_t restore(struct seryugo_opening *opening, uint64_t *end)
 }
 
 /* Makes the handle, and starts its helper. */
-static uint32_t start(struct seryugo_opening *opening, const struct seryugo_file_options *options, const struct seryugo_store *store,
-                      struct seryugo_file **file)
+static uint32_t start(struct seryugo_opening *opening, const struct seryugo_file_options *options,
+                      const struct seryugo_store *store, struct seryugo_file **file)
 {
-    struct seryugo_file *made = seryugo_file_new(opening->descriptor, may_be_mapped(opening, options), opening->messages, opening->limit);
+    bool is_mapped = may_be_mapped(opening, options);
+    struct seryugo_file *made = seryugo_file_new(opening->descriptor, is_mapped, opening->messages, opening->limit);
     uint64_t segment = options->segment == 0 ? DEFAULT_SEGMENT : options->segment;
 
     if (made == NULL) {

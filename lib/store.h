@@ -1,13 +1,13 @@
-/* The rule of a journal's file as a machine of numbers. It makes no call of the system: a driver asks it for a step, does the step, and
- * says how it went. All places are bytes from the file's beginning. */
+/* The rule of a journal's file as a machine of numbers. It makes no call of the system: a driver asks it for a step, does the
+ * step, and says how it went. All places are bytes from the file's beginning. */
 #ifndef SERYUGO_LIB_STORE_H
 #define SERYUGO_LIB_STORE_H
 
 #include <stdbool.h>
 #include <stdint.h>
 
-/* How many bytes are unsynced at most. So many are written again when a file is opened, because a sync that failed for an earlier process
- * may have left them in memory alone. */
+/* How many bytes are unsynced at most. So many are written again when a file is opened, because a sync that failed for an
+ * earlier process may have left them in memory alone. */
 #define SERYUGO_UNSYNCED_MOST ((uint64_t)64 << 20)
 
 /* What the file is about to go through. The first four are an opening's, in this order. */
@@ -39,8 +39,8 @@ struct seryugo_step {
     uint64_t to;
 };
 
-/* Bytes of text that calls were answered by; that are in the file for other processes; that are on the disk; and that the file has room
- * for. Then how far the steps under way reach, Store and Sync. */
+/* Bytes of text that calls were answered by; that are in the file for other processes; that are on the disk; and that the file
+ * has room for. Then how far the steps under way reach, Store and Sync. */
 struct seryugo_store {
     uint64_t accepted;
     uint64_t stored;
@@ -54,11 +54,12 @@ struct seryugo_store {
 /* Begins to open a file of `length` bytes of which the first `kept` are kept, and `more` bytes follow these. */
 void seryugo_store_open(struct seryugo_store *store, uint64_t length, uint64_t kept, uint64_t more);
 
-/* Returns true and writes a step of this kind, which begins with that. An opening takes any kind, and writes its next step. Only a Grow
- * reads `to`. */
+/* Returns true and writes a step of this kind, which begins with that. An opening takes any kind, and writes its next step.
+ * Only a Grow reads `to`. */
 bool seryugo_store_begin(struct seryugo_store *store, uint32_t kind, uint64_t to, struct seryugo_step *step);
 
-/* Ends a step of this kind. A Store that is done says how far it came: it may end more than once, and reaches further each time. */
+/* Ends a step of this kind. A Store that is done says how far it came: it may end more than once, and reaches further each
+ * time. */
 void seryugo_store_end(struct seryugo_store *store, uint32_t kind, bool is_done, uint64_t to);
 
 #endif

@@ -54,7 +54,8 @@ bool seryugo_store_begin(struct seryugo_store *store, uint32_t kind, uint64_t to
     }
 }
 
-/* A step that failed. In an opening nothing was acknowledged, so the file may be opened again. After that only a Grow may fail. */
+/* A step that failed. In an opening nothing was acknowledged, so the file may be opened again. After that only a Grow may
+ * fail. */
 static void fail(struct seryugo_store *store, uint32_t kind)
 {
     if (kind != SERYUGO_STEP_GROW) {

@@ -8,8 +8,9 @@ int main(int count, char **words)
     struct seryugo_file_found found;
     struct seryugo_seat seat;
     uint64_t letter = 0;
+    const char *path = count < 2 ? "letters.journal" : words[1];
 
-    if (seryugo_switchboard_open_file(count < 2 ? "letters.journal" : words[1], SERYUGO_NUMBERS, NULL, &found, &board) != SERYUGO_DONE) {
+    if (seryugo_switchboard_open_file(path, SERYUGO_NUMBERS, NULL, &found, &board) != SERYUGO_DONE) {
         fprintf(stderr, "%s\n", found.words);
         return 1;
     }

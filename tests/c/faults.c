@@ -1,6 +1,6 @@
-/* Fails, shortens or interrupts calls of the system: a library for LD_PRELOAD. FAULT=CALL:AT:KIND[:all] with a call below, which of its calls is
- * met, from 1, and `fail`, `full`, `short` or `eintr`; with `all`, each later one too, apart from interrupted ones. Only files whose names have
- * "journal" in them are met: write is met as pwrite. */
+/* Fails, shortens or interrupts calls of the system: a library for LD_PRELOAD. FAULT=CALL:AT:KIND[:all] with a call below,
+ * which of its calls is met, from 1, and `fail`, `full`, `short` or `eintr`; with `all`, each later one too, apart from
+ * interrupted ones. Only files whose names have "journal" in them are met: write is met as pwrite. */
 #ifndef _GNU_SOURCE
 #define _GNU_SOURCE
 #endif

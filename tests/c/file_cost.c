@@ -1,5 +1,6 @@
-/* What the file itself costs, without the core: file_cost FILE COUNT [bytes] [writes]. The calls that file.c makes of the core stand here, and do next
- * to nothing. It prints nanoseconds of the processor for a call: of this thread, and with the helper's. */
+/* What the file itself costs, without the core: file_cost FILE COUNT [bytes] [writes]. The calls that file.c makes of the core
+ * stand here, and do next to nothing. It prints nanoseconds of the processor for a call: of this thread, and with the
+ * helper's. */
 #include "seryugo_file.h"
 
 #include <stdio.h>
@@ -116,7 +117,8 @@ int main(int many, char **words)
 
     is_bytes = many > 3 && strcmp(words[3], "bytes") == 0;
     memset(message, 'x', sizeof message);
-    if (many < 3 || seryugo_file_open(words[1], is_bytes ? SERYUGO_BYTES : SERYUGO_NUMBERS, 65536, &options, &room, NULL, &file) != SERYUGO_DONE) {
+    code = seryugo_file_open(many < 3 ? "" : words[1], is_bytes, 65536, &options, &room, NULL, &file);
+    if (code != SERYUGO_DONE) {
         return 64;
     }
     mine = now(CLOCK_THREAD_CPUTIME_ID);

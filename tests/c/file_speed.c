@@ -1,5 +1,5 @@
-/* What a call kept in a file costs: file_speed FILE|- THREADS COUNT [bytes] [writes]. Each thread sends COUNT messages to its own mailbox and receives
- * each. It prints nanoseconds for a pair: of the processor, all threads together, and of time. */
+/* What a call kept in a file costs: file_speed FILE|- THREADS COUNT [bytes] [writes]. Each thread sends COUNT messages to its
+ * own mailbox and receives each. It prints nanoseconds for a pair: of the processor, all threads together, and of time. */
 #include "seryugo_switchboard.h"
 
 #include <stdio.h>

@@ -1,6 +1,6 @@
-/* Four threads on a switchboard whose journal is in a file. Each prints what returned, as soon as it returned: `sent V` or `got V`. A script kills
- * the program, and looks for all of that in the file: kills FILE RUN COUNT [bytes] [writes] [SEGMENT]. Values of a run begin with RUN, and each
- * thread sends COUNT of them. */
+/* Four threads on a switchboard whose journal is in a file. Each prints what returned, as soon as it returned: `sent V` or
+ * `got V`. A script kills the program, and looks for all of that in the file: kills FILE RUN COUNT [bytes] [writes] [SEGMENT].
+ * Values of a run begin with RUN, and each thread sends COUNT of them. */
 #include "seryugo_switchboard.h"
 
 #include <stdio.h>

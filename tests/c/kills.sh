@@ -9,7 +9,6 @@ seed=${3:-$$}
 here=$(cd "$(dirname "$0")" && pwd)
 work=$(mktemp -d "${SERYUGO_TRY:-.}/kills.XXXXXX")
 trap 'rm -rf "$work"' EXIT
-mkfifo "$work/pipe"
 
 # random N: a number from 0 to N - 1.
 random() {
@@ -34,18 +33,19 @@ while [ "$run" -le "$many" ]; do
     fi
     random 3 && segment=$([ "$drawn" -eq 0 ] && echo 4096 || { [ "$drawn" -eq 1 ] && echo 65536 || echo 0; })
     random 4 && way=$([ "$drawn" -ne 0 ] || echo writes)
-    cat "$work/pipe" > "$work/told" &
+    : > "$work/pid"
+    { "$program" "$file" "$run" 100000000 $kind $way "$segment" 2> "$work/error" & echo $! > "$work/pid"
+      status=0; wait $! 2> "$work/wait" || status=$?; echo "$status" > "$work/status"; } | cat > "$work/told" &
     reader=$!
-    "$program" "$file" "$run" 100000000 $kind $way "$segment" > "$work/pipe" 2> "$work/error" &
-    pid=$!
-    # Each eighth is killed while it opens the file, or soon after.
-    [ $((run % 8)) -eq 0 ] || until grep -q opened "$work/error" || ! kill -0 "$pid" 2> "$work/wait"; do sleep 0.01; done
+    until [ -s "$work/pid" ]; do sleep 0.01; done
+    pid=$(cat "$work/pid")
+    # Each eighth is killed while it opens the file, or soon after. The others have printed something.
+    [ $((run % 8)) -eq 0 ] || until [ -s "$work/told" ] || ! kill -0 "$pid" 2> "$work/none"; do sleep 0.01; done
     random 60
     sleep "0.$(printf %03d $((drawn + 1)))"
     kill -9 "$pid"
-    status=0
-    wait "$pid" 2> "$work/wait" || status=$?
     wait "$reader"
+    status=$(cat "$work/status")
     [ "$status" -eq 137 ] || { echo "run $run ended with $status before it was killed"; cat "$work/error"; exit 1; }
     # A line that was cut by the kill was not told.
     awk 'NF == 2' "$work/told" >> "$work/all"
