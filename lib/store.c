@@ -1,4 +1,4 @@
-/* A stand-in for the proved machine. Nothing else of the library knows what is in these functions. */
+/* The rule of a journal's file. The crate cml_store has one that is proved, with more steps. Nothing calls that yet. */
 #include "store.h"
 
 void seryugo_store_open(struct seryugo_store *store, uint64_t length, uint64_t kept, uint64_t more)

@@ -1,4 +1,5 @@
-/* A stand-in for the proved export: lines of a room's entries, over the calls that read one entry. */
+/* The lines of a room's entries, over the calls that read one entry. The crate cml_journal writes such lines proved. These are tested: what is
+ * written here is read there. */
 #include "lines.h"
 
 #include <string.h>
@@ -48,7 +49,7 @@ static char *put_number(char *to, uint64_t number)
 
 static bool is_plain(uint8_t byte) { return byte > 0x20 && byte < 0x7F && byte != '%'; }
 
-/* Whether eight bytes may all stand in a line as they are. It may say no where they may. */
+/* Whether eight bytes may all be in a line as they are. It may say no where they may. */
 static bool are_plain(uint64_t eight)
 {
     const uint64_t ones = 0x0101010101010101, tops = 0x8080808080808080;
