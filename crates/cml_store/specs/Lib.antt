@@ -1,0 +1,4 @@
+pub mod Disk
+pub mod Machine
+pub mod Recovery
+pub mod World

@@ -1,0 +1,17 @@
+//! The rule of a journal's file, without input and output: what to store and to sync next, what a kill keeps, and what a loss of
+//! power keeps.
+#![tactic(auto)]
+
+mod laws;
+mod stage;
+mod step;
+mod store;
+
+pub use laws::{
+    either_will_do, it_goes_on, marks_stay, nothing_left_is_refused, nothing_more_is_done,
+    refused_is_untouched, stored_survives_kills, stores_lie_inside, synced_survives_power_loss,
+    whatever_is_behind,
+};
+pub use stage::Stage;
+pub use step::{Step, Unaccepted};
+pub use store::{GROWTH, LIMIT, Store};
