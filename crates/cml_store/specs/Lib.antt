@@ -2,3 +2,4 @@ pub mod Disk
 pub mod Machine
 pub mod Recovery
 pub mod World
+pub mod Texts
