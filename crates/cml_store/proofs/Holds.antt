@@ -1,5 +1,5 @@
 -- What holds of a store and its file at each moment.
-use Rattle.std.proofs.Common.{◌≡◌, ◌⊎◌, inl, inr, ⊎_elim, ℕ, ◌+◌, ◌≤◌, Bool, true, false, Option, Some, None, List, [], ◌++◌, length, take, sym, ◌∙◌, ap, arith, length-append}
+use Rattle.std.proofs.Common.{◌≡◌, inl, inr, ⊎_elim, ℕ, ◌+◌, ◌≤◌, Bool, true, false, Option, Some, None, List, [], ◌++◌, length, take, ◌∙◌, ap, arith, length-append}
 use Rattle.std.proofs.lemmas.Grind.{common_steps}
 use Rattle.cml_store.specs.declared.stage.Stage.{Stage}
 use Rattle.cml_store.specs.declared.stage.Stage.TheVariants.{Dirty, Trimming, Trimmed, Rewriting, Settling, Unnamed, Naming, Open, Lost}
@@ -32,7 +32,8 @@ module _ (limit : ℕ) (whole : List ℕ → Bool) where
 
   -- what the step under way on the file's bytes needs, so that it harms nothing
   abbrev pub Under : (text seen : List ℕ) → (mark stored grown : ℕ) → Step → Type 0
-  Under text seen mark stored grown (Store from to) = (from ≤ to) × (to ≤ length text) × (to ≤ length seen) × (whole (take to text) ≡ true)
+  Under text seen mark stored grown (Store from to) =
+      (from ≤ to) × (to ≤ length text) × (to ≤ length seen) × (whole (take to text) ≡ true)
   Under text seen mark stored grown (Cut to) = (mark ≤ to) × (stored ≤ to)
   Under text seen mark stored grown (Grow to) = (mark ≤ to) × (stored ≤ to) × (grown ≤ to)
   Under text seen mark stored grown Nothing = Unit {0}
@@ -79,7 +80,8 @@ module _ (limit : ℕ) (whole : List ℕ → Bool) where
   pub record Settle (w : World) : Type 0 where
     pub trim : Trim Settling w
     pub all : w.store.stored ≡ w.store.accepted
-    pub since : w.disk.failing ≡ false → (c : List ℕ) → LeftOf w.disk.mark w.disk.since c → Spotty w.store.accepted w.store.accepted w.text c
+    pub since : w.disk.failing ≡ false → (c : List ℕ) → LeftOf w.disk.mark w.disk.since c
+        → Spotty w.store.accepted w.store.accepted w.text c
 
   -- it is on disk
   pub record Named (stage : Stage) (w : World) : Type 0 where
@@ -141,7 +143,8 @@ module _ (limit : ℕ) (whole : List ℕ → Bool) where
   closed_at Lost w h = h
 
   -- the step under way harms nothing up to a mark
-  pub fits_mark : (text seen : List ℕ) (mark stored grown s : ℕ) (step : Step) → s ≤ mark → Under text seen mark stored grown step → Fits s (length text) text step
+  pub fits_mark : (text seen : List ℕ) (mark stored grown s : ℕ) (step : Step) → s ≤ mark → Under text seen mark stored grown step
+      → Fits s (length text) text step
   fits_mark text seen mark stored grown s (Store from to) le u = (u.0, u.1, u.1)
   fits_mark text seen mark stored grown s (Cut to) le u = omega (arith, le, u.0)
   fits_mark text seen mark stored grown s (Grow to) le u = omega (arith, le, u.0)
@@ -149,7 +152,8 @@ module _ (limit : ℕ) (whole : List ℕ → Bool) where
   fits_mark text seen mark stored grown s Sync le u = tt
   fits_mark text seen mark stored grown s SyncFolder le u = tt
 
-  pub fits_stored : (text seen : List ℕ) (mark stored grown s : ℕ) (step : Step) → s ≤ stored → Under text seen mark stored grown step → Fits s (length text) text step
+  pub fits_stored : (text seen : List ℕ) (mark stored grown s : ℕ) (step : Step) → s ≤ stored
+      → Under text seen mark stored grown step → Fits s (length text) text step
   fits_stored text seen mark stored grown s (Store from to) le u = (u.0, u.1, u.1)
   fits_stored text seen mark stored grown s (Cut to) le u = omega (arith, le, u.1)
   fits_stored text seen mark stored grown s (Grow to) le u = omega (arith, le, u.1)
@@ -158,7 +162,8 @@ module _ (limit : ℕ) (whole : List ℕ → Bool) where
   fits_stored text seen mark stored grown s SyncFolder le u = tt
 
   -- the system has forgotten
-  pub under_forgotten : (text seen now : List ℕ) (mark less stored grown : ℕ) (step : Step) → less ≤ mark → length now ≡ length seen
+  pub under_forgotten : (text seen now : List ℕ) (mark less stored grown : ℕ) (step : Step) → less ≤ mark
+      → length now ≡ length seen
       → Under text seen mark stored grown step → Under text now less stored grown step
   under_forgotten text seen now mark less stored grown (Store from to) le e u = (u.0, u.1, omega (arith, e, u.2), u.3)
   under_forgotten text seen now mark less stored grown (Cut to) le e u = (omega (arith, le, u.0), u.1)
@@ -168,7 +173,8 @@ module _ (limit : ℕ) (whole : List ℕ → Bool) where
   under_forgotten text seen now mark less stored grown SyncFolder le e u = tt
 
   -- the text goes on
-  pub under_more : (text more seen : List ℕ) (mark stored grown : ℕ) (step : Step) → Under text seen mark stored grown step → Under (text ++ more) seen mark stored grown step
+  pub under_more : (text more seen : List ℕ) (mark stored grown : ℕ) (step : Step) → Under text seen mark stored grown step
+      → Under (text ++ more) seen mark stored grown step
   under_more text more seen mark stored grown (Store from to) u =
       (u.0, omega (arith, u.1, length-append text more), u.2, ap whole (take_append to text more u.1) ∙ u.3)
   under_more text more seen mark stored grown (Cut to) u = u
@@ -183,10 +189,12 @@ module _ (limit : ℕ) (whole : List ℕ → Bool) where
   closed_as old stage w s h u = record { marks = h.marks; lasts = h.lasts; seen = h.seen; next = h.next; under = u }
 
   -- a step on the file's bytes has begun
-  lasts_started : (s k : ℕ) (text : List ℕ) (disk : Disk) (step : Step) → Fits s k text step → ((c : List ℕ) → MayLeave disk c → Spotty s k text c)
+  lasts_started : (s k : ℕ) (text : List ℕ) (disk : Disk) (step : Step) → Fits s k text step
+      → ((c : List ℕ) → MayLeave disk c → Spotty s k text c)
       → (c : List ℕ) → MayLeave (store_started text step disk) c → Spotty s k text c
   lasts_started s k text disk step fits old c may = ⊎_elim
-      (λ (left : LeftOf disk.kept (calls_of text step ++ disk.calls) c). started s k text disk.kept disk.calls step fits (λ x l. old x (inl l)) c left)
+      (λ (left : LeftOf disk.kept (calls_of text step ++ disk.calls) c). started s k text disk.kept disk.calls step fits
+      (λ x l. old x (inl l)) c left)
       (λ (gone : (disk.named ≡ false) × (c ≡ [])). old c (inr gone))
       may
 
@@ -204,7 +212,8 @@ module _ (limit : ℕ) (whole : List ℕ → Bool) where
 
   -- it has ended
   pub closed_ended : (old stage : Stage) (w : World) (s : State) (done : Bool) (seen next : List ℕ) → Closed old w
-      → MayEnd w.text (storing_at old w.store) done w.disk.seen seen → MayEnd w.text (storing_at old w.store) done w.disk.next next
+      → MayEnd w.text (storing_at old w.store) done w.disk.seen seen
+      → MayEnd w.text (storing_at old w.store) done w.disk.next next
       → Under w.text seen w.stored s.stored s.grown (storing_at stage s)
       → Closed stage (record w { store = s; disk = record w.disk { seen = seen; next = next } })
   closed_ended old stage w s done seen next h may also u =
@@ -219,7 +228,8 @@ module _ (limit : ℕ) (whole : List ℕ → Bool) where
       }
 
   -- the system has forgotten
-  pub closed_forgotten : (old stage : Stage) (w : World) (s : State) (failing : Bool) (seen next : List ℕ) → Closed old w → MayForget w.disk seen next
+  pub closed_forgotten : (old stage : Stage) (w : World) (s : State) (failing : Bool) (seen next : List ℕ) → Closed old w
+      → MayForget w.disk seen next
       → Under w.text seen w.synced s.stored s.grown (storing_at stage s)
       → Closed stage (record w { store = s; disk = record w.disk { seen = seen; next = next; failing = failing }; stored = w.synced })
   closed_forgotten old stage w s failing seen next h may u = record {
@@ -242,4 +252,5 @@ module _ (limit : ℕ) (whole : List ℕ → Bool) where
   pub read_part : (stage : Stage) (w : World) (old new : List ℕ) → Closed stage w → Spotty w.stored (length w.text) w.text old
       → LeftOf old (calls_of w.text (storing_at stage w.store)) new → Spotty w.stored (length w.text) w.text new
   read_part stage w old new h sp left = in_part w.stored (length w.text) w.text (storing_at stage w.store) old new
-      (fits_mark w.text w.disk.seen w.stored w.store.stored w.store.grown w.stored (storing_at stage w.store) (omega arith) h.under) sp left
+      (fits_mark w.text w.disk.seen w.stored w.store.stored w.store.grown w.stored (storing_at stage w.store) (omega arith)
+      h.under) sp left

@@ -1,6 +1,6 @@
 -- What recovery keeps of such bytes.
-use Rattle.std.proofs.Common.{◌≡◌, ◌⊎◌, inl, inr, ⊎_elim, ℕ, zero, suc, ◌+◌, ◌<◌, ◌≤◌, Bool, true, false, List, [], ◌∷◌, ◌++◌, length, get_or, take, refl, sym, ◌∙◌, ap, arith, length-take, get_or-take, cond, nat_eq}
-use Rattle.std.proofs.lemmas.List.{get_or_append_left, get_or_past, ext_get_or}
+use Rattle.std.proofs.Common.{◌≡◌, ◌⊎◌, inl, inr, ⊎_elim, ℕ, zero, suc, ◌<◌, ◌≤◌, Bool, true, false, List, [], ◌∷◌, ◌++◌, length, get_or, take, refl, sym, ◌∙◌, ap, arith, length-take, get_or-take, cond, nat_eq}
+use Rattle.std.proofs.lemmas.List.{ext_get_or}
 use Rattle.std.proofs.lemmas.Bool.{cases_lt, eqb-true, eqb-false}
 use Rattle.std.proofs.lemmas.Grind.{common_steps}
 use Rattle.cml_store.specs.Recovery.{printed, IsPrinted, longest, recovered}
@@ -25,7 +25,8 @@ printed_take zero (x ∷ a) p = tt
 printed_take (suc n) [] p = p
 printed_take (suc n) (x ∷ a) p = (p.0, printed_take n a p.1)
 
-behind : (b : ℕ) (c p : List ℕ) → ((i : ℕ) → i < length p → get_or p i 0 ≡ get_or c i 0) → (i : ℕ) → i < length (b ∷ p) → get_or (b ∷ p) i 0 ≡ get_or (b ∷ c) i 0
+behind : (b : ℕ) (c p : List ℕ) → ((i : ℕ) → i < length p → get_or p i 0 ≡ get_or c i 0) → (i : ℕ) → i < length (b ∷ p)
+    → get_or (b ∷ p) i 0 ≡ get_or (b ∷ c) i 0
 behind b c p rest zero h = refl
 behind b c p rest (suc i) h = rest i (omega (arith, h))
 
@@ -39,7 +40,8 @@ printed_of (b ∷ c) i h =
     ] h
 
 -- where each byte is the text's or 0, they are a front of the text
-pub printed_front : (text c : List ℕ) → IsPrinted text → ((i : ℕ) → (get_or c i 0 ≡ get_or text i 0) ⊎ (get_or c i 0 ≡ 0)) → printed c ≡ take (length (printed c)) text
+pub printed_front : (text c : List ℕ) → IsPrinted text → ((i : ℕ) → (get_or c i 0 ≡ get_or text i 0) ⊎ (get_or c i 0 ≡ 0))
+    → printed c ≡ take (length (printed c)) text
 printed_front text [] is each = refl
 printed_front [] (b ∷ c) is each =
     elim (nat_eq b 0) as (λ v. nat_eq b 0 ≡ v → cond v [] (b ∷ printed c) ≡ take (length (cond v [] (b ∷ printed c))) []) [
@@ -56,7 +58,8 @@ printed_front (a ∷ text) (b ∷ c) is each =
     ] refl
 
 -- and they have all that is sure
-pub printed_long : (s : ℕ) (text c : List ℕ) → IsPrinted text → s ≤ length text → s ≤ length c → ((i : ℕ) → i < s → get_or c i 0 ≡ get_or text i 0) → s ≤ length (printed c)
+pub printed_long : (s : ℕ) (text c : List ℕ) → IsPrinted text → s ≤ length text → s ≤ length c
+    → ((i : ℕ) → i < s → get_or c i 0 ≡ get_or text i 0) → s ≤ length (printed c)
 printed_long zero text c is le lc front = omega arith
 printed_long (suc s) [] c is le lc front = absurd (omega (arith, le))
 printed_long (suc s) (a ∷ text) [] is le lc front = absurd (omega (arith, lc))
@@ -75,7 +78,8 @@ pub taken_length : (n : ℕ) (text : List ℕ) → n ≤ length text → length 
 taken_length n text le = omega (arith, length-take n text)
 
 each_byte : (s k : ℕ) (text c : List ℕ) → Spotty s k text c → (i : ℕ) → (get_or c i 0 ≡ get_or text i 0) ⊎ (get_or c i 0 ≡ 0)
-each_byte s k text c sp i = ⊎_elim (λ (here : (i < k) × (get_or c i 0 ≡ get_or text i 0)). inl here.1) (λ (z : get_or c i 0 ≡ 0). inr z) (sp.each i)
+each_byte s k text c sp i =
+    ⊎_elim (λ (here : (i < k) × (get_or c i 0 ≡ get_or text i 0)). inl here.1) (λ (z : get_or c i 0 ≡ 0). inr z) (sp.each i)
 
 -- what is read up to the first 0 is a front of the text
 pub read_front : (s k : ℕ) (text c : List ℕ) → IsPrinted text → Spotty s k text c → printed c ≡ take (length (printed c)) text
@@ -90,7 +94,8 @@ module _ (whole : List ℕ → Bool) where
         | true ↦ λ _. le
         | false ↦ λ fails. ⊎_elim
             (λ (below : b < suc n). at_longest b n text (omega (arith, below)) holds)
-            (λ (top : suc n ≤ b). let is : b ≡ suc n = omega (arith, le, top) in absurd (clash (sym holds ∙ ap (λ k. whole (take k text)) is ∙ fails)))
+            (λ (top : suc n ≤ b). let is : b ≡ suc n = omega (arith, le, top) in absurd
+            (clash (sym holds ∙ ap (λ k. whole (take k text)) is ∙ fails)))
             (cases_lt b (suc n))
       ] refl
 
@@ -105,7 +110,8 @@ module _ (whole : List ℕ → Bool) where
   longest_whole : (n : ℕ) (text : List ℕ) → whole [] ≡ true → whole (take (longest whole text n) text) ≡ true
   longest_whole zero text none = none
   longest_whole (suc n) text none =
-      elim (whole (take (suc n) text)) as (λ v. whole (take (suc n) text) ≡ v → whole (take (cond v (suc n) (longest whole text n)) text) ≡ true) [
+      elim (whole (take (suc n) text)) as (λ v. whole (take (suc n) text) ≡ v → whole
+      (take (cond v (suc n) (longest whole text n)) text) ≡ true) [
         | true ↦ λ holds. holds
         | false ↦ λ _. longest_whole n text none
       ] refl
@@ -120,7 +126,8 @@ module _ (whole : List ℕ → Bool) where
     pub whole_still : whole (take many text) ≡ true
     pub few : length (printed c) ≤ length text
 
-  pub keeps : (s k : ℕ) (text c : List ℕ) → whole [] ≡ true → IsPrinted text → s ≤ length text → whole (take s text) ≡ true → Spotty s k text c → Keeps s text c
+  pub keeps : (s k : ℕ) (text c : List ℕ) → whole [] ≡ true → IsPrinted text → s ≤ length text → whole (take s text) ≡ true
+      → Spotty s k text c → Keeps s text c
   keeps s k text c none is_printed le is_whole sp =
       let p = printed c in
       let front : p ≡ take (length p) text = read_front s k text c is_printed sp in
@@ -141,7 +148,8 @@ module _ (whole : List ℕ → Bool) where
       }
 
   -- garbage behind what is sure
-  pub behind_sure : (text c : List ℕ) (told : ℕ) → told ≤ length text → told ≤ length c → take told c ≡ take told text → IsPrinted text → whole (take told text) ≡ true
+  pub behind_sure : (text c : List ℕ) (told : ℕ) → told ≤ length text → told ≤ length c → take told c ≡ take told text
+      → IsPrinted text → whole (take told text) ≡ true
       → (told ≤ length (recovered whole c)) × (take told (recovered whole c) ≡ take told text)
   behind_sure text c told le lc same is_printed is_whole =
       let p = printed c in

@@ -1,7 +1,5 @@
 pub mod Beginnings
-pub mod Counted
 pub mod Endings
-pub mod Fronts
 pub mod Holds
 pub mod Keeping
 pub mod Openings

@@ -11,7 +11,9 @@ module _ (whole front : List ℕ → Bool) (limit growth : ℕ) (events : List E
   End = run whole front limit growth (fresh whole front limit growth) events
 
   pub held : Holds limit whole End
-  held = all_through limit whole front growth none (fresh whole front limit growth) events (begins_well limit whole front growth none) may
+  held =
+      all_through limit whole front growth none (fresh whole front limit growth) events
+      (begins_well limit whole front growth none) may
 
   pub closed : Closed limit whole End.store.stage End
   closed = closed_at limit whole End.store.stage End held

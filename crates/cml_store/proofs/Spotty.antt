@@ -1,5 +1,5 @@
 -- Bytes of which a front is sure to be a text's; each later one is the text's too, or 0; and from some place on all are 0.
-use Rattle.std.proofs.Common.{◌≡◌, ◌⊎◌, inl, inr, ⊎_elim, ℕ, zero, suc, ◌+◌, ◌-◌, ◌<◌, ◌≤◌, min, max, Bool, true, false, List, [], ◌∷◌, ◌++◌, length, get_or, take, drop, refl, sym, ◌∙◌, ap, subst, arith, length-append, length-take, length-drop, get_or-drop, get_or-take}
+use Rattle.std.proofs.Common.{◌≡◌, ◌⊎◌, inl, inr, ⊎_elim, ℕ, ◌+◌, ◌-◌, ◌<◌, ◌≤◌, min, max, Bool, true, false, List, [], ◌++◌, length, get_or, take, drop, sym, ◌∙◌, ap, subst, arith, length-append, length-take, length-drop, get_or-drop, get_or-take}
 use Rattle.std.proofs.lemmas.List.{get_or_append_left, get_or_past}
 use Rattle.std.proofs.lemmas.Bool.{cases_lt}
 use Rattle.cml_store.specs.declared.step.Step.{Step}
@@ -12,7 +12,8 @@ pub record Spotty (sure most : ℕ) (text c : List ℕ) : Type 0 where
   pub each : (i : ℕ) → ((i < most) × (get_or c i 0 ≡ get_or text i 0)) ⊎ (get_or c i 0 ≡ 0)
 
 pub less_sure : (s t k : ℕ) (text c : List ℕ) → s ≤ t → Spotty t k text c → Spotty s k text c
-less_sure s t k text c le sp = record { long = omega (arith, sp.long, le); front = λ i h. sp.front i (omega (arith, h, le)); each = sp.each }
+less_sure s t k text c le sp =
+    record { long = omega (arith, sp.long, le); front = λ i h. sp.front i (omega (arith, h, le)); each = sp.each }
 
 pub at_most : (s k l : ℕ) (text c : List ℕ) → k ≤ l → Spotty s k text c → Spotty s l text c
 at_most s k l text c le sp = record {
@@ -30,10 +31,12 @@ front_of s t k text c le within sp = less_sure s t k text c le (at_most t t k te
 
 -- nothing is sure
 pub nothing_left : (k : ℕ) (text : List ℕ) → Spotty 0 k text []
-nothing_left k text = record { long = omega arith; front = λ i h. absurd (omega (arith, h)); each = λ i. inr (get_or_past [] i 0 (omega arith)) }
+nothing_left k text =
+    record { long = omega arith; front = λ i h. absurd (omega (arith, h)); each = λ i. inr (get_or_past [] i 0 (omega arith)) }
 
 -- the text goes on
-pub more_text : (s : ℕ) (text more c : List ℕ) → s ≤ length text → Spotty s (length text) text c → Spotty s (length (text ++ more)) (text ++ more) c
+pub more_text : (s : ℕ) (text more c : List ℕ) → s ≤ length text → Spotty s (length text) text c
+    → Spotty s (length (text ++ more)) (text ++ more) c
 more_text s text more c le sp = record {
   long = sp.long;
   front = λ i h. sp.front i h ∙ sym (get_or_append_left text more 0 i (omega (arith, h, le)));
@@ -52,7 +55,8 @@ less_text k text c le sp =
       long = sp.long;
       front = λ i h. sp.front i h ∙ sym (get_or-take k text i 0 h);
       each = λ i. ⊎_elim
-          (λ (here : (i < k) × (get_or c i 0 ≡ get_or text i 0)). inl (omega (arith, here.0, len), here.1 ∙ sym (get_or-take k text i 0 here.0)))
+          (λ (here : (i < k) × (get_or c i 0 ≡ get_or text i 0)). inl
+          (omega (arith, here.0, len), here.1 ∙ sym (get_or-take k text i 0 here.0)))
           (λ (z : get_or c i 0 ≡ 0). inr z)
           (sp.each i);
     }
@@ -61,7 +65,8 @@ less_text k text c le sp =
 pub stored_length : (from to : ℕ) (text : List ℕ) → from ≤ to → to ≤ length text → from + length (drop from (take to text)) ≡ to
 stored_length from to text le within = omega (arith, le, within, length-drop from (take to text), length-take to text)
 
-pub stored_is : (from to i : ℕ) (text : List ℕ) → from ≤ i → i < to → get_or (drop from (take to text)) (i - from) 0 ≡ get_or text i 0
+pub stored_is : (from to i : ℕ) (text : List ℕ) → from ≤ i → i < to
+    → get_or (drop from (take to text)) (i - from) 0 ≡ get_or text i 0
 stored_is from to i text lo hi =
     let place : from + (i - from) ≡ i = omega (arith, lo) in
     get_or-drop from (take to text) (i - from) 0 ∙ ap (λ k. get_or (take to text) k 0) place ∙ get_or-take to text i 0 hi
@@ -75,7 +80,8 @@ torn s k from to text old new le most within sp t =
       long = omega (arith, sp.long, t.no_shorter);
       front = λ i h. ⊎_elim
           (λ (as_before : get_or new i 0 ≡ get_or old i 0). as_before ∙ sp.front i h)
-          (λ (here : (from ≤ i) × (i < from + length (drop from (take to text))) × (get_or new i 0 ≡ get_or (drop from (take to text)) (i - from) 0)).
+          (λ (here : (from ≤ i) × (i < from + length (drop from (take to text))) ×
+          (get_or new i 0 ≡ get_or (drop from (take to text)) (i - from) 0)).
           here.2 ∙ stored_is from to i text here.0 (omega (arith, here.1, len)))
           (t.each i);
       each = λ i. ⊎_elim
@@ -83,7 +89,8 @@ torn s k from to text old new le most within sp t =
           (λ (e : (i < k) × (get_or old i 0 ≡ get_or text i 0)). inl (e.0, as_before ∙ e.1))
           (λ (z : get_or old i 0 ≡ 0). inr (as_before ∙ z))
           (sp.each i))
-          (λ (here : (from ≤ i) × (i < from + length (drop from (take to text))) × (get_or new i 0 ≡ get_or (drop from (take to text)) (i - from) 0)).
+          (λ (here : (from ≤ i) × (i < from + length (drop from (take to text))) ×
+          (get_or new i 0 ≡ get_or (drop from (take to text)) (i - from) 0)).
           let below : i < to = omega (arith, here.1, len) in
           inl (omega (arith, below, most), here.2 ∙ stored_is from to i text here.0 below))
           (t.each i);
@@ -151,17 +158,21 @@ sized_part : (s k n : ℕ) (text old new : List ℕ) → s ≤ n → Spotty s k 
 sized_part s k n text old new le sp z = sized s k z.0 text old new (omega (arith, sp.long, le, z.1)) sp z.3
 
 -- it is done in part
-pub in_part : (s k : ℕ) (text : List ℕ) (step : Step) (old new : List ℕ) → Fits s k text step → Spotty s k text old → LeftOf old (calls_of text step) new → Spotty s k text new
+pub in_part : (s k : ℕ) (text : List ℕ) (step : Step) (old new : List ℕ) → Fits s k text step → Spotty s k text old
+    → LeftOf old (calls_of text step) new → Spotty s k text new
 in_part s k text (Store from to) old new fits sp left =
     torn s k from to text left.0 new fits.0 fits.1 fits.2 (same s k text old left.0 sp left.1) left.2
-in_part s k text (Cut to) old new fits sp left = sized_part s k to text left.0 new fits (same s k text old left.0 sp left.1) left.2
-in_part s k text (Grow to) old new fits sp left = sized_part s k to text left.0 new fits (same s k text old left.0 sp left.1) left.2
+in_part s k text (Cut to) old new fits sp left =
+    sized_part s k to text left.0 new fits (same s k text old left.0 sp left.1) left.2
+in_part s k text (Grow to) old new fits sp left =
+    sized_part s k to text left.0 new fits (same s k text old left.0 sp left.1) left.2
 in_part s k text Nothing old new fits sp left = same s k text old new sp left
 in_part s k text Sync old new fits sp left = same s k text old new sp left
 in_part s k text SyncFolder old new fits sp left = same s k text old new sp left
 
 -- it ends
-pub may_end : (s k : ℕ) (text : List ℕ) (step : Step) (done : Bool) (old new : List ℕ) → Fits s k text step → Spotty s k text old → MayEnd text step done old new → Spotty s k text new
+pub may_end : (s k : ℕ) (text : List ℕ) (step : Step) (done : Bool) (old new : List ℕ) → Fits s k text step → Spotty s k text old
+    → MayEnd text step done old new → Spotty s k text new
 may_end s k text (Store from to) true old new fits sp may = torn s k from to text old new fits.0 fits.1 fits.2 sp may.torn
 may_end s k text (Store from to) false old new fits sp may = torn s k from to text old new fits.0 fits.1 fits.2 sp may
 may_end s k text (Cut to) true old new fits sp may = sized s k to text old new fits sp may
@@ -173,9 +184,11 @@ may_end s k text Sync done old new fits sp may = absurd may
 may_end s k text SyncFolder done old new fits sp may = absurd may
 
 -- a step under way is left in part, with the calls before it
-pub started : (s k : ℕ) (text kept : List ℕ) (calls : List Call) (step : Step) → Fits s k text step → ((c : List ℕ) → LeftOf kept calls c → Spotty s k text c)
+pub started : (s k : ℕ) (text kept : List ℕ) (calls : List Call) (step : Step) → Fits s k text step
+    → ((c : List ℕ) → LeftOf kept calls c → Spotty s k text c)
     → (c : List ℕ) → LeftOf kept (calls_of text step ++ calls) c → Spotty s k text c
-started s k text kept calls (Store from to) fits old c left = torn s k from to text left.0 c fits.0 fits.1 fits.2 (old left.0 left.1) left.2
+started s k text kept calls (Store from to) fits old c left =
+    torn s k from to text left.0 c fits.0 fits.1 fits.2 (old left.0 left.1) left.2
 started s k text kept calls (Cut to) fits old c left = sized_part s k to text left.0 c fits (old left.0 left.1) left.2
 started s k text kept calls (Grow to) fits old c left = sized_part s k to text left.0 c fits (old left.0 left.1) left.2
 started s k text kept calls Nothing fits old c left = old c left

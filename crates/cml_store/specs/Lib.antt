@@ -2,4 +2,3 @@ pub mod Disk
 pub mod Machine
 pub mod Recovery
 pub mod World
-pub mod Texts

@@ -127,7 +127,8 @@ storing_begun closing growth s = storing_begun_at s.stage closing growth s
 
 -- the step that begins
 abbrev pub store_asked_at : Stage → Bool → ℕ → State → Step
-store_asked_at stage closing growth s = if rests (storing_at stage s) then storing_of (storing_begun_at stage closing growth s) else Nothing
+store_asked_at stage closing growth s =
+    if rests (storing_at stage s) then storing_of (storing_begun_at stage closing growth s) else Nothing
 
 abbrev pub store_asked : Bool → ℕ → State → Step
 store_asked closing growth s = store_asked_at s.stage closing growth s

@@ -1,5 +1,5 @@
 -- What recovery keeps of a file.
-use Rattle.std.specs.Prelude.{◌≢◌, ℕ, zero, suc, Bool, true, false, if◌then◌else◌, ◌==◌, List, [], ◌∷◌, length, take}
+use Rattle.std.specs.Prelude.{◌≢◌, ℕ, zero, suc, Bool, if◌then◌else◌, ◌==◌, List, [], ◌∷◌, length, take}
 
 -- the bytes before the first 0, which no journal has
 abbrev pub printed : List ℕ → List ℕ

@@ -1,15 +1,14 @@
 -- A store, its file, and whoever looks on: every schedule of calls, failures, kills and losses of power.
 use Rattle.std.specs.Prelude.{◌≡◌, ℕ, ◌+◌, ◌≤◌, Bool, true, false, if◌then◌else◌, List, [], ◌∷◌, ◌++◌, length, take}
 use Rattle.cml_store.specs.declared.stage.Stage.{Stage}
-use Rattle.cml_store.specs.declared.stage.Stage.TheVariants.{Dirty, Trimming, Trimmed, Rewriting, Settling, Unnamed, Naming, Open, Lost}
 use Rattle.cml_store.specs.declared.step.Step.{Step}
 use Rattle.cml_store.specs.declared.step.Step.TheVariants.{Nothing, Cut, Grow, Store, Sync, SyncFolder}
 use Rattle.cml_store.specs.Disk.{Disk, LeftOf, MayLeave, MayForget, calls_of, MayEnd}
 use Rattle.cml_store.specs.Machine.{State, opened_at, refused, is_open, accepted_by, storing_at, storing_of, storing_begun_at, store_asked_at, storing_ended_at, syncing_at, syncing_of, syncing_begun_at, sync_asked_at, syncing_ended_at}
 use Rattle.cml_store.specs.Recovery.{IsPrinted, printed, recovered}
 
--- The text that was accepted, as far as a recovery has kept it; and its marks: how many of its bytes a kill keeps, as far as the store
--- has told, and how many a loss of power keeps.
+-- The text that was accepted, as far as a recovery has kept it; and its marks: how many of its bytes a kill keeps, as far as the
+-- store has told, and how many a loss of power keeps.
 pub record World : Type 0 where
   pub store : State
   pub disk : Disk
@@ -206,7 +205,8 @@ module _ (whole front : List ℕ → Bool) (limit growth : ℕ) where
 
   -- a piece leaves a whole text, and not too much that isn't synced; a step ends as it may; and what is read is what may be left
   abbrev pub MayHappen : World → Event → Type 0
-  MayHappen w (Accepts piece) = IsPrinted piece × (whole (w.text ++ piece) ≡ true) × (w.store.accepted + length piece ≤ w.store.synced + limit)
+  MayHappen w (Accepts piece) =
+      IsPrinted piece × (whole (w.text ++ piece) ≡ true) × (w.store.accepted + length piece ≤ w.store.synced + limit)
   MayHappen w (BeginsStore closing) = Unit {0}
   MayHappen w (EndsStore done seen next) =
       MayEnd w.text (storing_of w.store) done w.disk.seen seen × MayEnd w.text (storing_of w.store) done w.disk.next next

@@ -107,7 +107,8 @@ pub fn either_will_do()
 /// Shows that a store goes on: it asks for nothing only if a step is under way, it has failed for good, or all is synced.
 pub fn it_goes_on()
     ensures { (growth : ℕ) (s : State) → store_asked false growth s ≡ Nothing → sync_asked s ≡ Nothing
-        → (rests (storing_of s) ≡ false) ⊎ (rests (syncing_of s) ≡ false) ⊎ (s.stage ≡ Lost) ⊎ ((s.stage ≡ Open) × (s.accepted ≤ s.synced)) }
+        → (rests (storing_of s) ≡ false) ⊎ (rests (syncing_of s) ≡ false) ⊎ (s.stage ≡ Lost)
+        ⊎ ((s.stage ≡ Open) × (s.accepted ≤ s.synced)) }
 {}
 
 /// Shows that a store that has failed for good asks for nothing more.

@@ -22,6 +22,6 @@ pub enum Unaccepted {
     Closed,
     /// Too many bytes are not synced yet: accept these after a sync.
     Full,
-    /// The file would become too long.
+    /// The file would become too long, or these bytes alone are more than may be unsynced.
     NoRoom,
 }

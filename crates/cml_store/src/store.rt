@@ -1,5 +1,5 @@
-//! A store.
-ghost use Rattle.std.specs.Prelude.{◌≡◌, ◌≤◌, ◌<◌, ◌+◌, ◌-◌, ◌*◌, ◌^◌, ◌↔◌, IsTrue, OnOk, OnErr, IfOk, true, false, Err};
+//! The machine of a journal's file.
+ghost use Rattle.std.specs.Prelude.{◌≡◌, ◌⊎◌, ◌≤◌, ◌<◌, ◌+◌, ◌-◌, ◌*◌, ◌^◌, ◌↔◌, IsTrue, OnOk, OnErr, IfOk, true, false, Err};
 ghost use Rattle.cml_store.specs.declared.stage.Stage.TheVariants.{Open};
 ghost use Rattle.cml_store.specs.declared.step.Step.TheVariants.{Sync};
 ghost use Rattle.cml_store.specs.declared.step.Unaccepted.TheVariants.{Closed, Full, NoRoom};
@@ -40,12 +40,28 @@ impl Model for Store {
     ghost Value = { State };
 
     ghost view = { λ s.
-        record { accepted = s.accepted; stored = s.stored; synced = s.synced; grown = s.grown; work = s.work; syncing = s.syncing; stage = s.stage } };
+        record {
+          accepted = s.accepted;
+          stored = s.stored;
+          synced = s.synced;
+          grown = s.grown;
+          work = s.work;
+          syncing = s.syncing;
+          stage = s.stage;
+        } };
 
     ghost invariant = { λ s. s.accepted ≤ 2 ^ 62 };
 
     ghost inverse = { λ s.
-        record { accepted = s.accepted; stored = s.stored; synced = s.synced; grown = s.grown; work = s.work; syncing = s.syncing; stage = s.stage } };
+        record {
+          accepted = s.accepted;
+          stored = s.stored;
+          synced = s.synced;
+          grown = s.grown;
+          work = s.work;
+          syncing = s.syncing;
+          stage = s.stage;
+        } };
 }
 
 impl Store {
@@ -89,13 +105,13 @@ impl Store {
 
         ensures closed { (result ≡ Err Closed) ↔ (is_open self.old.stage ≡ false) }
         ensures room { OnOk result (self.old.accepted + bytes ≤ self.old.synced + LIMIT) }
-        ensures full { result ≡ Err Full → self.old.synced + LIMIT < self.old.accepted + bytes }
-        ensures no_room { result ≡ Err NoRoom → MOST < self.old.accepted + bytes }
+        ensures full { result ≡ Err Full → (bytes ≤ LIMIT) × (self.old.synced + LIMIT < self.old.accepted + bytes) }
+        ensures no_room { result ≡ Err NoRoom → (LIMIT < bytes) ⊎ (MOST < self.old.accepted + bytes) }
     {
         if !matches!(self.stage, Stage::Open) {
             return Err(Unaccepted::Closed);
         }
-        if bytes > MOST - self.accepted {
+        if bytes > LIMIT || bytes > MOST - self.accepted {
             return Err(Unaccepted::NoRoom);
         }
         let ticket = self.accepted + bytes;
@@ -106,8 +122,8 @@ impl Store {
         Ok(ticket)
     }
 
-    /// Begins the next step on the file's bytes, if none is under way: `Cut`, `Grow` or `Store`. If the file is being closed, the last
-    /// step cuts off the zeros behind the text.
+    /// Begins the next step on the file's bytes, if none is under way: `Cut`, `Grow` or `Store`. If the file is being closed, the
+    /// last step cuts off the zeros behind the text.
     pub fn begin_store(&mut self, closing: bool) -> Step
         ensures state { self.new ≡ storing_begun closing GROWTH self.old }
         ensures step { result ≡ store_asked closing GROWTH self.old }
@@ -244,7 +260,8 @@ impl Store {
 
     /// Returns whether half of the bytes that may be unsynced are, so that a sync had better begin.
     pub fn wants_sync(&self) -> bool
-        ensures { IsTrue result ↔ ((is_open self.now.stage ≡ true) × (sync_asked self.now ≡ Sync) × (LIMIT ≤ 2 * (self.now.stored - self.now.synced))) }
+        ensures { IsTrue result ↔ ((is_open self.now.stage ≡ true) × (sync_asked self.now ≡ Sync)
+            × (LIMIT ≤ 2 * (self.now.stored - self.now.synced))) }
     {
         matches!(self.stage, Stage::Open)
             && self.syncing.is_none()

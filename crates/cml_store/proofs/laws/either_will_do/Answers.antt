@@ -15,7 +15,8 @@ all_kept : (whole front : List ℕ → Bool) (limit growth : ℕ) (events : List
 all_kept whole front limit growth events none may all c left =
     let w = run whole front limit growth (fresh whole front limit growth) events in
     let k = closed whole front limit growth events none may in
-    let p = past limit whole front growth none w.synced w c k.marks (synced_within whole front limit growth events none may) k.marks.whole_synced (k.lasts c left) in
+    let p = past limit whole front growth none w.synced w c k.marks (synced_within whole front limit growth events none may)
+    k.marks.whole_synced (k.lasts c left) in
     p.3 ∙ take_all p.0 w.text (omega (arith, all, p.1))
 
 pub returns : goal.returns

@@ -4,7 +4,6 @@ use Rattle.cml_store.specs.declared.stage.Stage.{Stage}
 use Rattle.cml_store.specs.declared.stage.Stage.TheVariants.{Dirty, Trimming, Trimmed, Rewriting, Settling, Unnamed, Naming, Open, Lost}
 use Rattle.cml_store.specs.declared.stage.Work.{Work}
 use Rattle.cml_store.specs.declared.stage.Work.TheVariants.{Idle, Cutting, Growing, Storing}
-use Rattle.cml_store.specs.declared.step.Step.{Step}
 use Rattle.cml_store.specs.declared.step.Step.TheVariants.{Nothing, Cut, Grow, Store, Sync, SyncFolder}
 use Rattle.cml_store.specs.Machine.{State, rests, step_of, storing_at, storing_of, sync_of, syncing_at, syncing_of, work_begun, open_begun, store_asked_at, open_sync_begun, sync_asked_at}
 use Rattle.cml_store.proofs.laws.it_goes_on.Goals as goal
@@ -25,18 +24,21 @@ folder_is : SyncFolder ≡ Nothing → ⊥
 folder_is e = cc
 
 -- nothing is left to be stored
-all_stored : (a b : Bool) (growth : ℕ) (s : State) → nat_lt s.stored s.accepted ≡ a → storing_of (work_begun a b false growth s) ≡ Nothing → s.accepted ≤ s.stored
+all_stored : (a b : Bool) (growth : ℕ) (s : State) → nat_lt s.stored s.accepted ≡ a
+    → storing_of (work_begun a b false growth s) ≡ Nothing → s.accepted ≤ s.stored
 all_stored true true growth s is none = absurd (grow_is _ none)
 all_stored true false growth s is none = absurd (store_is _ _ none)
 all_stored false b growth s is none = ltb-false s.stored s.accepted is
 
 -- nothing is left to be synced
-all_synced : (b : Bool) (s : State) → nat_lt s.synced s.stored ≡ b → syncing_of (open_sync_begun None b s) ≡ Nothing → s.stored ≤ s.synced
+all_synced : (b : Bool) (s : State) → nat_lt s.synced s.stored ≡ b → syncing_of (open_sync_begun None b s) ≡ Nothing
+    → s.stored ≤ s.synced
 all_synced true s is none = absurd (sync_is none)
 all_synced false s is none = ltb-false s.synced s.stored is
 
 abbrev GoesOn : State → Type 0
-GoesOn s = (rests (storing_of s) ≡ false) ⊎ (rests (syncing_of s) ≡ false) ⊎ (s.stage ≡ Lost) ⊎ ((s.stage ≡ Open) × (s.accepted ≤ s.synced))
+GoesOn s =
+    (rests (storing_of s) ≡ false) ⊎ (rests (syncing_of s) ≡ false) ⊎ (s.stage ≡ Lost) ⊎ ((s.stage ≡ Open) × (s.accepted ≤ s.synced))
 
 works : (stage : Stage) (s : State) → s.stage ≡ stage → rests (storing_at stage s) ≡ false → GoesOn s
 works stage s e busy = inl (ap (λ z. rests (storing_at z s)) e ∙ busy)
@@ -56,11 +58,13 @@ open_goes Idle None growth s e i j none nor =
     let synced = all_synced (nat_lt s.synced s.stored) s refl nor in
     inr (inr (inr (e, omega (arith, stored, synced))))
 
-trimmed_goes : (b : Bool) (s : State) → storing_of (record s { stage = cond b Rewriting Trimmed }) ≡ Nothing → syncing_of (record s { stage = cond b Trimmed Settling }) ≡ Nothing → ⊥
+trimmed_goes : (b : Bool) (s : State) → storing_of (record s { stage = cond b Rewriting Trimmed }) ≡ Nothing
+    → syncing_of (record s { stage = cond b Trimmed Settling }) ≡ Nothing → ⊥
 trimmed_goes true s none nor = store_is _ _ none
 trimmed_goes false s none nor = sync_is nor
 
-goes : (stage : Stage) (growth : ℕ) (s : State) → s.stage ≡ stage → store_asked_at stage false growth s ≡ Nothing → sync_asked_at stage s ≡ Nothing → GoesOn s
+goes : (stage : Stage) (growth : ℕ) (s : State) → s.stage ≡ stage → store_asked_at stage false growth s ≡ Nothing
+    → sync_asked_at stage s ≡ Nothing → GoesOn s
 goes Dirty growth s e none nor = absurd (cut_is _ none)
 goes Trimming growth s e none nor = works Trimming s e refl
 goes Trimmed growth s e none nor = absurd (trimmed_goes (nat_lt s.stored s.accepted) s none nor)

@@ -14,5 +14,6 @@ returns c whole front limit growth events none fronts may left =
     ⊎_elim
     (λ (lost : MayLeave w.disk left). not_refused limit whole front growth none w.synced w left k.marks fronts (k.lasts left lost))
     (λ (killed : MayRead whole front limit growth w left).
-    not_refused limit whole front growth none w.stored w left k.marks fronts (read_part limit whole w.store.stage w w.disk.seen left k k.seen killed))
+    not_refused limit whole front growth none w.stored w left k.marks fronts
+    (read_part limit whole w.store.stage w w.disk.seen left k k.seen killed))
     which
