@@ -1,5 +1,5 @@
 -- Fronts of a whole text: they are read, and give fronts of its entries.
-use Rattle.std.proofs.Common.{◌≡◌, ℕ, ◌+◌, ◌≤◌, Bool, true, false, ◌==◌, ◌&&◌, ◌||◌, nat_lt, if◌then◌else◌, List, [], ◌∷◌, ◌++◌, length, take, drop, Option, Some, None, Result, Ok, Err, refl, sym, ◌∙◌, ap, subst, inl, inr, true≢false, take-append-drop}
+use Rattle.std.proofs.Common.{◌≡◌, ℕ, ◌+◌, Bool, true, false, ◌==◌, ◌&&◌, ◌||◌, nat_lt, if◌then◌else◌, List, [], ◌∷◌, ◌++◌, length, take, drop, Option, Some, None, Result, Ok, Err, refl, sym, ◌∙◌, ap, subst, inl, inr, true≢false, take-append-drop}
 use Rattle.std.specs.Prelude.{reverse, codes, nat_eq}
 use Rattle.std.specs.List.{starts_with, list_any}
 use Rattle.std.specs.Option.{option_to_list}
@@ -7,8 +7,8 @@ use Rattle.std.proofs.lemmas.Bool.{and_parts, eqb-true, eq-eqb}
 use Rattle.std.proofs.lemmas.List.{nil_from_length, reverse-append}
 use Rattle.cml_board.specs.{Entry, Lawful}
 use Rattle.cml_grammar.specs.{is_bad_byte}
-use Rattle.cml_journal.specs.{What, Link, Stage, Read, State, Unended, waiting_at, behind, byte_read, held, turned, no_entry, line_read, line_step, reading, most}
-use Rattle.cml_journal.specs.{numbered_line, numbered, tailed, headed, headed_by, header_fault, plain_headed, sealed_headed, begins_journal, unended_at, unended_behind, unended, ◌>>=◌}
+use Rattle.cml_journal.specs.{What, Stage, Read, State, waiting_at, behind, byte_read, held, turned, no_entry, line_read, line_step, reading, most}
+use Rattle.cml_journal.specs.{numbered_line, numbered, tailed, headed, headed_by, header_fault, plain_headed, sealed_headed, begins_journal, unended_at, unended_behind}
 use Rattle.cml_journal.specs.declared.fault.What.TheVariants.{BadBytes, TooLong, WrongSum, NoHeader}
 use Rattle.cml_journal.specs.declared.fault.Unended.TheVariants.{Open, Torn, NoJournal}
 use Rattle.cml_journal.specs.declared.reader.Link.TheVariants.{Any, First, Unsealed, Behind}
@@ -16,9 +16,9 @@ use Rattle.cml_journal.specs.declared.reader.Stage.TheVariants.{Waiting, Headed,
 use Rattle.cml_journal.proofs.FeedLemmas.{on, placed, reading-append}
 use Rattle.cml_journal.proofs.WordLemmas.{bind_ok, ok_is, chosen, not_failed}
 use Rattle.cml_journal.proofs.StreamLemmas.{numbered_takes}
-use Rattle.cml_journal.proofs.LineAddsLemmas.{behind_ok, turned_to, turning_to}
-use Rattle.cml_store.specs.Recovery.{printed, recovered}
-use Rattle.cml_store.specs.Texts.{is_whole_at, is_whole_read, is_journal, is_front_read, entries_of, IsFrontOf, is_whole_text, is_front_text, entries_in, KeepsEntries}
+use Rattle.cml_journal.proofs.LineAddsLemmas.{behind_ok, turning_to}
+use Rattle.cml_store.specs.Recovery.{printed}
+use Rattle.cml_store.specs.Texts.{is_whole_read, is_journal, is_front_read, entries_of, IsFrontOf, is_whole_text, is_front_text, entries_in, KeepsEntries}
 use Rattle.cml_store.proofs.Keeping.{Keeps, take_take}
 
 -- ---- the first line
