@@ -44,8 +44,8 @@ module _ {M : Type 0} (version : ℕ) (meaning : List ℕ → Option M) where
   abbrev pub entries_in : List ℕ → List (Entry M)
   entries_in bytes = entries_of (reading version meaning (waiting_at 0) bytes)
 
-  -- The entries that recovery gives of a file begin with those before a mark, and begin those of the text. They are lawful if those of
-  -- the text are. Recovery doesn't refuse the file.
+  -- The entries that recovery gives of a file begin with those before a mark, and begin those of the text. They are lawful if those
+  -- of the text are. Recovery doesn't refuse the file.
   pub record KeepsEntries (mark : ℕ) (text c : List ℕ) : Type 0 where
     pub sure : IsFrontOf (entries_in (take mark text)) (entries_in (recovered is_whole_text c))
     pub front : IsFrontOf (entries_in (recovered is_whole_text c)) (entries_in text)

@@ -19,7 +19,8 @@ returns-clause-lost g c = λ limit growth events may left may_leave.
     let k = closed whole front limit growth events none may in
     let sure = k.lasts left may_leave in
     keeps_entries version meaning w.synced w.text left
-    (keeps whole w.synced (length w.text) w.text left none k.marks.is_printed (synced_within whole front limit growth events none may) k.marks.whole_synced sure)
+    (keeps whole w.synced (length w.text) w.text left none k.marks.is_printed
+    (synced_within whole front limit growth events none may) k.marks.whole_synced sure)
     k.marks.whole_all (not_refused limit whole front growth none w.synced w left k.marks (take_front version meaning) sure)
 
 pub returns-clause-killed : goal.returns-clause-killed
