@@ -1,5 +1,7 @@
 pub mod Beginnings
+pub mod Counted
 pub mod Endings
+pub mod Fronts
 pub mod Holds
 pub mod Keeping
 pub mod Openings

@@ -1,4 +1,5 @@
 pub mod Disk
 pub mod Machine
 pub mod Recovery
+pub mod Texts
 pub mod World

@@ -1,10 +1,6 @@
 -- What recovery keeps of a file.
-use Rattle.std.specs.Prelude.{◌≢◌, ℕ, zero, suc, Bool, if◌then◌else◌, ◌==◌, List, [], ◌∷◌, length, take}
-
--- the bytes before the first 0, which no journal has
-abbrev pub printed : List ℕ → List ℕ
-printed [] = []
-printed (b ∷ bs) = if b == 0 then [] else b ∷ printed bs
+use Rattle.std.specs.Prelude.{◌≢◌, ℕ, zero, suc, Bool, if◌then◌else◌, List, [], ◌∷◌, length, take}
+pub use Rattle.cml_journal.specs.{printed}
 
 -- no byte is 0
 abbrev pub IsPrinted : List ℕ → Type 0

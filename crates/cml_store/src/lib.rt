@@ -2,11 +2,13 @@
 //! power keeps.
 #![tactic(auto)]
 
+mod histories;
 mod laws;
 mod stage;
 mod step;
 mod store;
 
+pub use histories::{histories_stay, kept_is_recovered};
 pub use laws::{
     either_will_do, it_goes_on, marks_stay, nothing_left_is_refused, nothing_more_is_done,
     refused_is_untouched, stored_survives_kills, stores_lie_inside, synced_survives_power_loss,
