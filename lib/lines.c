@@ -1,5 +1,4 @@
-/* The lines of a room's entries, over the calls that read one entry. The crate cml_journal writes such lines proved. These are tested: what is
- * written here is read there. */
+/* The lines of a room's entries, over the calls that read one entry. They are tested: a reading, which is proved, takes them. */
 #include "lines.h"
 
 #include <string.h>
