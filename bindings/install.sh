@@ -39,8 +39,8 @@ trap 'rm -rf "$work"' EXIT
 version=$(sed -n 's/^#define SERYUGO_VERSION "\(.*\)"$/\1/p' include/seryugo.h)
 major=${version%%.*}
 
-# functions HEADER: the functions that a program calls in the library, and not in the header alone. Those on a journal's file are in
-# the library seryugo.
+# functions HEADER: the functions that a program calls in the library, and not in the header alone. Those on a journal's file are
+# in the library seryugo.
 functions() {
     set -- "include/$1.h" "$1"
     [ "$2" != seryugo ] || set -- "$1" include/seryugo_file.h

@@ -1,13 +1,13 @@
 #!/bin/sh
-# A journal in a file, from C: `sh tests/libraries/file.sh PREFIX [KILLS [FAULTS]]`, where PREFIX is a folder that bindings/install.sh has installed into.
-# It runs the programs of tests/c for it, KILLS kills (else 30), and the first FAULTS calls of each kind (else 1) failing. With FAULTS 0 it leaves
-# these out.
+# A journal in a file, from C: `sh tests/libraries/file.sh PREFIX [KILLS [FAULTS]]`, where PREFIX is a folder that
+# bindings/install.sh has installed into. It runs the programs of tests/c for it, KILLS kills (else 30), and the first FAULTS
+# calls of each kind (else 1) failing. With FAULTS 0 it leaves these out.
 set -e
 cd "$(dirname "$0")/../.."
 prefix=$1
 kills=${2:-30}
 faults=${3:-1}
-work=$(mktemp -d "$PWD/file.XXXXXX")
+work=$(mktemp -d "${TMPDIR:-/tmp}/file.XXXXXX")
 trap 'rm -rf "$work"' EXIT
 export SERYUGO_TRY="$work"
 
