@@ -1,8 +1,8 @@
 #!/bin/sh
-# Calls of the system fail, do a part, or are interrupted: `sh tests/c/faults.sh PROGRAM FAULTS.so N`, where PROGRAM is built of kills.c and FAULTS.so of
-# faults.c. The K-th call of each kind is met, for K up to N, alone or with all later ones: on a new file, and on one with a torn end. What the
-# program printed is in the file, each once; what was there before is there still; and the next run goes on. A file that is no journal stays as it
-# is, byte for byte.
+# Calls of the system fail, do a part, or are interrupted: `sh tests/c/faults.sh PROGRAM FAULTS.so N`, where PROGRAM is built of
+# kills.c and FAULTS.so of faults.c. The K-th call of each kind is met, for K up to N, alone or with all later ones: on a new
+# file, and on one with a torn end. What the program printed is in the file, each once; what was there before is there still; and
+# the next run goes on. A file that is no journal stays as it is, byte for byte.
 set -e
 program=$1
 faults=$2
@@ -33,7 +33,8 @@ kept() {
     [ -f "$work/x.journal" ] || { [ ! -s "$work/all" ] || fail 'there is no file'; return 0; }
     text "$work/x.journal" > "$work/text"
     awk -f "$here/kept.awk" "$work/all" "$work/text" > "$work/verdict" || { cat "$work/verdict" >&2; fail 'calls are lost'; }
-    [ "$base" = new ] || cmp -n "$(wc -c < "$work/base.text")" "$work/base.text" "$work/text" > "$work/verdict" || fail 'what was there is lost'
+    [ "$base" = new ] || cmp -n "$(wc -c < "$work/base.text")" "$work/base.text" "$work/text" > "$work/verdict" \
+        || fail 'what was there is lost'
 }
 
 # prepare: a journal of a run that ended, with half a line and zeros behind it.
@@ -64,7 +65,8 @@ one() {
     cases=$((cases + 1))
     # What isn't a journal.
     printf '{"precious": 1}' > "$work/y.journal"
-    FAULT=$fault LD_PRELOAD=$faults "$program" "$work/y.journal" 1 1 $way > "$work/now" 2> "$work/error" && fail 'a file that is no journal was opened'
+    FAULT=$fault LD_PRELOAD=$faults "$program" "$work/y.journal" 1 1 $way > "$work/now" 2> "$work/error" \
+        && fail 'a file that is no journal was opened'
     [ "$(cat "$work/y.journal")" = '{"precious": 1}' ] || fail 'a file that is no journal was changed'
 }
 

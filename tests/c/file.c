@@ -176,6 +176,7 @@ static void recover_each_place(void)
             put("torn", bytes, all);
             RETURNS(DONE, open_numbers("torn"));
             IS(entries_in(length), found.entries);
+            has_a_clean_end("torn", __LINE__);
             HAS(found.saved[0] == 0 && (tail == 2 ? found.cut_off >= 3008 : found.cut_off < 60));
             free_all();
             if (length % 5 < 2) {
@@ -198,6 +199,7 @@ static void save_what_is_cut_off(void)
     put("torn.cut-1", "precious", 8);
     RETURNS(DONE, open_numbers("torn"));
     IS(far + 1, found.cut_off);
+    has_a_clean_end("torn", __LINE__);
     IS(0, (uint64_t)strcmp(found.saved, "torn.cut-2"));
     free_all();
     BEGINS("torn.cut-1", "precious");

@@ -212,6 +212,48 @@ static void keep_lanes(void)
     unlink("lanes");
 }
 
+/* Many calls under one lock may not fit. Their entries stay in the room, and are stored once there is room for them. */
+static void keep_what_did_not_fit(void)
+{
+    struct seryugo lane;
+    struct rlimit before, little;
+    uint64_t seat, name, number, moved, all = 1;
+
+    RETURNS(DONE, open_numbers("late"));
+    seat = new_seat();
+    RETURNS(DONE, seryugo_file_reserve(file, &room, 0));
+    RETURNS(DONE, seryugo_new_mailbox(&room, seat, &name));
+    RETURNS(DONE, seryugo_file_note(file, &room, NULL));
+    RETURNS(DONE, seryugo_lane_open(&room, 0, 1000, &lane, &number));
+    getrlimit(RLIMIT_FSIZE, &before);
+    little = before;
+    little.rlim_cur = 20000;
+    setrlimit(RLIMIT_FSIZE, &little);
+    for (; all < 900; all++) {
+        RETURNS(DONE, seryugo_lane_send(&lane, UINT64_MAX));
+    }
+    RETURNS(DONE, seryugo_lane_drain(&room, number, &moved));
+    while (seryugo_file_note(file, &room, NULL) == SERYUGO_DONE) {
+        /* What the helper gave the file before it had a limit is used up. */
+        for (uint64_t n = 0; n < 900; n++, all++) {
+            RETURNS(DONE, seryugo_lane_send(&lane, n));
+        }
+        RETURNS(DONE, seryugo_lane_drain(&room, number, &moved));
+    }
+    RETURNS(FILE_FULL, seryugo_file_note(file, &room, NULL));
+    RETURNS(FILE_FULL, seryugo_file_reserve(file, &room, 0));
+    setrlimit(RLIMIT_FSIZE, &before);
+    RETURNS(DONE, send_kept(seat, 7));
+    seryugo_close(lane);
+    RETURNS(DONE, seryugo_file_close(file));
+    file = NULL;
+    close_one(&has_room, room);
+    RETURNS(DONE, open_numbers("late"));
+    IS(all + 1, found.entries);
+    free_all();
+    unlink("late");
+}
+
 /* Messages of all lengths and bytes are there again, the longest, and a swap of two. */
 static void keep_long_messages(uint32_t flags)
 {
@@ -267,6 +309,7 @@ int main(int many, char **words)
     meet_a_child_that_lives_on();
     meet_a_foreign_cut();
     keep_lanes();
+    keep_what_did_not_fit();
     keep_long_messages(0);
     keep_long_messages(SERYUGO_FILE_BY_WRITES);
     puts("each call that returned is in the file");

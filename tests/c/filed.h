@@ -76,6 +76,17 @@ static inline void begins(const char *path, const char *text, int line)
 
 #define BEGINS(path, text) begins(path, text, __LINE__)
 
+/* Nothing but zeros is behind the text, also while the file is open. */
+static inline void has_a_clean_end(const char *path, int line)
+{
+    size_t length = get(path), at = strnlen(content, length);
+
+    while (at < length && content[at] == 0) {
+        at++;
+    }
+    is(at, length, line);
+}
+
 static uint32_t open_as(const char *path, uint32_t messages, uint32_t flags)
 {
     struct seryugo_file_options options = {0, flags, 4096};

@@ -1,7 +1,7 @@
 #!/bin/sh
-# A disk that becomes full: `sh tests/c/full_disk.sh PROGRAM`, where PROGRAM is built of kills.c. On ext4, where the file is mapped, and in memory, where it
-# is written, calls are refused by name before they are made. All that returned is there, and once there is room, the next run goes on. It needs
-# root, to mount a small disk that nobody else sees.
+# A disk that becomes full: `sh tests/c/full_disk.sh PROGRAM`, where PROGRAM is built of kills.c. On ext4, where the file is
+# mapped, and in memory, where it is written, calls are refused by name before they are made. All that returned is there, and once
+# there is room, the next run goes on. It needs root, to mount a small disk that nobody else sees.
 set -e
 program=$1
 here=$(cd "$(dirname "$0")" && pwd)

@@ -1,5 +1,5 @@
-# Compares what a program of kills.c printed (first file) with the text of its journal (second file): nothing that returned is lost, and nothing
-# is there twice.
+# Compares what a program of kills.c printed (first file) with the text of its journal (second file): nothing that returned is
+# lost, and nothing is there twice.
 function value(word)
 {
     sub(/^=/, "", word)

@@ -1,7 +1,7 @@
 #!/bin/sh
-# Kills a program of four threads at random moments: `sh tests/c/kills.sh PROGRAM N [SEED]`, where PROGRAM is built of kills.c. After each kill the
-# journal has all that the program printed, each once, and the next run goes on from it. The file grows by one page, by sixteen, or by
-# megabytes; lines are mapped or written; messages are numbers or bytes. Each third run begins a new file.
+# Kills a program of four threads at random moments: `sh tests/c/kills.sh PROGRAM N [SEED]`, where PROGRAM is built of kills.c.
+# After each kill the journal has all that the program printed, each once, and the next run goes on from it. The file grows by one
+# page, by sixteen, or by megabytes; lines are mapped or written; messages are numbers or bytes. Each third run begins a new file.
 set -e
 program=$1
 many=$2

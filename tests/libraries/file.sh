@@ -1,0 +1,26 @@
+#!/bin/sh
+# A journal in a file, from C: `sh tests/libraries/file.sh PREFIX [KILLS [FAULTS]]`, where PREFIX is a folder that
+# bindings/install.sh has installed into. It runs the programs of tests/c for it, KILLS kills (else 30), and the first FAULTS
+# calls of each kind (else 1) failing. With FAULTS 0 it leaves these out.
+set -e
+cd "$(dirname "$0")/../.."
+prefix=$1
+kills=${2:-30}
+faults=${3:-1}
+work=$(mktemp -d "${TMPDIR:-/tmp}/file.XXXXXX")
+trap 'rm -rf "$work"' EXIT
+export SERYUGO_TRY="$work"
+
+for program in tests/c/file.c tests/c/file_traps.c tests/c/kills.c examples/c/durable.c; do
+    "${CC:-cc}" -std=gnu11 -O2 -Wall -Wextra -Werror -I "$prefix/include" "$program" "$prefix/lib/libseryugo.a" -pthread \
+        -o "$work/$(basename "$program" .c)"
+done
+"${CC:-cc}" -std=gnu11 -O2 -shared -fPIC tests/c/faults.c -ldl -o "$work/faults.so"
+mkdir -m 777 "$work/files" "$work/traps"
+"$work/file" "$work/files"
+"$work/file_traps" "$work/traps"
+[ "$("$work/durable" "$work/letters.journal" && "$work/durable" "$work/letters.journal")" = 'letter 0
+letter 3' ]
+sh tests/c/full_disk.sh "$work/kills"
+sh tests/c/kills.sh "$work/kills" "$kills"
+[ "$faults" -eq 0 ] || sh tests/c/faults.sh "$work/kills" "$work/faults.so" "$faults"
