@@ -128,23 +128,8 @@ refusals_from_c() {
     [ -x "$work/requests" ] && check 'the same with threads that try again' refuse_each_again
 }
 
-# A journal in a file: refusals and traps, thirty kills, calls of the system that fail, and a full disk.
-files_from_c() {
-    mkdir "$work/refusals" "$work/traps"
-    for program in file file_traps kills; do
-        check "a program in C that keeps a file is built: $program" compile $program "$rooms"
-    done
-    check 'a journal in a file' bounded "$work/file" "$work/refusals"
-    check 'traps of a journal in a file' bounded "$work/file_traps" "$work/traps"
-    check 'thirty kills' bounded env SERYUGO_TRY="$work" sh tests/c/kills.sh "$work/kills" 30
-    check 'calls of the system can fail' cc -O2 -shared -fPIC -o "$work/faults.so" tests/c/faults.c -ldl
-    check 'calls of the system that fail' bounded env SERYUGO_TRY="$work" sh tests/c/faults.sh "$work/kills" "$work/faults.so" 3
-    check 'a full disk' bounded env SERYUGO_TRY="$work" sh tests/c/full_disk.sh "$work/kills"
-}
-
 rooms_from_c() {
     check 'the part of the library in C is built' keeps_files
-    files_from_c
     for program in calls messages keep sealed compact full threads requests switchboard; do
         check "a program in C of rooms is built: $program" compile $program "$rooms"
         [ -x "$work/$program" ] && check "rooms from C: $program" bounded "$work/$program"

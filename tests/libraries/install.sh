@@ -156,6 +156,7 @@ from_c() {
         check "with the shared library: $program" built $program
         check "with the static library: $program" built $program -static
     done
+    check 'a journal in a file, with thirty kills and failing calls' bounded sh tests/libraries/file.sh "$prefix"
     if [ -n "$replay" ]; then check 'a script replayed' replays; fi
     check 'a program needs the shared library' needs_the_shared_library
     check 'the version at run time, from C' prints "$version" version_in_c
