@@ -2,12 +2,89 @@
 #ifndef SERYUGO_LIB_FILE_H
 #define SERYUGO_LIB_FILE_H
 
-#include "lines.h"
 #include "seryugo_file.h"
-#include "store.h"
 
 #include <pthread.h>
 #include <stdatomic.h>
+
+/* ---- the rule: store.c ---- */
+
+/* The rule of a journal's file as a machine of numbers. It makes no call of the system: a driver asks it for a step, does the
+ * step, and says how it went. All places are bytes from the file's beginning. */
+
+/* How many bytes are unsynced at most. So many are written again when a file is opened, because a sync that failed for an
+ * earlier process may have left them in memory alone. */
+#define SERYUGO_UNSYNCED_MOST ((uint64_t)64 << 20)
+
+/* What the file is about to go through. The first four are an opening's, in this order. */
+enum seryugo_stage {
+    SERYUGO_STAGE_UNCUT = 0,
+    SERYUGO_STAGE_UNSTORED = 1,
+    SERYUGO_STAGE_UNSYNCED = 2,
+    SERYUGO_STAGE_UNNAMED = 3,
+    SERYUGO_STAGE_OPEN = 4,
+    SERYUGO_STAGE_LOST = 5
+};
+
+enum seryugo_step_kind {
+    SERYUGO_STEP_NOTHING = 0,
+    /* Cut the file to `from` bytes. */
+    SERYUGO_STEP_CUT = 1,
+    /* Give the file room on the disk from `from` to `to`, whose bytes read as 0. */
+    SERYUGO_STEP_GROW = 2,
+    /* Store the text from `from` on. It may reach to `to`. */
+    SERYUGO_STEP_STORE = 3,
+    /* Sync the file. What is before `to` counts as synced if that goes well. */
+    SERYUGO_STEP_SYNC = 4,
+    SERYUGO_STEP_SYNC_FOLDER = 5
+};
+
+struct seryugo_step {
+    uint32_t kind;
+    uint64_t from;
+    uint64_t to;
+};
+
+/* Bytes of text that calls were answered by; that are in the file for other processes; that are on the disk; and that the file
+ * has room for. Then how far the steps under way reach, Store and Sync. */
+struct seryugo_store {
+    uint64_t accepted;
+    uint64_t stored;
+    uint64_t synced;
+    uint64_t grown;
+    uint64_t storing;
+    uint64_t syncing;
+    uint32_t stage;
+};
+
+/* Begins to open a file of `length` bytes of which the first `kept` are kept, and `more` bytes follow these. */
+void seryugo_store_open(struct seryugo_store *store, uint64_t length, uint64_t kept, uint64_t more);
+
+/* Returns true and writes a step of this kind, which begins with that. An opening takes any kind, and writes its next step.
+ * Only a Grow reads `to`. */
+bool seryugo_store_begin(struct seryugo_store *store, uint32_t kind, uint64_t to, struct seryugo_step *step);
+
+/* Ends a step of this kind. A Store that is done says how far it came: it may end more than once, and reaches further each
+ * time. */
+void seryugo_store_end(struct seryugo_store *store, uint32_t kind, bool is_done, uint64_t to);
+
+/* ---- lines: lines.c ---- */
+
+/* The lines of a room's entries. */
+
+/* The most bytes of a line, with its line feed. */
+#define SERYUGO_LINE_MOST 1114112
+
+/* Writes the lines of a room's entries from position `from` on, as many whole lines as fit into `size` bytes: only these bytes
+ * are changed. *next is the position after the last line, and *length how many bytes they have.
+ *
+ * SERYUGO_DONE: no entry is left. SERYUGO_FULL: the line of the entry *next doesn't fit. SERYUGO_TOO_LONG: it has more than
+ * 1,114,112 bytes. SERYUGO_NO_SUCH: entries from `from` on were cut away, and nothing is written. SERYUGO_NO_MEMORY: an entry
+ * of bytes was not read. */
+uint32_t seryugo_entries_text(const struct seryugo *room, uint64_t from, void *buffer, size_t size, uint64_t *next,
+                               size_t *length);
+
+/* ---- the file ---- */
 
 #define SERYUGO_PAGE ((uint64_t)4096)
 /* From so many unsynced bytes on the helper syncs early. */

@@ -1,5 +1,5 @@
 /* The lines of a room's entries, over the calls that read one entry. They are tested: a reading, which is proved, takes them. */
-#include "lines.h"
+#include "file.h"
 
 #include <string.h>
 

@@ -1,5 +1,5 @@
 /* The rule of a journal's file. The crate cml_store has one that is proved, with more steps. Nothing calls that yet. */
-#include "store.h"
+#include "file.h"
 
 void seryugo_store_open(struct seryugo_store *store, uint64_t length, uint64_t kept, uint64_t more)
 {
