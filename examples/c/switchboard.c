@@ -436,7 +436,8 @@ static void goes_on(void)
 static void words(void)
 {
     require(strcmp(seryugo_code_text(SERYUGO_DONE), "done") == 0, "each code has words");
-    require(strcmp(seryugo_code_text(SERYUGO_TIMED_OUT), "timed out") == 0, "the last code too");
+    require(strcmp(seryugo_code_text(SERYUGO_TIMED_OUT), "timed out") == 0, "a deadline has words");
+    require(strcmp(seryugo_code_text(SERYUGO_FORKED), "unknown code") != 0, "the last code too");
     require(strcmp(seryugo_code_text(SERYUGO_FORKED + 1), "unknown code") == 0, "another number has none");
 }
 
