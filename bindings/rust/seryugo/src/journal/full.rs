@@ -116,10 +116,14 @@ impl<R: MessageKind> WhenFull<R> {
     ///
     /// ```no_run
     /// use seryugo::{Switchboard, WhenFull};
-    /// use std::fs::File;
+    /// use std::fs::OpenOptions;
     ///
     /// # fn main() -> Result<(), Box<dyn std::error::Error>> {
-    /// let board = Switchboard::new(1_000)?.when_full(WhenFull::file(File::create("x.journal")?));
+    /// // A journal that is there already isn't emptied.
+    /// let file = OpenOptions::new().read(true).append(true).create_new(true).open("x.journal")?;
+    /// let board = Switchboard::new(1_000)?.when_full(WhenFull::file(file));
+    /// // Calls, and at the end:
+    /// board.keep()?;
     /// # Ok(())
     /// # }
     /// ```
