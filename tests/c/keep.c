@@ -144,10 +144,10 @@ static void try_parts(void)
 static void try_torn_texts(void)
 {
     for (size_t end = 0; end < kept; end += 13) {
-        open_reading();
-        uint32_t code = take_parts(end, 50);
+        uint32_t code = end > 0 && file[end - 1] == '\n' ? SERYUGO_TEXT_OPEN : SERYUGO_TORN;
 
-        IS(end > 0 && file[end - 1] == '\n' ? SERYUGO_TEXT_OPEN : SERYUGO_TORN, code);
+        open_reading();
+        returns(take_parts(end, 50), code, __LINE__);
         close_one(&has_reading, reading);
     }
     open_reading();
