@@ -123,6 +123,8 @@ class ChatServer(ServerCases):
         with self.case("a letter that was changed: the lines are named"):
             words = (self.program, "--listen", "127.0.0.1:0", "--journal", self.work / "other")
             self.assertEqual(self.run_program(*words).errors()[-len(changed) :], changed)
+        zero = sealed(*sent).replace("%20hello", "\0hello")
+        self.no_journal("a byte 0 with text after it", zero, "line 4 has ")
 
     def test_each_change_is_seen(self):
         """A change of any byte of the file is refused at the start, with a line."""

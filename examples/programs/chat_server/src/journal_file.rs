@@ -5,7 +5,7 @@ use crate::failure::Failure;
 use crate::progress::Progress;
 use seryugo::{CheckError, Journal, RestoreError, Sum, Switchboard, ValidPrefix};
 use std::fs::{self, OpenOptions, TryLockError};
-use std::io::{self, BufRead, ErrorKind, Read, Seek, SeekFrom, Write};
+use std::io::{self, BufRead, BufReader, ErrorKind, Read, Seek, SeekFrom, Write};
 use std::os::unix::fs::MetadataExt;
 use std::path::{Path, PathBuf};
 
@@ -47,6 +47,9 @@ impl JournalFile {
         }
         let (board, kept) = Switchboard::restore_torn(Progress::new(&file, path, length), limit)
             .map_err(|error| failure(path, &file, error))?;
+        if let Some(line) = line_with_zero(&file, kept.bytes).map_err(fail)? {
+            return Err(failure(path, &file, CheckError::Fault(line).into()));
+        }
         let file = JournalFile {
             path: path.to_owned(),
             real,
@@ -201,6 +204,19 @@ fn begins_a_journal(mut file: &fs::File) -> io::Result<bool> {
     file.take(HEADER.len() as u64).read_to_end(&mut text)?;
     file.seek(SeekFrom::Start(0))?;
     Ok(HEADER.starts_with(&text))
+}
+
+/// The line that has a byte 0 with text after it. A write that was cut short leaves no such line: the file was changed.
+fn line_with_zero(mut file: &fs::File, kept: u64) -> io::Result<Option<u64>> {
+    file.seek(SeekFrom::Start(kept))?;
+    let mut torn = BufReader::new(file).bytes();
+    let before = torn.by_ref().take_while(|byte| !matches!(byte, Ok(0) | Err(_))).count() as u64;
+    if torn.find(|byte| !matches!(byte, Ok(0))).transpose()?.is_none() {
+        return Ok(None);
+    }
+    file.seek(SeekFrom::Start(0))?;
+    let mut text = BufReader::new(file.take(kept + before)).bytes();
+    text.try_fold(1, |line, byte| Ok(line + u64::from(byte? == b'\n'))).map(Some)
 }
 
 /// The path of the file that is to replace this one.
