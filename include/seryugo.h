@@ -656,6 +656,17 @@ static inline uint32_t seryugo_compact_and_cut(struct seryugo *room, struct sery
  */
 uint32_t seryugo_journal_text(const struct seryugo *journal, uint64_t from, struct seryugo_bytes *text);
 
+/*
+ * Writes the lines of a room's entries from position `from` on into your memory, as many whole lines as fit into `size` bytes. The
+ * room stays as it was, and nothing is handed over. *count is how many lines these are, and *length how many bytes they have. The
+ * bytes after them stay. A reading takes these lines in a piece: the text has no header and no last line.
+ *
+ * SERYUGO_DONE: no entry is left. SERYUGO_FULL: the next line doesn't fit. SERYUGO_TOO_LONG: it would have more than 1,114,112 bytes.
+ * SERYUGO_NO_MEMORY: there is none for a line of more than 1,024 bytes. SERYUGO_NO_SUCH: an entry from `from` on was cut away, and
+ * both counts are 0.
+ */
+uint32_t seryugo_entries_text(const struct seryugo *room, uint64_t from, void *buffer, size_t size, uint64_t *count, uint64_t *length);
+
 /* A sum over a piece of text: SHA-256, if is_there. Fill it with 0 before the first piece. */
 struct seryugo_sum {
     bool is_there;
@@ -750,7 +761,32 @@ enum seryugo_reading_wanted {
      * SERYUGO_TORN: the text ends within a line, or is empty. SERYUGO_NO_JOURNAL: it has no whole line, and no journal begins so. */
     SERYUGO_READING_END = 2,
     /* How many bytes of the text may be kept, modulo 2^64: those of its whole lines, but for a header without a line behind it. */
-    SERYUGO_READING_KEPT = 3
+    SERYUGO_READING_KEPT = 3,
+    /* Which fault the reading stopped by, of enum seryugo_fault. SERYUGO_NOTHING: it stopped by none. */
+    SERYUGO_READING_FAULT = 4
+};
+
+/* The first fault of a line, from left to right. */
+enum seryugo_fault {
+    SERYUGO_FAULT_SHORT = 0,
+    SERYUGO_FAULT_UNKNOWN_WORD = 1,
+    SERYUGO_FAULT_NO_COLON = 2,
+    SERYUGO_FAULT_BAD_NUMBER = 3,
+    SERYUGO_FAULT_BAD_MESSAGE = 4,
+    SERYUGO_FAULT_WRONG_REPLY = 5,
+    SERYUGO_FAULT_BAD_BYTES = 6,
+    /* A piece doesn't begin with a header that may be there. */
+    SERYUGO_FAULT_NO_HEADER = 7,
+    /* The header's version is none that this library knows; or it has messages of the other type. */
+    SERYUGO_FAULT_OTHER_VERSION = 8,
+    SERYUGO_FAULT_OTHER_MESSAGES = 9,
+    /* A piece doesn't begin where the one before ended. The first begins at 0. */
+    SERYUGO_FAULT_GAP = 10,
+    /* The position in a piece's last line isn't the one after its last entry; or a sum isn't that of the lines. */
+    SERYUGO_FAULT_WRONG_END = 11,
+    SERYUGO_FAULT_WRONG_SUM = 12,
+    SERYUGO_FAULT_TOO_MANY = 13,
+    SERYUGO_FAULT_TOO_LONG = 14
 };
 
 /* Writes what is wanted of a reading, which stays as it was. SERYUGO_OUT_OF_BOUNDS: nothing has this number. */

@@ -188,7 +188,7 @@ uint32_t seryugo_file_reserve(struct seryugo_file *file, struct seryugo *room, u
 }
 
 /* What was stored becomes the file's: other threads may sync it. */
-static void publish(struct seryugo_file *file, uint64_t next, size_t length)
+static void publish(struct seryugo_file *file, uint64_t next, uint64_t length)
 {
     file->stored += length;
     file->next = next;
@@ -196,7 +196,7 @@ static void publish(struct seryugo_file *file, uint64_t next, size_t length)
 }
 
 /* Writes lines that were made in memory. After a failure nobody knows what is there. */
-static uint32_t write_lines(struct seryugo_file *file, size_t length)
+static uint32_t write_lines(struct seryugo_file *file, uint64_t length)
 {
     int error = 0, state = 0;
 
@@ -217,17 +217,17 @@ static uint32_t write_lines(struct seryugo_file *file, size_t length)
 /* Stores the lines that fit. SERYUGO_FULL: some didn't. */
 static uint32_t store_lines(struct seryugo_file *file, const struct seryugo *room)
 {
-    uint64_t next = file->next;
-    size_t length = 0, size = (size_t)(file->bound - file->stored);
+    uint64_t count = 0, length = 0;
+    size_t size = (size_t)(file->bound - file->stored);
     uint8_t *to = file->is_mapped ? file->view.base + (file->stored - file->view.start) : file->lines;
     uint32_t code;
 
     size = file->is_mapped || size < file->margin ? size : (size_t)file->margin;
-    code = seryugo_entries_text(room, file->next, to, size, &next, &length);
+    code = seryugo_entries_text(room, file->next, to, size, &count, &length);
     if (!file->is_mapped && (code == SERYUGO_DONE || code == SERYUGO_FULL) && write_lines(file, length) != SERYUGO_DONE) {
         return SERYUGO_FILE_LOST;
     }
-    publish(file, next, length);
+    publish(file, file->next + count, length);
     if (code == SERYUGO_NO_SUCH) {
         seryugo_file_lose(file, "the room's journal was cut before its entries were stored", 0);
     }

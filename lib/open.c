@@ -28,30 +28,6 @@ static uint32_t fails(struct seryugo_opening *opening, const char *words, int er
 
 /* ---- reading ---- */
 
-/* What the first line says of the version, before anything is read: a reading says only that it has a fault. */
-static uint32_t judge_header(struct seryugo_opening *opening, size_t length)
-{
-    const char *at = opening->chunk + 8, *end = opening->chunk + length;
-    uint64_t version = 0;
-
-    if (length < 9 || memcmp(opening->chunk, "journal ", 8) != 0) {
-        return SERYUGO_DONE;
-    }
-    for (; at < end && *at >= '0' && *at <= '9' && version < 1000; at++) {
-        version = 10 * version + (uint64_t)(*at - '0');
-    }
-    if (at == opening->chunk + 8 || (at < end && *at != '\n' && *at != ' ' && *at != 0)) {
-        return seryugo_refuse(opening, SERYUGO_NO_JOURNAL, "the first line is none of a journal", 0);
-    }
-    if (version < 1 || version > 4) {
-        return seryugo_refuse(opening, SERYUGO_OTHER_VERSION, "a version that this library doesn't know", 0);
-    }
-    if (version % 2 != (opening->messages == SERYUGO_NUMBERS)) {
-        return seryugo_refuse(opening, SERYUGO_OTHER_MESSAGES, version % 2 == 0 ? "it has bytes" : "it has numbers", 0);
-    }
-    return SERYUGO_DONE;
-}
-
 /* Counts what was read. A reading that has stopped says no more than that. */
 static void count(struct seryugo_opening *opening)
 {
@@ -60,23 +36,38 @@ static void count(struct seryugo_opening *opening)
     (void)seryugo_reading_kept(&opening->reading, &opening->found->kept);
 }
 
-/* Says by name why a text isn't read. The chunk is the text's first if no line was read. */
-static uint32_t refuse_text(struct seryugo_opening *opening, uint32_t code, bool is_first)
+/* Says by name why a text with this fault isn't read. */
+static uint32_t refuse_fault(struct seryugo_opening *opening, uint64_t fault)
 {
-    uint64_t lines;
-    const char *second;
+    bool is_header = opening->found->lines == 0;
 
-    count(opening);
-    lines = opening->found->lines;
-    opening->found->kept = 0;
-    if (code == SERYUGO_NO_JOURNAL || (code == SERYUGO_FAULT && lines == 0)) {
+    if (is_header && fault == SERYUGO_FAULT_OTHER_VERSION) {
+        return seryugo_refuse(opening, SERYUGO_OTHER_VERSION, "a version that this library doesn't know", 0);
+    }
+    if (is_header && fault == SERYUGO_FAULT_OTHER_MESSAGES) {
+        return seryugo_refuse(opening, SERYUGO_OTHER_MESSAGES,
+                              opening->messages == SERYUGO_NUMBERS ? "it has bytes" : "it has numbers", 0);
+    }
+    if (is_header) {
         return seryugo_refuse(opening, SERYUGO_NO_JOURNAL, "the first line is none of a journal", 0);
     }
-    if (code == SERYUGO_FAULT && lines == 1 && is_first) {
-        second = strchr(opening->chunk, '\n');
-        if (second != NULL && strncmp(second + 1, "from ", 5) == 0) {
-            return seryugo_refuse(opening, SERYUGO_BEGINS_LATER, "what was before the cut isn't known", 0);
-        }
+    if (opening->found->lines == 1 && fault == SERYUGO_FAULT_GAP) {
+        return seryugo_refuse(opening, SERYUGO_BEGINS_LATER, "what was before the cut isn't known", 0);
+    }
+    return seryugo_refuse(opening, SERYUGO_FAULT, "the journal was changed", 0);
+}
+
+static uint32_t refuse_text(struct seryugo_opening *opening, uint32_t code)
+{
+    uint64_t fault = 0;
+
+    count(opening);
+    opening->found->kept = 0;
+    if (seryugo_reading_state(&opening->reading, SERYUGO_READING_FAULT, &fault) == SERYUGO_DONE) {
+        return refuse_fault(opening, fault);
+    }
+    if (code == SERYUGO_NO_JOURNAL) {
+        return seryugo_refuse(opening, code, "the first line is none of a journal", 0);
     }
     return seryugo_refuse(opening, code, code == SERYUGO_NO_MEMORY ? "no memory" : "the journal was changed", 0);
 }
@@ -95,15 +86,9 @@ static uint32_t read_text(struct seryugo_opening *opening)
         }
         opening->chunk[length] = 0;
         part = strlen(opening->chunk);
-        if (opening->text == 0) {
-            code = judge_header(opening, part);
-            if (code != SERYUGO_DONE) {
-                return code;
-            }
-        }
         code = seryugo_reading_take(&opening->reading, opening->chunk, part);
         if (code != SERYUGO_DONE) {
-            return refuse_text(opening, code, opening->text == 0);
+            return refuse_text(opening, code);
         }
         opening->text += part;
     }
@@ -341,7 +326,7 @@ static uint32_t restore(struct seryugo_opening *opening, uint64_t *end)
     }
     code = seryugo_reading_end(&opening->reading);
     if (is_blank(opening, *end) || (code != SERYUGO_DONE && code != SERYUGO_TEXT_OPEN && code != SERYUGO_TORN)) {
-        return refuse_text(opening, SERYUGO_NO_JOURNAL, false);
+        return refuse_text(opening, SERYUGO_NO_JOURNAL);
     }
     count(opening);
     code = prepare_more(opening);

@@ -87,7 +87,7 @@ static void try_unknown_numbers(void)
     RETURNS(OUT_OF_BOUNDS, seryugo_entry_at(&room, SERYUGO_OF_JOURNAL + 1, 0, &entry));
     RETURNS(OUT_OF_BOUNDS, seryugo_bytes_entry_at(&room, SERYUGO_OF_JOURNAL + 1, 0, &bytes_entry));
     RETURNS(OUT_OF_BOUNDS, seryugo_take_by(&room, SERYUGO_TAKE_SHORT_AND_CUT + 1, &other, &count));
-    RETURNS(OUT_OF_BOUNDS, seryugo_reading_state(&room, SERYUGO_READING_KEPT + 1, &count));
+    RETURNS(OUT_OF_BOUNDS, seryugo_reading_state(&room, SERYUGO_READING_FAULT + 1, &count));
     IS(77, count);
     RETURNS(WRONG_HANDLE, seryugo_reading_end(&room));
 }

@@ -57,10 +57,32 @@ static void open_numbers(void)
     RETURNS(DONE, seryugo_recv(&room, 1, mailbox, false, &found));
 }
 
+/* Lines of entries that are still in the room. */
+static void try_lines(void)
+{
+    static const char lines[] = "seat 0 send 0 5: done\nseat 0 send 0 7: done\n";
+    char buffer[64] = "";
+    uint64_t lines_count = 77, length = 77;
+
+    RETURNS(FULL, seryugo_entries_text(&room, 1, buffer, sizeof lines - 1, &lines_count, &length));
+    IS(2, lines_count);
+    IS(sizeof lines - 1, length);
+    IS(0, strcmp(lines, buffer));
+    RETURNS(DONE, seryugo_entries_text(&room, 3, buffer, sizeof buffer, &lines_count, &length));
+    IS(1, lines_count);
+    IS(0, memcmp("seat 1 recv 0: 5\nd", buffer, 18));
+    RETURNS(FULL, seryugo_entries_text(&room, 3, buffer, 16, &lines_count, &length));
+    IS(0, lines_count);
+    IS(0, length);
+    RETURNS(DONE, seryugo_entries_text(&room, 4, buffer, sizeof buffer, &lines_count, &length));
+    IS(0, lines_count);
+}
+
 static void try_text(void)
 {
     uint64_t count = 77;
 
+    try_lines();
     RETURNS(WRONG_HANDLE, seryugo_journal_text(&room, 0, &text));
     RETURNS(DONE, seryugo_take_journal(&room, &journal, &count));
     has_journal = true;
@@ -178,6 +200,36 @@ static void stops(const char *given, uint32_t code, uint64_t entries, uint64_t l
 }
 
 #define STOPS(code, entries, lines, given) stops(given, SERYUGO_##code, entries, lines, __LINE__)
+
+/* The fault that a reading of this text stops by. */
+static void has_fault(const char *given, uint64_t expected, int line)
+{
+    uint64_t fault = 77;
+
+    open_reading();
+    returns(seryugo_reading_state(&reading, SERYUGO_READING_FAULT, &fault), SERYUGO_NOTHING, line);
+    is(fault, 77, line);
+    returns(seryugo_reading_take(&reading, given, strlen(given)), SERYUGO_FAULT, line);
+    returns(seryugo_reading_state(&reading, SERYUGO_READING_FAULT, &fault), SERYUGO_DONE, line);
+    is(fault, expected, line);
+    close_one(&has_reading, reading);
+}
+
+#define HAS_FAULT(fault, given) has_fault(given, SERYUGO_FAULT_##fault, __LINE__)
+
+static void try_faults(void)
+{
+    HAS_FAULT(SHORT, "journal 1\nseat\n");
+    HAS_FAULT(UNKNOWN_WORD, "journal 1\nseat 0 listen: done\n");
+    HAS_FAULT(BAD_NUMBER, "journal 1\nseat 0 send 0 05: done\n");
+    HAS_FAULT(WRONG_REPLY, "journal 1\nseat 0 send 0 5: none\n");
+    HAS_FAULT(BAD_BYTES, "journal 1\nseat 0\t\n");
+    HAS_FAULT(NO_HEADER, "{}\n");
+    HAS_FAULT(OTHER_VERSION, "journal 5\n");
+    HAS_FAULT(OTHER_MESSAGES, "journal 2\n");
+    HAS_FAULT(GAP, "journal 1\nfrom 4\n");
+    HAS_FAULT(WRONG_END, "journal 1\nend 1\n");
+}
 
 static void try_wrong_texts(void)
 {
@@ -384,8 +436,12 @@ static void try_too_long_a_line(void)
     RETURNS(DONE, seryugo_new_seat(&room, &(uint64_t){ 0 }));
     RETURNS(DONE, seryugo_new_mailbox(&room, 0, &(uint64_t){ 0 }));
     SEND(many, sizeof many);
+    RETURNS(TOO_LONG, seryugo_entries_text(&room, 0, file, sizeof file, &(uint64_t){ 0 }, &(uint64_t){ 0 }));
+    IS(0, memcmp("seat 0 mailbox: made 0\n", file, 23));
     RETURNS(DONE, seryugo_take_journal(&room, &journal, &(uint64_t){ 0 }));
     has_journal = true;
+    RETURNS(WRONG_HANDLE, seryugo_entries_text(&journal, 0, file, sizeof file, &(uint64_t){ 0 }, &(uint64_t){ 0 }));
+    RETURNS(NO_SUCH, seryugo_entries_text(&room, 1, file, sizeof file, &(uint64_t){ 0 }, &(uint64_t){ 0 }));
     RETURNS(TOO_LONG, seryugo_journal_text(&journal, 0, &text));
     close_one(&has_journal, journal);
     close_one(&has_room, room);
@@ -399,6 +455,7 @@ int main(void)
     try_parts();
     try_torn_texts();
     try_wrong_texts();
+    try_faults();
     try_wrong_calls();
     try_a_restored_room();
     try_what_waited();

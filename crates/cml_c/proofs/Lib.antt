@@ -7,3 +7,5 @@ mod TakingLemmas
 mod NeedingLemmas
 mod RefusingLemmas
 mod GoingRoundLemmas
+mod PuttingLemmas
+mod AddingLemmas

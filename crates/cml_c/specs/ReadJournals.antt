@@ -1,11 +1,12 @@
 -- What C gets of a journal whose text is read back.
 use Rattle.std.specs.Prelude.{ℕ, ◌≡◌, ◌⊎◌, ◌↔◌, List, [], ◌∷◌, ◌++◌, Option, Some, None, ⊤}
 use Rattle.cml_board.specs.{count_of}
-use Rattle.cml_journal.specs.{Halt, Progress, Unended, IsSoFar, HaltTells, IsLawfulJournal, unended, message_of_word, number_of}
+use Rattle.cml_journal.specs.{Halt, Progress, Unended, What, IsSoFar, HaltTells, IsLawfulJournal, unended, message_of_word, number_of}
 use Rattle.cml_journal.specs.declared.fault.Unended.TheVariants as unended
+use Rattle.cml_journal.specs.declared.fault.What.TheVariants as what
 use Rattle.cml_journal.specs.declared.stop.Halt.TheVariants as halt
 use Rattle.cml_c.specs.declared.code.Code.{Code}
-use Rattle.cml_c.specs.declared.code.Code.TheVariants.{Done, NoMemory, OutOfBounds, Unlawful, Fault, Torn, TextOpen, NoJournal}
+use Rattle.cml_c.specs.declared.code.Code.TheVariants.{Done, Nothing, NoMemory, OutOfBounds, Unlawful, Fault, Torn, TextOpen, NoJournal}
 use Rattle.cml_c.specs.declared.handle.Slot.{Slot}
 use Rattle.cml_c.specs.declared.message_kind.MessageKind.{MessageKind}
 use Rattle.cml_c.specs.declared.message_kind.MessageKind.TheVariants as messages
@@ -102,7 +103,40 @@ pub record EndsSo {M : Type 0} (version : ℕ) (meaning : List ℕ → Option M)
 
 -- what is read off a reading, in the order of the numbers
 abbrev pub reading_states : List ReadingState
-reading_states = wanted.Entries ∷ wanted.Lines ∷ wanted.End ∷ wanted.Kept ∷ []
+reading_states = wanted.Entries ∷ wanted.Lines ∷ wanted.End ∷ wanted.Kept ∷ wanted.Fault ∷ []
+
+-- a fault's number
+abbrev pub number_of_fault : What → ℕ
+number_of_fault what.Short = 0
+number_of_fault what.UnknownWord = 1
+number_of_fault what.NoColon = 2
+number_of_fault what.BadNumber = 3
+number_of_fault what.BadMessage = 4
+number_of_fault what.WrongReply = 5
+number_of_fault what.BadBytes = 6
+number_of_fault what.NoHeader = 7
+number_of_fault what.OtherVersion = 8
+number_of_fault what.OtherType = 9
+number_of_fault what.Gap = 10
+number_of_fault what.WrongEnd = 11
+number_of_fault what.WrongSum = 12
+number_of_fault what.TooMany = 13
+number_of_fault what.TooLong = 14
+
+-- the number of the fault that a reading stopped by, if it stopped by one
+abbrev pub fault_in : Option Halt → Option ℕ
+fault_in None = None
+fault_in (Some (halt.Unlawful at)) = None
+fault_in (Some (halt.Fault line what)) = Some (number_of_fault what)
+fault_in (Some halt.NoMemory) = None
+
+-- it is written, or nothing is
+abbrev pub IsNumbered : Option ℕ → (before after code : ℕ) → Type 0
+IsNumbered (Some fault) before after code = (code ≡ number Done) × (after ≡ fault)
+IsNumbered None before after code = (code ≡ number Nothing) × (after ≡ before)
+
+abbrev pub TellsFault : {M : Type 0} → (before after code : ℕ) → Progress M → Progress M → Type 0
+TellsFault before after code old new = (new ≡ old) × IsNumbered (fault_in old.halt) before after code
 
 -- this of a reading is told: a count, which is written, or how its text ends
 abbrev pub IsTold : {M : Type 0} → ℕ → (List ℕ → Option M) → ReadingState → ℕ → ℕ → ℕ → Progress M → Progress M → Type 0
@@ -110,6 +144,7 @@ IsTold version meaning wanted.Entries before after code old new = Tells entries_
 IsTold version meaning wanted.Lines before after code old new = Tells lines_read code after old new
 IsTold version meaning wanted.End before after code old new = EndsSo version meaning code old new × (after ≡ before)
 IsTold version meaning wanted.Kept before after code old new = Tells bytes_kept code after old new
+IsTold version meaning wanted.Fault before after code old new = TellsFault before after code old new
 
 -- the same of whichever reading a handle leads to; or no state has such a number, and nothing is changed
 abbrev pub TellsThis : ReadingState → ℕ → ℕ → ℕ → Owned → Owned → Type 0

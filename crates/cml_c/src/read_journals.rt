@@ -3,7 +3,7 @@ ghost use Rattle.std.specs.Prelude.{◌≡◌, [], IfOk, slice_get};
 ghost use Rattle.cml_journal.specs.{IsSoFar};
 ghost use Rattle.cml_c.specs.{number, OpensNumbers, OpensBytes, OpensReadingOf, TakesPart, TellsState, TellsThis, IsTold, EndsSo, told_halt, told_unended};
 ghost use Rattle.cml_c.specs.{message_kinds};
-ghost use Rattle.cml_c.specs.ReadJournals.{Takes, reading_states};
+ghost use Rattle.cml_c.specs.ReadJournals.{Takes, TellsFault, number_of_fault, reading_states};
 
 use crate::code::Code;
 use crate::handle::{Handle, Slot};
@@ -12,7 +12,7 @@ use crate::owned::{CheckOf, Owned, Resource, on_any_messages};
 use crate::rooms::write_handle;
 use crate::telling::write_number;
 use cml_board::Message;
-use cml_journal::{Halt, Unended, Written};
+use cml_journal::{Halt, Unended, What, Written};
 use std::alloc::{AllocError, Global};
 
 /// Opens a reading of a journal with these messages, and writes a handle to it.
@@ -100,6 +100,8 @@ pub enum ReadingState {
     End,
     /// How many bytes of the text may be kept, modulo 2^64: those of its whole lines, but for a header without a line behind it.
     Kept,
+    /// Which fault the reading stopped by.
+    Fault,
 }
 
 impl ReadingState {
@@ -112,14 +114,15 @@ impl ReadingState {
             1 => Some(ReadingState::Lines),
             2 => Some(ReadingState::End),
             3 => Some(ReadingState::Kept),
+            4 => Some(ReadingState::Fault),
             _ => None,
         }
     }
 }
 
-/// Writes how many entries or lines were read, or how many bytes may be kept. Or says whether the text so far is a whole journal, and
-/// writes nothing: it fails with `TextOpen`, `Torn` or `NoJournal`, or with what the reading stopped by. `OutOfBounds`: no state has the
-/// number `what`.
+/// Writes how many entries or lines were read, how many bytes may be kept, or which fault the reading stopped by: `Nothing`, if by none.
+/// Or says whether the text so far is a whole journal, and writes nothing: it fails with `TextOpen`, `Torn` or `NoJournal`, or with what
+/// the reading stopped by. `OutOfBounds`: no state has the number `what`.
 #[unsafe(no_mangle)]
 pub extern "C" fn seryugo_reading_state(reading: &mut Handle, what: u32, number: &mut u64) -> u32
     ensures { TellsState (slice_get reading_states what) number.old number.new result reading.old.owned reading.new.owned }
@@ -154,6 +157,39 @@ fn tell_state<M: Message + Written>(
         ReadingState::Lines => write_number(reading.lines(), number),
         ReadingState::End => tell_end(reading),
         ReadingState::Kept => write_number(reading.kept(), number),
+        ReadingState::Fault => tell_fault(reading, number),
+    }
+}
+
+fn tell_fault<M: Message + Written>(reading: &mut CheckOf<M>, number: &mut u64) -> u32
+    ensures { TellsFault number.old number.new result reading.old reading.new }
+{
+    match reading.halt() {
+        Some(Halt::Fault(_, what)) => write_number(number_of_fault(what), number),
+        _ => Code::Nothing.number(),
+    }
+}
+
+/// The fault's number in the header.
+fn number_of_fault(what: What) -> u64
+    ensures { result ≡ number_of_fault what }
+{
+    match what {
+        What::Short => 0,
+        What::UnknownWord => 1,
+        What::NoColon => 2,
+        What::BadNumber => 3,
+        What::BadMessage => 4,
+        What::WrongReply => 5,
+        What::BadBytes => 6,
+        What::NoHeader => 7,
+        What::OtherVersion => 8,
+        What::OtherType => 9,
+        What::Gap => 10,
+        What::WrongEnd => 11,
+        What::WrongSum => 12,
+        What::TooMany => 13,
+        What::TooLong => 14,
     }
 }
 

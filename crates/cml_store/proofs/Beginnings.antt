@@ -1,6 +1,6 @@
 -- What holds goes on as bytes are accepted and steps begin.
-use Rattle.std.proofs.Common.{◌≡◌, ℕ, ◌+◌, ◌≤◌, Bool, true, false, Option, Some, None, List, ◌++◌, length, refl, sym, ◌∙◌, ap, subst, arith, length-append, nat_lt, cond}
-use Rattle.std.proofs.lemmas.Bool.{ltb-true, ltb-false}
+use Rattle.std.proofs.Common.{◌≡◌, ℕ, ◌+◌, ◌≤◌, Bool, true, false, Option, Some, None, List, ◌++◌, length, refl, sym, ◌∙◌, ap, subst, arith, length-append, nat_lt, nat_le, ◌&&◌, cond}
+use Rattle.std.proofs.lemmas.Bool.{ltb-true, ltb-false, leb-true, and_parts}
 use Rattle.std.proofs.lemmas.List.{take_all}
 use Rattle.cml_store.specs.declared.stage.Stage.{Stage}
 use Rattle.cml_store.specs.declared.stage.Stage.TheVariants.{Dirty, Trimming, Trimmed, Rewriting, Settling, Unnamed, Naming, Open, Lost}
@@ -9,9 +9,9 @@ use Rattle.cml_store.specs.declared.stage.Work.TheVariants.{Idle, Cutting, Growi
 use Rattle.cml_store.specs.declared.step.Step.{Step}
 use Rattle.cml_store.specs.declared.step.Step.TheVariants.{Nothing}
 use Rattle.cml_store.specs.Disk.{Call, calls_of}
-use Rattle.cml_store.specs.Machine.{is_open, accepted_by, rests, step_of, storing_at, storing_of, sync_of, syncing_at, syncing_of, work_begun, open_begun, open_sync_begun}
+use Rattle.cml_store.specs.Machine.{is_open, accepted_by, rests, step_of, storing_at, storing_of, sync_of, syncing_at, syncing_of, work_begun, open_begun, grow_begun, open_sync_begun}
 use Rattle.cml_store.specs.Recovery.{IsPrinted}
-use Rattle.cml_store.specs.World.{World, store_started, sync_started, accepts_at, begins_store, begins_sync}
+use Rattle.cml_store.specs.World.{World, store_started, sync_started, accepts_at, begins_store, begins_growth, begins_sync}
 use Rattle.cml_store.proofs.Spotty.{Spotty, more_text, in_part, started}
 use Rattle.cml_store.proofs.Keeping.{printed_append}
 use Rattle.cml_store.proofs.Holds.{take_append, Under, Closed, Trim, SyncHolds, Opened, HoldsAt, Holds, fits_stored, under_more, closed_as, closed_started}
@@ -211,6 +211,42 @@ module _ (limit : ℕ) (whole : List ℕ → Bool) where
   store_begins Naming closing growth w e h = none_begins Naming w e h refl
   store_begins Open closing growth w e h = begin_open w.store.work closing growth w e refl h
   store_begins Lost closing growth w e h = begin_lost w.store.work w e refl h
+
+  -- a growth ahead begins
+  begin_growing : (wanted : Bool) (to : ℕ) (w : World) → (nat_lt w.store.grown to && nat_le w.store.accepted to) ≡ wanted
+      → w.store.stage ≡ Open → w.store.work ≡ Idle → Opened limit whole w
+      → let s = grow_begun Idle wanted to w.store in
+      Holds limit whole (record w { store = s; disk = store_started w.text (storing_of s) w.disk })
+  begin_growing true to w is e i h =
+      let parts = and_parts (nat_lt w.store.grown to) (nat_le w.store.accepted to) is in
+      let longer : w.store.grown + 1 ≤ to = omega (arith, ltb-true w.store.grown to parts.0) in
+      let fits : w.store.accepted ≤ to = leb-true w.store.accepted to parts.1 in
+      begin_work w (Growing to) h
+      (omega (arith, h.closed.marks.within, h.accepted, fits), omega (arith, h.high, h.accepted, fits), omega (arith, longer))
+  begin_growing false to w is e i h = none_begins Open w e h (ap (λ k. step_of k w.store.stored) i)
+
+  begin_growth : (work : Work) (to : ℕ) (w : World) → w.store.stage ≡ Open → w.store.work ≡ work → Opened limit whole w
+      → let s = grow_begun work (nat_lt w.store.grown to && nat_le w.store.accepted to) to w.store in
+      Holds limit whole (record w {
+        store = s;
+        disk = store_started w.text (cond (rests (step_of work w.store.stored)) (storing_of s) Nothing) w.disk;
+      })
+  begin_growth Idle to w e i h = begin_growing _ to w refl e i h
+  begin_growth (Cutting at) to w e i h = subst (λ s. HoldsAt limit whole s w) (sym e) h
+  begin_growth (Growing at) to w e i h = subst (λ s. HoldsAt limit whole s w) (sym e) h
+  begin_growth (Storing at) to w e i h = subst (λ s. HoldsAt limit whole s w) (sym e) h
+
+  pub growth_begins : (stage : Stage) (to : ℕ) (w : World) → w.store.stage ≡ stage → HoldsAt limit whole stage w
+      → Holds limit whole (begins_growth stage to w)
+  growth_begins Dirty to w e h = none_begins Dirty w e h refl
+  growth_begins Trimming to w e h = subst (λ s. HoldsAt limit whole s w) (sym e) h
+  growth_begins Trimmed to w e h = none_begins Trimmed w e h refl
+  growth_begins Rewriting to w e h = subst (λ s. HoldsAt limit whole s w) (sym e) h
+  growth_begins Settling to w e h = none_begins Settling w e h refl
+  growth_begins Unnamed to w e h = none_begins Unnamed w e h refl
+  growth_begins Naming to w e h = none_begins Naming w e h refl
+  growth_begins Open to w e h = begin_growth w.store.work to w e refl h
+  growth_begins Lost to w e h = begin_lost w.store.work w e refl h
 
   -- no sync begins
   no_sync_begins : (stage : Stage) (step : Step) (w : World) → w.store.stage ≡ stage → HoldsAt limit whole stage w

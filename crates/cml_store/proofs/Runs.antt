@@ -8,11 +8,11 @@ use Rattle.cml_store.specs.declared.step.Step.{Step}
 use Rattle.cml_store.specs.declared.step.Step.TheVariants.{Store}
 use Rattle.cml_store.specs.Machine.{is_open, step_of, sync_of, syncing_at, open_sync_ended}
 use Rattle.cml_store.specs.Recovery.{printed, recovered}
-use Rattle.cml_store.specs.World.{World, Event, Accepts, BeginsStore, EndsStore, BeginsSync, EndsSync, Forgets, IsKilled, LosesPower, KeepsMemory, AllKeepMemory, MaySync, accepts_at, stored_by, ends_store, ends_sync_by, ends_sync, after, MayHappen, run, MayRun, IsPast}
+use Rattle.cml_store.specs.World.{World, Event, Accepts, BeginsStore, BeginsGrowth, EndsStore, BeginsSync, EndsSync, Forgets, IsKilled, LosesPower, KeepsMemory, AllKeepMemory, MaySync, accepts_at, stored_by, ends_store, ends_sync_by, ends_sync, after, MayHappen, run, MayRun, IsPast}
 use Rattle.cml_store.proofs.Spotty.{Spotty}
 use Rattle.cml_store.proofs.Keeping.{keeps, take_take, read_front}
 use Rattle.cml_store.proofs.Holds.{clash, take_append, Under, Marks, Opened, SyncHolds, HoldsAt, Holds, closed_at, read_part}
-use Rattle.cml_store.proofs.Beginnings.{accepts, store_begins, sync_begins}
+use Rattle.cml_store.proofs.Beginnings.{accepts, store_begins, growth_begins, sync_begins}
 use Rattle.cml_store.proofs.Endings.{store_ends, sync_ends}
 use Rattle.cml_store.proofs.Openings.{forgets_more, opens}
 
@@ -117,6 +117,7 @@ module _ (limit : ℕ) (whole : List ℕ → Bool) where
         → Holds limit whole (Next w event)
     goes_on w (Accepts piece) h may = accepts limit whole w.store.stage w piece refl h may.0 may.1 may.2
     goes_on w (BeginsStore closing) h may = store_begins limit whole w.store.stage closing growth w refl h
+    goes_on w (BeginsGrowth to) h may = growth_begins limit whole w.store.stage to w refl h
     goes_on w (EndsStore done seen next) h may = store_ends limit whole w.store.stage done w seen next refl h may.0 may.1
     goes_on w BeginsSync h may = sync_begins limit whole w.store.stage w refl h
     goes_on w (EndsSync done seen next) h may = sync_ends limit whole w.store.stage done w seen next h may
@@ -153,6 +154,7 @@ module _ (limit : ℕ) (whole : List ℕ → Bool) where
     synced_stays w (Accepts piece) h may =
         (accept_stays (is_open w.store.stage) piece w (closed_at limit whole w.store.stage w h).marks).0
     synced_stays w (BeginsStore closing) h may = still w.synced w.text
+    synced_stays w (BeginsGrowth to) h may = still w.synced w.text
     synced_stays w (EndsStore done seen next) h may = still w.synced w.text
     synced_stays w BeginsSync h may = still w.synced w.text
     synced_stays w (EndsSync done seen next) h may = (sync_stays w.store.stage done seen next w h may).0
@@ -165,6 +167,7 @@ module _ (limit : ℕ) (whole : List ℕ → Bool) where
     stored_stays w (Accepts piece) h may keeps =
         (accept_stays (is_open w.store.stage) piece w (closed_at limit whole w.store.stage w h).marks).1
     stored_stays w (BeginsStore closing) h may keeps = still w.stored w.text
+    stored_stays w (BeginsGrowth to) h may keeps = still w.stored w.text
     stored_stays w (EndsStore done seen next) h may keeps = store_stays w.store.stage done seen next w h
     stored_stays w BeginsSync h may keeps = still w.stored w.text
     stored_stays w (EndsSync done seen next) h may keeps = (sync_stays w.store.stage done seen next w h may).1 keeps

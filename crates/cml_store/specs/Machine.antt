@@ -1,5 +1,5 @@
 -- What a store does: a machine without input and output.
-use Rattle.std.specs.Prelude.{ℕ, ◌+◌, ◌-◌, min, nat_lt, Bool, true, false, ◌&&◌, if◌then◌else◌, Option, Some, None}
+use Rattle.std.specs.Prelude.{ℕ, ◌+◌, ◌-◌, min, nat_lt, nat_le, Bool, true, false, ◌&&◌, if◌then◌else◌, Option, Some, None}
 use Rattle.cml_store.specs.declared.stage.Stage.{Stage}
 use Rattle.cml_store.specs.declared.stage.Stage.TheVariants.{Dirty, Trimming, Trimmed, Rewriting, Settling, Unnamed, Naming, Open, Lost}
 use Rattle.cml_store.specs.declared.stage.Work.{Work}
@@ -132,6 +132,35 @@ store_asked_at stage closing growth s =
 
 abbrev pub store_asked : Bool → ℕ → State → Step
 store_asked closing growth s = store_asked_at s.stage closing growth s
+
+-- An open file, on whose bytes nothing is under way, begins to grow to this length, if it is shorter and has room there for what was
+-- accepted. So there is room before bytes are accepted.
+abbrev pub grow_begun : Work → (wanted : Bool) → ℕ → State → State
+grow_begun Idle true to s = record s { work = Growing to; stage = Open }
+grow_begun Idle false to s = s
+grow_begun (Cutting at) wanted to s = s
+grow_begun (Growing at) wanted to s = s
+grow_begun (Storing at) wanted to s = s
+
+abbrev pub growth_begun_at : Stage → ℕ → State → State
+growth_begun_at Dirty to s = s
+growth_begun_at Trimming to s = s
+growth_begun_at Trimmed to s = s
+growth_begun_at Rewriting to s = s
+growth_begun_at Settling to s = s
+growth_begun_at Unnamed to s = s
+growth_begun_at Naming to s = s
+growth_begun_at Open to s = grow_begun s.work (nat_lt s.grown to && nat_le s.accepted to) to s
+growth_begun_at Lost to s = s
+
+abbrev pub growth_begun : ℕ → State → State
+growth_begun to s = growth_begun_at s.stage to s
+
+abbrev pub growth_asked_at : Stage → ℕ → State → Step
+growth_asked_at stage to s = if rests (storing_at stage s) then storing_of (growth_begun_at stage to s) else Nothing
+
+abbrev pub growth_asked : ℕ → State → Step
+growth_asked to s = growth_asked_at s.stage to s
 
 -- Work on an open file ends. A file that was cut in part may have any length between.
 abbrev pub work_ended : Work → Bool → State → State

@@ -4,7 +4,7 @@ use Rattle.cml_store.specs.declared.stage.Stage.{Stage}
 use Rattle.cml_store.specs.declared.step.Step.{Step}
 use Rattle.cml_store.specs.declared.step.Step.TheVariants.{Nothing, Cut, Grow, Store, Sync, SyncFolder}
 use Rattle.cml_store.specs.Disk.{Disk, LeftOf, MayLeave, MayForget, calls_of, MayEnd}
-use Rattle.cml_store.specs.Machine.{State, opened_at, refused, is_open, accepted_by, storing_at, storing_of, storing_begun_at, store_asked_at, storing_ended_at, syncing_at, syncing_of, syncing_begun_at, sync_asked_at, syncing_ended_at}
+use Rattle.cml_store.specs.Machine.{State, opened_at, refused, is_open, accepted_by, storing_at, storing_of, storing_begun_at, store_asked_at, growth_begun_at, growth_asked_at, storing_ended_at, syncing_at, syncing_of, syncing_begun_at, sync_asked_at, syncing_ended_at}
 use Rattle.cml_store.specs.Recovery.{IsPrinted, printed, recovered}
 
 -- The text that was accepted, as far as a recovery has kept it; and its marks: how many of its bytes a kill keeps, as far as the
@@ -22,6 +22,7 @@ pub record World : Type 0 where
 pub data Event : Type 0 where
   Accepts : (piece : List ℕ) → Event
   BeginsStore : (closing : Bool) → Event
+  BeginsGrowth : (to : ℕ) → Event
   EndsStore : (done : Bool) → (seen next : List ℕ) → Event
   BeginsSync : Event
   EndsSync : (done : Bool) → (seen next : List ℕ) → Event
@@ -33,6 +34,7 @@ pub data Event : Type 0 where
 abbrev pub IsInside : Event → Type 0
 IsInside (Accepts piece) = Unit {0}
 IsInside (BeginsStore closing) = Unit {0}
+IsInside (BeginsGrowth to) = Unit {0}
 IsInside (EndsStore done seen next) = Unit {0}
 IsInside BeginsSync = Unit {0}
 IsInside (EndsSync done seen next) = Unit {0}
@@ -48,6 +50,7 @@ AllInside (event ∷ events) = IsInside event × AllInside events
 abbrev pub KeepsMemory : Event → Type 0
 KeepsMemory (Accepts piece) = Unit {0}
 KeepsMemory (BeginsStore closing) = Unit {0}
+KeepsMemory (BeginsGrowth to) = Unit {0}
 KeepsMemory (EndsStore done seen next) = Unit {0}
 KeepsMemory BeginsSync = Unit {0}
 KeepsMemory (EndsSync done seen next) = done ≡ true
@@ -146,6 +149,13 @@ begins_store stage closing growth w =
       disk = store_started w.text (store_asked_at stage closing growth w.store) w.disk;
     }
 
+abbrev pub begins_growth : Stage → ℕ → World → World
+begins_growth stage to w =
+    record w {
+      store = growth_begun_at stage to w.store;
+      disk = store_started w.text (growth_asked_at stage to w.store) w.disk;
+    }
+
 abbrev pub ends_store : Stage → Bool → List ℕ → List ℕ → World → World
 ends_store stage done seen next w =
     record w {
@@ -187,6 +197,7 @@ module _ (whole front : List ℕ → Bool) (limit growth : ℕ) where
   abbrev pub after : World → Event → World
   after w (Accepts piece) = accepts_at (is_open w.store.stage) piece w
   after w (BeginsStore closing) = begins_store w.store.stage closing growth w
+  after w (BeginsGrowth to) = begins_growth w.store.stage to w
   after w (EndsStore done seen next) = ends_store w.store.stage done seen next w
   after w BeginsSync = begins_sync w.store.stage w
   after w (EndsSync done seen next) = ends_sync w.store.stage done seen next w
@@ -208,6 +219,7 @@ module _ (whole front : List ℕ → Bool) (limit growth : ℕ) where
   MayHappen w (Accepts piece) =
       IsPrinted piece × (whole (w.text ++ piece) ≡ true) × (w.store.accepted + length piece ≤ w.store.synced + limit)
   MayHappen w (BeginsStore closing) = Unit {0}
+  MayHappen w (BeginsGrowth to) = Unit {0}
   MayHappen w (EndsStore done seen next) =
       MayEnd w.text (storing_of w.store) done w.disk.seen seen × MayEnd w.text (storing_of w.store) done w.disk.next next
   MayHappen w BeginsSync = Unit {0}

@@ -3,7 +3,7 @@ ghost use Rattle.std.specs.Prelude.{◌≡◌, ◌⊎◌, ◌≤◌, ◌<◌, �
 ghost use Rattle.cml_store.specs.declared.stage.Stage.TheVariants.{Open};
 ghost use Rattle.cml_store.specs.declared.step.Step.TheVariants.{Sync};
 ghost use Rattle.cml_store.specs.declared.step.Unaccepted.TheVariants.{Closed, Full, NoRoom};
-ghost use Rattle.cml_store.specs.Machine.{opened_at, refused, is_open, accepted_by, storing_begun, store_asked, work_ended, storing_ended, syncing_begun, sync_asked, syncing_ended};
+ghost use Rattle.cml_store.specs.Machine.{opened_at, refused, is_open, accepted_by, storing_begun, store_asked, growth_begun, growth_asked, work_ended, storing_ended, syncing_begun, sync_asked, syncing_ended};
 
 use crate::stage::{Stage, Work};
 use crate::step::{Step, Unaccepted};
@@ -166,6 +166,22 @@ impl Store {
         Step::Nothing
     }
 
+    /// Begins to grow an open file to this length, if it is shorter and no step on its bytes is under way. So there is room before
+    /// bytes are accepted, as whoever stores into mapped memory needs it.
+    pub fn begin_growth(&mut self, to: u64) -> Step
+        ensures state { self.new ≡ growth_begun to self.old }
+        ensures step { result ≡ growth_asked to self.old }
+    {
+        if !matches!(self.stage, Stage::Open) || !matches!(self.work, Work::Idle) {
+            return Step::Nothing;
+        }
+        if self.grown >= to || self.accepted > to {
+            return Step::Nothing;
+        }
+        self.work = Work::Growing(to);
+        Step::Grow(to)
+    }
+
     /// Ends the step on the file's bytes. A store that was cut short is not done: it begins again at the same place.
     pub fn end_store(&mut self, done: bool)
         ensures { self.new ≡ storing_ended done self.old }
@@ -266,6 +282,13 @@ impl Store {
         matches!(self.stage, Stage::Open)
             && self.syncing.is_none()
             && self.stored.saturating_sub(self.synced) >= LIMIT / 2
+    }
+
+    /// Returns how long the file is at least, once it is open.
+    pub fn grown(&self) -> u64
+        ensures { result ≡ self.now.grown }
+    {
+        self.grown
     }
 
     /// Returns how many bytes were accepted.

@@ -3,7 +3,7 @@ use Rattle.cml_store.specs.declared.stage.Stage.TheVariants.{Lost}
 use Rattle.cml_store.specs.declared.step.Step.TheVariants.{Nothing}
 use Rattle.cml_store.specs.Disk.{MayEnd}
 use Rattle.cml_store.specs.Machine.{is_open, rests, storing_at, storing_of, syncing_at}
-use Rattle.cml_store.specs.World.{World, Event, Accepts, BeginsStore, EndsStore, BeginsSync, EndsSync, Forgets, IsKilled, LosesPower, IsInside, AllInside, store_started, sync_started, MaySync, accepts_at, begins_store, begins_sync, after, MayHappen, run, MayRun}
+use Rattle.cml_store.specs.World.{World, Event, Accepts, BeginsStore, BeginsGrowth, EndsStore, BeginsSync, EndsSync, Forgets, IsKilled, LosesPower, IsInside, AllInside, store_started, sync_started, MaySync, accepts_at, begins_store, begins_growth, begins_sync, after, MayHappen, run, MayRun}
 use Rattle.cml_store.proofs.laws.refused_is_untouched.Goals as goal
 
 both : (b : Bool) → cond b Nothing Nothing ≡ Nothing
@@ -17,6 +17,10 @@ module _ (whole front : List ℕ → Bool) (limit growth : ℕ) where
   same w (Accepts piece) e none inside may = ap (λ z. accepts_at (is_open z) piece w) e
   same w (BeginsStore closing) e none inside may =
       ap (λ z. begins_store z closing growth w) e
+      ∙ ap (λ step. record w { disk = store_started w.text (cond (rests (storing_at Lost w.store)) step Nothing) w.disk }) none
+      ∙ ap (λ step. record w { disk = store_started w.text step w.disk }) (both (rests (storing_at Lost w.store)))
+  same w (BeginsGrowth to) e none inside may =
+      ap (λ z. begins_growth z to w) e
       ∙ ap (λ step. record w { disk = store_started w.text (cond (rests (storing_at Lost w.store)) step Nothing) w.disk }) none
       ∙ ap (λ step. record w { disk = store_started w.text step w.disk }) (both (rests (storing_at Lost w.store)))
   same w (EndsStore done seen next) e none inside may =

@@ -1,0 +1,299 @@
+/* How many messages a second are kept: `kept WAY THREADS SECONDS PLACE`. Each thread sends a message of 64 bytes to a queue of its
+ * own and receives it, each call answered before the next. PLACE is a file that isn't there, or the port of a Redis server.
+ *
+ * Ways: memory and file (this library, without and with a journal in a file), sqlite (a connection for each thread), sqlite_batched
+ * (a thread that writes for all), redis, redis_pipelined (16 sends, and then 16 receives, at a time). */
+#include <hiredis/hiredis.h>
+#include <seryugo_switchboard.h>
+#include <sqlite3.h>
+#include <stdatomic.h>
+#include <stdio.h>
+#include <stdlib.h>
+#include <string.h>
+#include <unistd.h>
+
+#define LENGTH 64
+#define AT_ONCE 16
+
+static char message[LENGTH];
+static atomic_bool is_over;
+static const char *place;
+
+static void need(bool is_so, const char *what)
+{
+    if (!is_so) {
+        fprintf(stderr, "kept: %s\n", what);
+        exit(1);
+    }
+}
+
+/* ---- this library ---- */
+
+static struct seryugo_switchboard board;
+
+static void open_board(bool has_file)
+{
+    uint32_t code = has_file ? seryugo_switchboard_open_file(place, SERYUGO_BYTES, NULL, NULL, &board)
+                             : seryugo_bytes_switchboard_open(65536, &board);
+
+    need(code == SERYUGO_DONE, "open the switchboard");
+    need(has_file || seryugo_switchboard_when_full(&board, NULL, NULL) == SERYUGO_DONE, "drop the journal");
+}
+
+static void open_memory(void) { open_board(false); }
+
+static void open_file(void) { open_board(true); }
+
+static uint64_t pass_board(uint64_t thread)
+{
+    struct seryugo_seat seat;
+    struct seryugo_bytes got;
+    uint64_t mailbox, passed = 0;
+
+    (void)thread;
+    need(seryugo_seat_open(&board, &seat) == SERYUGO_DONE && seryugo_seat_new_mailbox(&seat, &mailbox) == SERYUGO_DONE, "a mailbox");
+    while (!is_over) {
+        need(seryugo_seat_bytes_send(&seat, mailbox, message, LENGTH) == SERYUGO_DONE, "send");
+        need(seryugo_seat_bytes_recv(&seat, mailbox, NULL, &got) == SERYUGO_DONE, "receive");
+        seryugo_bytes_free(got);
+        passed++;
+    }
+    seryugo_seat_leave(&seat);
+    return passed;
+}
+
+/* ---- SQLite ---- */
+
+static sqlite3 *open_sqlite(void)
+{
+    sqlite3 *base = NULL;
+
+    need(sqlite3_open(place, &base) == SQLITE_OK, "open the base");
+    sqlite3_busy_timeout(base, 60000);
+    need(sqlite3_exec(base, "PRAGMA journal_mode=WAL; PRAGMA synchronous=NORMAL;"
+                            "CREATE TABLE IF NOT EXISTS letters (number INTEGER PRIMARY KEY, queue INTEGER, message BLOB);"
+                            "CREATE INDEX IF NOT EXISTS queues ON letters (queue, number);", NULL, NULL, NULL) == SQLITE_OK, "prepare the base");
+    return base;
+}
+
+static sqlite3_stmt *prepared(sqlite3 *base, const char *words)
+{
+    sqlite3_stmt *statement = NULL;
+
+    need(sqlite3_prepare_v2(base, words, -1, &statement, NULL) == SQLITE_OK, words);
+    return statement;
+}
+
+/* What a thread does to the base: a send, and a receive. */
+struct queue {
+    sqlite3 *base;
+    sqlite3_stmt *send;
+    sqlite3_stmt *receive;
+};
+
+static void make_base(void) { sqlite3_close(open_sqlite()); }
+
+static struct queue open_queue(void)
+{
+    struct queue queue = {open_sqlite(), NULL, NULL};
+
+    queue.send = prepared(queue.base, "INSERT INTO letters (queue, message) VALUES (?1, ?2)");
+    queue.receive = prepared(queue.base, "DELETE FROM letters WHERE number = (SELECT min(number) FROM letters WHERE queue = ?1)"
+                                         " RETURNING message");
+    return queue;
+}
+
+static void send_sqlite(struct queue *queue, uint64_t thread)
+{
+    sqlite3_bind_int64(queue->send, 1, (sqlite3_int64)thread);
+    sqlite3_bind_blob(queue->send, 2, message, LENGTH, SQLITE_STATIC);
+    need(sqlite3_step(queue->send) == SQLITE_DONE, "send");
+    sqlite3_reset(queue->send);
+}
+
+static void receive_sqlite(struct queue *queue, uint64_t thread)
+{
+    sqlite3_bind_int64(queue->receive, 1, (sqlite3_int64)thread);
+    need(sqlite3_step(queue->receive) == SQLITE_ROW && sqlite3_column_bytes(queue->receive, 0) == LENGTH, "receive");
+    need(sqlite3_step(queue->receive) == SQLITE_DONE, "receive");
+    sqlite3_reset(queue->receive);
+}
+
+static void close_queue(struct queue *queue)
+{
+    sqlite3_finalize(queue->send);
+    sqlite3_finalize(queue->receive);
+    sqlite3_close(queue->base);
+}
+
+static uint64_t pass_sqlite(uint64_t thread)
+{
+    struct queue queue = open_queue();
+    uint64_t passed = 0;
+
+    for (; !is_over; passed++) {
+        send_sqlite(&queue, thread);
+        receive_sqlite(&queue, thread);
+    }
+    close_queue(&queue);
+    return passed;
+}
+
+/* One thread writes what the others ask for, all that waits in one transaction. A thread waits for its own. */
+static pthread_mutex_t asked_lock = PTHREAD_MUTEX_INITIALIZER;
+static pthread_cond_t is_asked = PTHREAD_COND_INITIALIZER, is_done = PTHREAD_COND_INITIALIZER;
+static struct {
+    uint64_t thread;
+    bool is_send;
+} asked[1024];
+static uint64_t asked_count, done_count, taken_count;
+
+static void ask(uint64_t thread, bool is_send)
+{
+    uint64_t mine;
+
+    pthread_mutex_lock(&asked_lock);
+    mine = asked_count++;
+    asked[mine % 1024].thread = thread;
+    asked[mine % 1024].is_send = is_send;
+    pthread_cond_signal(&is_asked);
+    while (done_count <= mine) {
+        pthread_cond_wait(&is_done, &asked_lock);
+    }
+    pthread_mutex_unlock(&asked_lock);
+}
+
+static void *write_all(void *unused)
+{
+    struct queue queue = open_queue();
+
+    (void)unused;
+    pthread_mutex_lock(&asked_lock);
+    for (;;) {
+        uint64_t end;
+
+        while (asked_count == taken_count) {
+            pthread_cond_wait(&is_asked, &asked_lock);
+        }
+        end = asked_count;
+        pthread_mutex_unlock(&asked_lock);
+        sqlite3_exec(queue.base, "BEGIN IMMEDIATE", NULL, NULL, NULL);
+        for (; taken_count < end; taken_count++) {
+            (asked[taken_count % 1024].is_send ? send_sqlite : receive_sqlite)(&queue, asked[taken_count % 1024].thread);
+        }
+        need(sqlite3_exec(queue.base, "COMMIT", NULL, NULL, NULL) == SQLITE_OK, "commit");
+        pthread_mutex_lock(&asked_lock);
+        done_count = end;
+        pthread_cond_broadcast(&is_done);
+    }
+    return NULL;
+}
+
+static void open_writer(void)
+{
+    pthread_t writer;
+
+    need(pthread_create(&writer, NULL, write_all, NULL) == 0, "start the writer");
+}
+
+static uint64_t pass_batched(uint64_t thread)
+{
+    uint64_t passed = 0;
+
+    for (; !is_over; passed++) {
+        ask(thread, true);
+        ask(thread, false);
+    }
+    return passed;
+}
+
+/* ---- Redis Streams ---- */
+
+static void open_none(void) {}
+
+static void answered(redisContext *redis, const char *what)
+{
+    redisReply *reply = NULL;
+
+    need(redisGetReply(redis, (void **)&reply) == REDIS_OK && reply->type != REDIS_REPLY_ERROR && reply->type != REDIS_REPLY_NIL, what);
+    freeReplyObject(reply);
+}
+
+static uint64_t pass_redis_by(uint64_t thread, int at_once)
+{
+    redisContext *redis = redisConnect("127.0.0.1", atoi(place));
+    uint64_t passed = 0;
+
+    need(redis != NULL && redis->err == 0, "connect");
+    freeReplyObject(redisCommand(redis, "XGROUP CREATE q%llu readers $ MKSTREAM", (unsigned long long)thread));
+    for (; !is_over; passed += (uint64_t)at_once) {
+        for (int i = 0; i < at_once; i++) {
+            redisAppendCommand(redis, "XADD q%llu * m %b", (unsigned long long)thread, message, (size_t)LENGTH);
+        }
+        for (int i = 0; i < at_once; i++) {
+            answered(redis, "send");
+        }
+        for (int i = 0; i < at_once; i++) {
+            redisAppendCommand(redis, "XREADGROUP GROUP readers %llu COUNT 1 NOACK STREAMS q%llu >", (unsigned long long)thread,
+                               (unsigned long long)thread);
+        }
+        for (int i = 0; i < at_once; i++) {
+            answered(redis, "receive");
+        }
+    }
+    redisFree(redis);
+    return passed;
+}
+
+static uint64_t pass_redis(uint64_t thread) { return pass_redis_by(thread, 1); }
+
+static uint64_t pass_pipelined(uint64_t thread) { return pass_redis_by(thread, AT_ONCE); }
+
+/* ---- all ---- */
+
+static const struct way {
+    const char *name;
+    void (*open)(void);
+    uint64_t (*pass)(uint64_t thread);
+} ways[] = {
+    {"memory", open_memory, pass_board},       {"file", open_file, pass_board},
+    {"sqlite", make_base, pass_sqlite},     {"sqlite_batched", open_writer, pass_batched},
+    {"redis", open_none, pass_redis},          {"redis_pipelined", open_none, pass_pipelined},
+};
+
+static const struct way *way;
+
+static void *pass(void *thread)
+{
+    uint64_t *passed = (uint64_t *)thread;
+
+    *passed = way->pass(*passed);
+    return NULL;
+}
+
+int main(int count, char **words)
+{
+    pthread_t threads[64];
+    uint64_t passed[64], sum = 0;
+    int many = count == 5 ? atoi(words[2]) : 0, seconds = count == 5 ? atoi(words[3]) : 0;
+
+    for (size_t i = 0; count == 5 && i < sizeof ways / sizeof *ways; i++) {
+        way = strcmp(words[1], ways[i].name) == 0 ? &ways[i] : way;
+    }
+    need(way != NULL && many >= 1 && many <= 64 && seconds >= 1, "usage: kept WAY THREADS SECONDS PLACE");
+    place = words[4];
+    memset(message, 'm', LENGTH);
+    way->open();
+    for (int i = 0; i < many; i++) {
+        passed[i] = (uint64_t)i;
+        need(pthread_create(&threads[i], NULL, pass, &passed[i]) == 0, "start a thread");
+    }
+    sleep((unsigned)seconds);
+    is_over = true;
+    for (int i = 0; i < many; i++) {
+        pthread_join(threads[i], NULL);
+        sum += passed[i];
+    }
+    printf("%llu\n", (unsigned long long)(sum / (uint64_t)seconds));
+    return 0;
+}
