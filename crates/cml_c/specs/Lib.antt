@@ -23,6 +23,7 @@ pub mod Texts
 pub mod SealedTexts
 pub mod ReadJournals
 pub mod Restoring
+pub mod Stores
 pub mod Compacting
 -- the names that others import from here
 pub use Version.{number_of_version}
@@ -57,6 +58,8 @@ pub use Texts.{HandsJournal, HandsText, IsUnwritten}
 pub use ReadJournals.{EndsSo, IsReadTo, IsTold, OpensBytes, OpensNumbers, OpensReadingOf, TakesPart, Tells, TellsState, TellsThis}
 pub use ReadJournals.{bytes_kept, entries_read, lines_read, told_halt, told_so_far, told_unended}
 pub use Restoring.{IsRoomOn, OpensOn, Restores, RestoresBy, RestoresKept, left_halted, left_stopped, told_stopped}
+pub use Stores.{AcceptsBytes, AcceptsIn, Asks, AsksIn, AsksOn, EndsIn, EndsOn, OpensStore, TellsMark, TellsMarkIn, TellsMarkOn}
+pub use Stores.{mark_of, marks, shown_step, stage_number, works}
 pub use Compacting.{CompactsNone, CompactsRoom, CutsShortRoom, IsNotShort, IsShortOf, LeavesShort, MakesShort, Shortens, ShortensBy, ShortensKept}
 pub use Compacting.{ShowsSameRoom, WritesShort, WritesTaken}
 pub use declared.handle.Slot.{Slot}

@@ -35,6 +35,7 @@ mod room_compacting;
 mod rooms;
 mod sealed_texts;
 mod sending;
+mod stores;
 mod telling;
 mod texts;
 mod version;

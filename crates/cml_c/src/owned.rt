@@ -11,6 +11,7 @@ use cml_journal::Check;
 use cml_lanes::{Feed, Lane, LaneEnd};
 use cml_log::ChunkLog;
 use cml_room::Room;
+use cml_store::Store;
 
 /// The messages of a mailbox or a channel. A chunk of sixteen is allocated and freed four times less often than one of `BoardLog`.
 pub type LogOf<M> = ChunkLog<M, 16>;
@@ -54,6 +55,8 @@ pub enum Resource<M: Message> {
     JournalCheck(Box<CheckOf<M>>),
     /// An entry that C has, with its messages.
     Entry(Box<Entry<M>>),
+    /// The machine of a journal's file.
+    Store(Box<Store>),
     /// Nothing: a lane that was closed, or a reading that was restored.
     Spent,
 }
