@@ -87,7 +87,6 @@ static void lose(struct seryugo_file *file, const char *words, int error)
 {
     if (!atomic_load(&file->is_lost)) {
         tell(file, words, error);
-        seryugo_store_end(&file->store, SERYUGO_STEP_SYNC, false, 0);
         atomic_store(&file->is_lost, true);
     }
     pthread_cond_broadcast(&file->done);
@@ -118,11 +117,51 @@ static bool has_line_end(const struct seryugo_file *file, uint64_t synced)
     return seryugo_read_at(file->descriptor, &last, 1, synced - 1, &length) == 0 && length == 1 && last == '\n';
 }
 
+/* ---- the machine ---- */
+
+uint64_t seryugo_mark_of(struct seryugo *store, uint32_t mark)
+{
+    uint64_t place = 0;
+
+    (void)seryugo_store_mark(store, mark, &place);
+    return place;
+}
+
+/* Calls have stored lines under the room's lock since the machine was last asked: it accepts them, and hears that they are stored.
+ * While the file grows, it hears that later. Needs the lock. */
+static void catch_up(struct seryugo_file *file)
+{
+    uint64_t told = atomic_load_explicit(&file->told, memory_order_acquire);
+    uint64_t accepted = seryugo_mark_of(&file->store, SERYUGO_MARK_ACCEPTED);
+    struct seryugo_step step = {SERYUGO_STEP_NOTHING, 0, 0};
+
+    if (told > accepted && seryugo_store_accept(&file->store, told - accepted) != SERYUGO_DONE) {
+        lose(file, "more is stored than may be unsynced", 0);
+        return;
+    }
+    (void)seryugo_store_begin(&file->store, SERYUGO_WORK_BYTES, 0, &step);
+    if (step.kind != SERYUGO_STEP_NOTHING) {
+        (void)seryugo_store_end(&file->store, false, step.kind == SERYUGO_STEP_STORE);
+    }
+}
+
+/* Begins a step, if the file isn't lost. Needs the lock. */
+static struct seryugo_step begin_step(struct seryugo_file *file, uint32_t work, uint64_t to)
+{
+    struct seryugo_step step = {SERYUGO_STEP_NOTHING, 0, 0};
+
+    catch_up(file);
+    if (!atomic_load(&file->is_lost)) {
+        (void)seryugo_store_begin(&file->store, work, to, &step);
+    }
+    return step;
+}
+
 /* ---- growing ---- */
 
 static uint64_t to_page(uint64_t at) { return (at + SERYUGO_PAGE - 1) / SERYUGO_PAGE * SERYUGO_PAGE; }
 
-static int allocate(int descriptor, uint64_t from, uint64_t to)
+int seryugo_allocate(int descriptor, uint64_t from, uint64_t to)
 {
     int error;
 
@@ -135,8 +174,7 @@ static int allocate(int descriptor, uint64_t from, uint64_t to)
     return error;
 }
 
-/* Gives the file room, a segment or only what is needed. */
-static int give_room(struct seryugo_file *file, struct seryugo_step *step, uint64_t need)
+static int give_room(struct seryugo_file *file, uint64_t from, uint64_t to)
 {
     int error;
 
@@ -144,31 +182,16 @@ static int give_room(struct seryugo_file *file, struct seryugo_step *step, uint6
         seryugo_file_lose(file, "the file was cut by others", 0);
         return EIO;
     }
-    error = allocate(file->descriptor, step->from, step->to);
-    if (error != 0 && to_page(need) < step->to) {
-        step->to = to_page(need);
-        error = allocate(file->descriptor, step->from, step->to);
-    }
+    error = seryugo_allocate(file->descriptor, from, to);
     /* Where room can't be had ahead, pwrite(2) makes it. */
     return !file->is_mapped && (error == EOPNOTSUPP || error == ENOSYS) ? 0 : error;
 }
 
-static bool begin_growing(struct seryugo_file *file, uint64_t need, struct seryugo_step *step)
-{
-    bool grows;
-
-    pthread_mutex_lock(&file->lock);
-    grows = file->store.grown < need
-            && seryugo_store_begin(&file->store, SERYUGO_STEP_GROW, to_page(file->store.grown + file->segment), step);
-    pthread_mutex_unlock(&file->lock);
-    return grows;
-}
-
-static void end_growing(struct seryugo_file *file, const struct seryugo_step *step, int error)
+static void end_growing(struct seryugo_file *file, int error)
 {
     pthread_mutex_lock(&file->lock);
-    seryugo_store_end(&file->store, SERYUGO_STEP_GROW, error == 0, step->to);
-    atomic_store(&file->grown, file->store.grown);
+    (void)seryugo_store_end(&file->store, false, error == 0);
+    atomic_store(&file->grown, seryugo_mark_of(&file->store, SERYUGO_MARK_GROWN));
     if (!atomic_load(&file->is_lost)) {
         file->words[0] = 0;
         file->error = 0;
@@ -179,18 +202,53 @@ static void end_growing(struct seryugo_file *file, const struct seryugo_step *st
     pthread_mutex_unlock(&file->lock);
 }
 
-/* Two who grow would each take the other's room for free, so one does at a time. */
+static int grow_to(struct seryugo_file *file, uint64_t from, uint64_t to)
+{
+    struct seryugo_step step;
+    int error;
+
+    pthread_mutex_lock(&file->lock);
+    step = begin_step(file, SERYUGO_WORK_ROOM, to);
+    pthread_mutex_unlock(&file->lock);
+    if (step.kind != SERYUGO_STEP_GROW) {
+        return EIO;
+    }
+    error = give_room(file, from, step.to);
+    end_growing(file, error);
+    return error;
+}
+
+/* By a segment, or only by what is needed. Two who grow would each take the other's room for free, so one does at a time. */
 int seryugo_file_grow(struct seryugo_file *file, uint64_t need)
+{
+    uint64_t grown;
+    int error = 0;
+
+    pthread_mutex_lock(&file->growing);
+    while (error == 0 && !atomic_load(&file->is_lost) && (grown = atomic_load(&file->grown)) < need) {
+        uint64_t wanted = to_page(grown + file->segment);
+
+        error = grow_to(file, grown, wanted);
+        if (error != 0 && to_page(need) < wanted) {
+            error = grow_to(file, grown, to_page(need));
+        }
+    }
+    pthread_mutex_unlock(&file->growing);
+    return error;
+}
+
+int seryugo_file_cut_zeros(struct seryugo_file *file)
 {
     struct seryugo_step step;
     int error = 0;
 
-    pthread_mutex_lock(&file->growing);
-    while (error == 0 && begin_growing(file, need, &step)) {
-        error = give_room(file, &step, need);
-        end_growing(file, &step, error);
+    pthread_mutex_lock(&file->lock);
+    step = begin_step(file, SERYUGO_WORK_CLOSING, 0);
+    if (step.kind == SERYUGO_STEP_CUT) {
+        error = ftruncate(file->descriptor, (off_t)step.to) == 0 && fsync(file->descriptor) == 0 ? 0 : errno;
+        (void)seryugo_store_end(&file->store, false, error == 0);
     }
-    pthread_mutex_unlock(&file->growing);
+    pthread_mutex_unlock(&file->lock);
     return error;
 }
 
@@ -254,42 +312,31 @@ uint32_t seryugo_file_move_view(struct seryugo_file *file)
 
 /* ---- syncing ---- */
 
-/* The machine learns how far the writer came, and says what a sync covers. */
-static bool begin_sync(struct seryugo_file *file, struct seryugo_step *step)
-{
-    struct seryugo_step stored;
-    bool syncs;
-
-    pthread_mutex_lock(&file->lock);
-    if (seryugo_store_begin(&file->store, SERYUGO_STEP_STORE, 0, &stored)) {
-        seryugo_store_end(&file->store, SERYUGO_STEP_STORE, true, atomic_load_explicit(&file->told, memory_order_acquire));
-    }
-    syncs = seryugo_store_begin(&file->store, SERYUGO_STEP_SYNC, 0, step);
-    pthread_mutex_unlock(&file->lock);
-    return syncs;
-}
-
 /* A sync that fails is never made again: the system may have forgotten what it couldn't write. An interrupted one counts as
  * failed. */
 static void sync_once(struct seryugo_file *file)
 {
     struct seryugo_step step;
+    uint64_t synced;
     int error;
 
-    if (!begin_sync(file, &step)) {
+    pthread_mutex_lock(&file->lock);
+    step = begin_step(file, SERYUGO_WORK_SYNC, 0);
+    synced = seryugo_mark_of(&file->store, SERYUGO_MARK_SYNCED);
+    pthread_mutex_unlock(&file->lock);
+    if (step.kind != SERYUGO_STEP_SYNC) {
         return;
     }
     error = fdatasync(file->descriptor) == 0 ? 0 : errno;
     pthread_mutex_lock(&file->lock);
     if (error != 0) {
         lose(file, "fdatasync", error);
-    } else if (!is_whole(file) || !has_line_end(file, step.from)) {
+    } else if (!is_whole(file) || !has_line_end(file, synced)) {
         lose(file, "the file was cut by others", 0);
-    } else {
-        seryugo_store_end(&file->store, SERYUGO_STEP_SYNC, true, step.to);
-        atomic_store(&file->synced, file->store.synced);
-        pthread_cond_broadcast(&file->done);
     }
+    (void)seryugo_store_end(&file->store, true, !atomic_load(&file->is_lost));
+    atomic_store(&file->synced, seryugo_mark_of(&file->store, SERYUGO_MARK_SYNCED));
+    pthread_cond_broadcast(&file->done);
     pthread_mutex_unlock(&file->lock);
 }
 
@@ -306,7 +353,7 @@ uint32_t seryugo_file_wait(struct seryugo_file *file, uint64_t position)
     uint32_t code;
 
     pthread_mutex_lock(&file->lock);
-    while (file->store.synced < position && !atomic_load(&file->is_lost)) {
+    while (atomic_load(&file->synced) < position && !atomic_load(&file->is_lost)) {
         file->wanted_sync = position > file->wanted_sync ? position : file->wanted_sync;
         file->is_asked = true;
         pthread_cond_signal(&file->work);

@@ -122,6 +122,9 @@ void seryugo_file_free(struct seryugo_file *file)
     if (file->alive != NULL) {
         munmap((void *)(uintptr_t)file->alive, SERYUGO_PAGE);
     }
+    if (file->store.at != NULL) {
+        seryugo_close(file->store);
+    }
     free(file->lines);
     free(file);
 }
@@ -153,7 +156,7 @@ static uint32_t make_room(struct seryugo_file *file)
     }
     file->bound = least(atomic_load(&file->grown), atomic_load(&file->synced) + SERYUGO_UNSYNCED_MOST);
     file->bound = file->is_mapped ? least(file->bound, file->view.end) : file->bound;
-    return code == SERYUGO_DONE ? seryugo_file_state(file) : code;
+    return seryugo_file_state(file) == SERYUGO_DONE ? code : seryugo_file_state(file);
 }
 
 /* A thread that is cancelled here would leave the locks locked. */
@@ -291,14 +294,10 @@ uint32_t seryugo_file_sync(struct seryugo_file *file)
 /* Syncs, and cuts off the zeros behind the text: they say nothing. A file that is lost stays as it is. */
 static uint32_t finish(struct seryugo_file *file)
 {
-    uint64_t end = atomic_load(&file->told);
-    uint32_t code = seryugo_file_wait(file, end);
+    uint32_t code = seryugo_file_wait(file, atomic_load(&file->told));
 
     seryugo_file_stop_helper(file);
-    if (code == SERYUGO_DONE && (ftruncate(file->descriptor, (off_t)end) != 0 || fsync(file->descriptor) != 0)) {
-        code = SERYUGO_FILE_LOST;
-    }
-    return code;
+    return code == SERYUGO_DONE && seryugo_file_cut_zeros(file) != 0 ? (uint32_t)SERYUGO_FILE_LOST : code;
 }
 
 uint32_t seryugo_file_close(struct seryugo_file *file)

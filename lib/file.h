@@ -7,34 +7,31 @@
 #include <pthread.h>
 #include <stdatomic.h>
 
-/* ---- the rule: store.c ---- */
+/* ---- the rule ---- */
 
-/* The rule of a journal's file as a machine of numbers. It makes no call of the system: a driver asks it for a step, does the
- * step, and says how it went. All places are bytes from the file's beginning. */
+/* The rule of a journal's file is a machine of numbers, proved in the crate cml_store. It makes no call of the system: a driver asks
+ * it for a step, does the step, and says how it went. All places are bytes from the file's beginning. A handle leads to it. */
 
-/* How many bytes are unsynced at most. So many are written again when a file is opened, because a sync that failed for an
- * earlier process may have left them in memory alone. */
+/* How many bytes are accepted and not synced at most. So many are written again when a file is opened, because a sync that failed
+ * for an earlier process may have left them in memory alone. */
 #define SERYUGO_UNSYNCED_MOST ((uint64_t)64 << 20)
 
-/* What the file is about to go through. The first four are an opening's, in this order. */
-enum seryugo_stage {
-    SERYUGO_STAGE_UNCUT = 0,
-    SERYUGO_STAGE_UNSTORED = 1,
-    SERYUGO_STAGE_UNSYNCED = 2,
-    SERYUGO_STAGE_UNNAMED = 3,
-    SERYUGO_STAGE_OPEN = 4,
-    SERYUGO_STAGE_LOST = 5
+enum seryugo_work {
+    /* What was accepted is to be stored; the same, and the zeros at the end are cut off; room up to a place; a sync. */
+    SERYUGO_WORK_BYTES = 0,
+    SERYUGO_WORK_CLOSING = 1,
+    SERYUGO_WORK_ROOM = 2,
+    SERYUGO_WORK_SYNC = 3
 };
 
 enum seryugo_step_kind {
     SERYUGO_STEP_NOTHING = 0,
-    /* Cut the file to `from` bytes. */
+    /* Cut the file to `to` bytes. */
     SERYUGO_STEP_CUT = 1,
-    /* Give the file room on the disk from `from` to `to`, whose bytes read as 0. */
+    /* Give the file room up to `to`. The new bytes read as 0. */
     SERYUGO_STEP_GROW = 2,
-    /* Store the text from `from` on. It may reach to `to`. */
+    /* Store the text from `from` up to `to`. */
     SERYUGO_STEP_STORE = 3,
-    /* Sync the file. What is before `to` counts as synced if that goes well. */
     SERYUGO_STEP_SYNC = 4,
     SERYUGO_STEP_SYNC_FOLDER = 5
 };
@@ -45,28 +42,29 @@ struct seryugo_step {
     uint64_t to;
 };
 
-/* Bytes of text that calls were answered by; that are in the file for other processes; that are on the disk; and that the file
- * has room for. Then how far the steps under way reach, Store and Sync. */
-struct seryugo_store {
-    uint64_t accepted;
-    uint64_t stored;
-    uint64_t synced;
-    uint64_t grown;
-    uint64_t storing;
-    uint64_t syncing;
-    uint32_t stage;
+enum seryugo_mark {
+    SERYUGO_MARK_ACCEPTED = 0,
+    SERYUGO_MARK_STORED = 1,
+    SERYUGO_MARK_SYNCED = 2,
+    SERYUGO_MARK_GROWN = 3,
+    /* 1 if the file is open, 2 if it has failed for good, and else 0. */
+    SERYUGO_MARK_STAGE = 4
 };
 
-/* Begins to open a file of `length` bytes of which the first `kept` are kept, and `more` bytes follow these. */
-void seryugo_store_open(struct seryugo_store *store, uint64_t length, uint64_t kept, uint64_t more);
+/* Opens the machine of a file of `size` bytes, of which the first `kept` are kept. SERYUGO_NO_MEMORY, SERYUGO_OUT_OF_BOUNDS. */
+uint32_t seryugo_store_open(uint64_t kept, uint64_t size, struct seryugo *store);
 
-/* Returns true and writes a step of this kind, which begins with that. An opening takes any kind, and writes its next step.
- * Only a Grow reads `to`. */
-bool seryugo_store_begin(struct seryugo_store *store, uint32_t kind, uint64_t to, struct seryugo_step *step);
+/* Accepts as many bytes more. SERYUGO_GONE: the file isn't open. SERYUGO_FULL: too many aren't synced. SERYUGO_TOO_LONG. */
+uint32_t seryugo_store_accept(struct seryugo *store, uint64_t bytes);
 
-/* Ends a step of this kind. A Store that is done says how far it came: it may end more than once, and reaches further each
- * time. */
-void seryugo_store_end(struct seryugo_store *store, uint32_t kind, bool is_done, uint64_t to);
+/* Begins the next step of this work, and writes it. Only SERYUGO_WORK_ROOM reads `to`. */
+uint32_t seryugo_store_begin(struct seryugo *store, uint32_t work, uint64_t to, struct seryugo_step *step);
+
+/* Ends the sync that is under way, or the step on the bytes. */
+uint32_t seryugo_store_end(struct seryugo *store, bool is_sync, bool is_done);
+
+/* Writes a mark. */
+uint32_t seryugo_store_mark(struct seryugo *store, uint32_t mark, uint64_t *place);
 
 /* ---- the file ---- */
 
@@ -120,7 +118,7 @@ struct seryugo_file {
     pthread_mutex_t growing;
     pthread_cond_t work;
     pthread_cond_t done;
-    struct seryugo_store store;
+    struct seryugo store;
     struct seryugo_view old[SERYUGO_OLD_VIEWS];
     size_t old_count;
     uint64_t wanted_sync;
@@ -150,6 +148,11 @@ SERYUGO_HIDDEN int seryugo_read_at(int descriptor, void *to, size_t size, uint64
 /* Whether RLIMIT_FSIZE lets a file reach so far. A call that goes beyond would end the program by SIGXFSZ. */
 SERYUGO_HIDDEN bool seryugo_may_reach(uint64_t end);
 
+/* Gives a file room from one place to another. Returns 0 or errno. */
+SERYUGO_HIDDEN int seryugo_allocate(int descriptor, uint64_t from, uint64_t to);
+
+SERYUGO_HIDDEN uint64_t seryugo_mark_of(struct seryugo *store, uint32_t mark);
+
 /* Marks the file as lost for good, with the first cause. */
 SERYUGO_HIDDEN void seryugo_file_lose(struct seryugo_file *file, const char *words, int error);
 
@@ -164,6 +167,9 @@ SERYUGO_HIDDEN void seryugo_file_ask(struct seryugo_file *file);
 
 /* Maps the part of the file in which the next line is stored. The one before is the helper's. */
 SERYUGO_HIDDEN uint32_t seryugo_file_move_view(struct seryugo_file *file);
+
+/* Once all is synced: cuts off the zeros behind the text. Returns 0 or errno. */
+SERYUGO_HIDDEN int seryugo_file_cut_zeros(struct seryugo_file *file);
 
 SERYUGO_HIDDEN int seryugo_file_start_helper(struct seryugo_file *file);
 SERYUGO_HIDDEN void seryugo_file_stop_helper(struct seryugo_file *file);

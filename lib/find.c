@@ -30,10 +30,12 @@ uint32_t seryugo_refuse(struct seryugo_opening *opening, uint32_t code, const ch
     return code;
 }
 
-static uint32_t fails(struct seryugo_opening *opening, const char *words)
+uint32_t seryugo_fail(struct seryugo_opening *opening, const char *words, int error)
 {
-    return seryugo_refuse(opening, SERYUGO_FILE_FAILED, words, errno);
+    return seryugo_refuse(opening, SERYUGO_FILE_FAILED, words, error);
 }
+
+static uint32_t fails(struct seryugo_opening *opening, const char *words) { return seryugo_fail(opening, words, errno); }
 
 const char *seryugo_header(uint32_t messages) { return messages == SERYUGO_NUMBERS ? "journal 1\n" : "journal 2\n"; }
 

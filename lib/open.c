@@ -1,5 +1,4 @@
-/* A journal's file, part 4: what is in it is read, judged, and gone on with. Nothing is written before the file is found to be
- * lawful. */
+/* A journal's file, part 4: what is in it is read and judged. Nothing is written before the file is found to be lawful. */
 #ifndef _GNU_SOURCE
 #define _GNU_SOURCE
 #endif
@@ -14,17 +13,11 @@
 #include <sys/vfs.h>
 #include <unistd.h>
 
-#define CHUNK ((size_t)256 << 10)
 #define HEADER_LENGTH 10
 #define DEFAULT_SEGMENT ((uint64_t)4 << 20)
 #define LIMIT_MOST ((uint64_t)1 << 32)
 #define EXT4_MAGIC 0xEF53
 #define XFS_MAGIC 0x58465342
-
-static uint32_t fails(struct seryugo_opening *opening, const char *words, int error)
-{
-    return seryugo_refuse(opening, SERYUGO_FILE_FAILED, words, error);
-}
 
 /* ---- reading ---- */
 
@@ -76,13 +69,13 @@ static uint32_t refuse_text(struct seryugo_opening *opening, uint32_t code)
 static uint32_t read_text(struct seryugo_opening *opening)
 {
     uint32_t code = SERYUGO_DONE;
-    size_t length = CHUNK, part = CHUNK;
+    size_t length = SERYUGO_CHUNK, part = SERYUGO_CHUNK;
 
-    while (part == CHUNK) {
-        int error = seryugo_read_at(opening->descriptor, opening->chunk, CHUNK, opening->text, &length);
+    while (part == SERYUGO_CHUNK) {
+        int error = seryugo_read_at(opening->descriptor, opening->chunk, SERYUGO_CHUNK, opening->text, &length);
 
         if (error != 0) {
-            return fails(opening, "read the file", error);
+            return seryugo_fail(opening, "read the file", error);
         }
         opening->chunk[length] = 0;
         part = strlen(opening->chunk);
@@ -102,10 +95,10 @@ static uint32_t find_end(struct seryugo_opening *opening, uint64_t *end)
 
     *end = opening->text;
     for (uint64_t at = opening->text; at < opening->length; at += length) {
-        int error = seryugo_read_at(opening->descriptor, opening->chunk, CHUNK, at, &length);
+        int error = seryugo_read_at(opening->descriptor, opening->chunk, SERYUGO_CHUNK, at, &length);
 
         if (error != 0 || length == 0) {
-            return fails(opening, "read the file", error == 0 ? EIO : error);
+            return seryugo_fail(opening, "read the file", error == 0 ? EIO : error);
         }
         for (size_t i = length; i > 0; i--) {
             if (opening->chunk[i - 1] != 0) {
@@ -157,7 +150,7 @@ static uint32_t prepare_more(struct seryugo_opening *opening)
 
     error = error == 0 ? last_line(opening, line, sizeof line) : error;
     if (error != 0) {
-        return fails(opening, "read the file", error);
+        return seryugo_fail(opening, "read the file", error);
     }
     if (found->kept == 0) {
         found->kept = header[HEADER_LENGTH - 1] == '\n' ? HEADER_LENGTH : 0;
@@ -178,7 +171,7 @@ static uint32_t prepare_more(struct seryugo_opening *opening)
 static int copy_to(struct seryugo_opening *opening, int other, uint64_t from, uint64_t end)
 {
     for (uint64_t at = from; at < end;) {
-        size_t length = 0, part = end - at < CHUNK ? (size_t)(end - at) : CHUNK;
+        size_t length = 0, part = end - at < SERYUGO_CHUNK ? (size_t)(end - at) : SERYUGO_CHUNK;
         int error = seryugo_read_at(opening->descriptor, opening->chunk, part, at, &length);
 
         if (error == 0 && length != 0) {
@@ -221,74 +214,7 @@ static uint32_t save(struct seryugo_opening *opening, uint64_t end)
     }
     if (error != 0) {
         found->saved[0] = 0;
-        return fails(opening, "save what is cut off", error);
-    }
-    return SERYUGO_DONE;
-}
-
-/* ---- the opening's steps ---- */
-
-/* Writes kept bytes again as they are, and then the new lines: an earlier sync may have failed, and left bytes in memory
- * alone. */
-static int write_again(struct seryugo_opening *opening, const struct seryugo_step *step)
-{
-    uint64_t kept = opening->found->kept;
-    size_t length = 0;
-
-    for (uint64_t at = step->from; at < kept; at += length) {
-        size_t part = kept - at < CHUNK ? (size_t)(kept - at) : CHUNK;
-        int error = seryugo_read_at(opening->descriptor, opening->chunk, part, at, &length);
-
-        if (error != 0 || length == 0) {
-            return error == 0 ? EIO : error;
-        }
-        error = seryugo_may_reach(at + length) ? seryugo_write_at(opening->descriptor, opening->chunk, length, at) : EFBIG;
-        if (error != 0) {
-            return error;
-        }
-    }
-    if (opening->more_length != 0 && !seryugo_may_reach(step->to)) {
-        return EFBIG;
-    }
-    return seryugo_write_at(opening->descriptor, opening->more, opening->more_length, kept);
-}
-
-static int do_step(struct seryugo_opening *opening, const struct seryugo_step *step)
-{
-    int failure = 0;
-
-    switch (step->kind) {
-    case SERYUGO_STEP_CUT:
-        do {
-            failure = ftruncate(opening->descriptor, (off_t)step->from);
-        } while (failure != 0 && errno == EINTR);
-        break;
-    case SERYUGO_STEP_STORE:
-        return write_again(opening, step);
-    case SERYUGO_STEP_SYNC:
-        failure = fsync(opening->descriptor);
-        break;
-    default:
-        failure = fsync(opening->folder);
-        break;
-    }
-    return failure == 0 ? 0 : errno;
-}
-
-/* Cuts, writes again, syncs, and syncs the folder. Only then the file is open. */
-static uint32_t mend(struct seryugo_opening *opening, struct seryugo_store *store)
-{
-    static const char *const words[] = {"", "cut the file", "", "write the file", "sync the file", "sync the folder"};
-    struct seryugo_step step;
-
-    seryugo_store_open(store, opening->length, opening->found->kept, opening->more_length);
-    while (seryugo_store_begin(store, SERYUGO_STEP_NOTHING, 0, &step)) {
-        int error = do_step(opening, &step);
-
-        seryugo_store_end(store, step.kind, error == 0, step.to);
-        if (error != 0) {
-            return fails(opening, words[step.kind], error);
-        }
+        return seryugo_fail(opening, "save what is cut off", error);
     }
     return SERYUGO_DONE;
 }
@@ -311,7 +237,7 @@ static uint32_t restore(struct seryugo_opening *opening, uint64_t *end)
 {
     uint32_t code;
 
-    opening->chunk = (char *)malloc(CHUNK + 1);
+    opening->chunk = (char *)malloc(SERYUGO_CHUNK + 1);
     code = opening->chunk == NULL ? (uint32_t)SERYUGO_NO_MEMORY : seryugo_open_reading(opening->messages, &opening->reading);
     if (code != SERYUGO_DONE) {
         return seryugo_refuse(opening, code, "no memory", 0);
@@ -340,18 +266,19 @@ static uint32_t restore(struct seryugo_opening *opening, uint64_t *end)
 
 /* Makes the handle, and starts its helper. */
 static uint32_t start(struct seryugo_opening *opening, const struct seryugo_file_options *options,
-                      const struct seryugo_store *store, struct seryugo_file **file)
+                      struct seryugo *store, struct seryugo_file **file)
 {
     bool is_mapped = may_be_mapped(opening, options);
     struct seryugo_file *made = seryugo_file_new(opening->descriptor, is_mapped, opening->messages, opening->limit);
     uint64_t segment = options->segment == 0 ? DEFAULT_SEGMENT : options->segment;
 
     if (made == NULL) {
+        seryugo_close(*store);
         return seryugo_refuse(opening, SERYUGO_NO_MEMORY, "no memory", 0);
     }
     made->store = *store;
-    made->stored = store->stored;
-    made->bound = store->stored;
+    made->stored = seryugo_mark_of(store, SERYUGO_MARK_STORED);
+    made->bound = made->stored;
     made->next = opening->found->entries;
     made->cut_next = made->next;
     made->cut_stored = made->stored;
@@ -359,9 +286,9 @@ static uint32_t start(struct seryugo_opening *opening, const struct seryugo_file
     made->view_size = 16 * made->segment + 2 * made->margin / SERYUGO_PAGE * SERYUGO_PAGE;
     made->period = options->sync_milliseconds;
     made->is_asked = true;
-    atomic_store(&made->told, store->stored);
-    atomic_store(&made->synced, store->synced);
-    atomic_store(&made->grown, store->grown);
+    atomic_store(&made->told, made->stored);
+    atomic_store(&made->synced, seryugo_mark_of(store, SERYUGO_MARK_SYNCED));
+    atomic_store(&made->grown, seryugo_mark_of(store, SERYUGO_MARK_GROWN));
     if (seryugo_file_start_helper(made) != 0) {
         seryugo_file_free(made);
         return seryugo_refuse(opening, SERYUGO_NO_MEMORY, "no thread can be started", EAGAIN);
@@ -373,7 +300,7 @@ static uint32_t start(struct seryugo_opening *opening, const struct seryugo_file
 
 static uint32_t open_all(struct seryugo_opening *opening, const struct seryugo_file_options *options, struct seryugo_file **file)
 {
-    struct seryugo_store store;
+    struct seryugo store;
     uint64_t end = 0;
     uint32_t code = seryugo_find_folder(opening);
 
@@ -391,7 +318,7 @@ static uint32_t open_all(struct seryugo_opening *opening, const struct seryugo_f
         code = save(opening, end);
     }
     if (code == SERYUGO_DONE) {
-        code = mend(opening, &store);
+        code = seryugo_mend(opening, &store);
     }
     return code == SERYUGO_DONE ? start(opening, options, &store, file) : code;
 }

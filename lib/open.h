@@ -1,8 +1,11 @@
-/* What the two parts of an opening share: find.c finds or makes the file, open.c reads it. */
+/* What the parts of an opening share: find.c finds or makes the file, open.c reads it, mend.c goes on with it. */
 #ifndef SERYUGO_LIB_OPEN_H
 #define SERYUGO_LIB_OPEN_H
 
 #include "file.h"
+
+/* So many bytes are read at once. */
+#define SERYUGO_CHUNK ((size_t)256 << 10)
 
 /* A file that is being opened. */
 struct seryugo_opening {
@@ -30,6 +33,12 @@ struct seryugo_opening {
 
 /* Writes the cause of a refusal, and returns its code. */
 SERYUGO_HIDDEN uint32_t seryugo_refuse(struct seryugo_opening *opening, uint32_t code, const char *words, int error);
+
+/* The same of a call that the system refused. */
+SERYUGO_HIDDEN uint32_t seryugo_fail(struct seryugo_opening *opening, const char *words, int error);
+
+/* Cuts the file, writes it again and syncs it, as the machine says, which it opens. */
+SERYUGO_HIDDEN uint32_t seryugo_mend(struct seryugo_opening *opening, struct seryugo *store);
 
 /* The first line of a journal with these messages. It has 10 bytes. */
 SERYUGO_HIDDEN const char *seryugo_header(uint32_t messages);
