@@ -8,7 +8,27 @@ from __future__ import annotations
 
 import sys
 import threading
-from typing import Any
+from typing import Any, Type
+
+
+class Refusing:
+    """A lock that nobody gets: whoever would take it gets this error."""
+
+    def __init__(self, error: Type[Exception]) -> None:
+        self._error = error
+
+    def __enter__(self) -> None:
+        raise self._error
+
+    def __exit__(self, *_: object) -> None:
+        pass
+
+    def locked(self) -> bool:
+        return False
+
+    # As new_lock() has them, in each version of Python.
+    _is_owned = locked
+
 
 if sys.version_info >= (3, 10):
 
