@@ -14,11 +14,10 @@ from functools import partial
 from typing import Any, Callable, NamedTuple, Optional, Tuple, Union
 
 from . import _calls as calls
-from . import _garbage as garbage
 from . import _library as library
 from . import errors
 from ._library import DONE, NOTHING, PARKED
-from ._lock import free, is_held, new_lock
+from ._lock import free, is_collector, is_held, new_lock
 from ._room import AGAIN, Keeper, Room
 
 Path = Union[str, bytes, "os.PathLike[str]", "os.PathLike[bytes]"]
@@ -113,7 +112,7 @@ class FileKeeper(Keeper):
         return code
 
     def cut(self, room: Room) -> None:
-        """Store the entries of calls that a signal's handler interrupted, which cuts the journal."""
+        """Store the entries of calls that a signal's handler interrupted. That cuts the journal."""
         self._note()
 
     def settle(self, room: Room) -> None:
@@ -195,7 +194,7 @@ class FileKeeper(Keeper):
 
     def _refuse_in_a_call(self) -> None:
         # This thread may have a lock, in the midst of which Python collects.
-        if garbage.is_here() and (is_held(self._lock) or is_held(self._room_lock)):
+        if is_collector() and (is_held(self._lock) or is_held(self._room_lock)):
             raise errors.SeryugoError("Python collects a cycle in the midst of another call")
 
     def _note(self) -> int:

@@ -7,7 +7,6 @@ import weakref
 from collections import deque
 from ctypes import byref, c_bool, c_uint64
 from typing import (
-    TYPE_CHECKING,
     Any,
     Callable,
     Deque,
@@ -22,16 +21,13 @@ from typing import (
 
 from . import _calls as calls
 from . import _fast_calls as fast_calls
-from . import _garbage as garbage
 from . import _library as library
+from . import _lock as locks
 from . import errors
 from ._library import DONE, PARKED
-from ._lock import Refusing, free, is_held, new_lock
+from ._lock import Refusing, free, is_collector, is_held, new_lock
 from ._messages import Codec
-from ._start import Start, at_nothing
-
-if TYPE_CHECKING:
-    from .journal import Journal
+from .journal import Journal, Start, at_nothing
 
 T = TypeVar("T")
 
@@ -134,7 +130,7 @@ class Room:
 
     def do(self, call: Callable[..., int], *arguments: Any) -> int:
         """Make a call that makes no seat due."""
-        if garbage.thread is not None:
+        if locks.collector is not None:
             self._refuse_in_a_call()
         try:
             with self.lock:
@@ -148,7 +144,7 @@ class Room:
 
     def within(self, action: Callable[[], T]) -> T:
         """Run this with the lock."""
-        if garbage.thread is not None:
+        if locks.collector is not None:
             self._refuse_in_a_call()
         try:
             with self.lock:
@@ -170,7 +166,7 @@ class Room:
 
     def call(self, call: Callable[..., int], *arguments: Any) -> int:
         """Make a seat's call that never blocks and hands no message over."""
-        if garbage.thread is not None:
+        if locks.collector is not None:
             self._refuse_in_a_call()
         try:
             with self.lock:
@@ -192,7 +188,7 @@ class Room:
     ) -> int:
         """Make an object by a seat's call, maybe one on another object. Return its number."""
         name = c_uint64()
-        if garbage.thread is not None:
+        if locks.collector is not None:
             self._refuse_in_a_call()
         try:
             with self.lock:
@@ -222,7 +218,7 @@ class Room:
 
     def poll(self, call: Callable[..., int], *arguments: Any) -> Tuple[int, bytes]:
         """Make a call that never blocks, and if it is done hands a message over."""
-        if garbage.thread is not None:
+        if locks.collector is not None:
             self._refuse_in_a_call()
         try:
             with self.lock:
@@ -256,7 +252,7 @@ class Room:
 
         After an exception its caller calls `recover`.
         """
-        if garbage.thread is not None:
+        if locks.collector is not None:
             self._refuse_in_a_call()
         with self.lock:
             if self.keeper is None:
@@ -279,7 +275,7 @@ class Room:
         """Let a seat leave. This has no entry in the journal, so that it hands none over."""
         if self.refusal is not None:
             return DONE
-        if garbage.is_here():
+        if is_collector():
             self.drop(seat.value)
             return DONE
 
@@ -295,7 +291,7 @@ class Room:
         """Withdraw a seat's call, and hand on what the seat was woken for."""
         if self.refusal is not None:
             return
-        if garbage.is_here():
+        if is_collector():
             self._settle_later(seat, False)
             return
         with self.lock:
@@ -316,7 +312,7 @@ class Room:
 
     def listen_no_more(self, seat: int) -> None:
         """Have a seat's bell rung again. Within a collection, `give_up` does that later."""
-        if self.refusal is None and not garbage.is_here():
+        if self.refusal is None and not is_collector():
             self.within(lambda: self._listeners.pop(seat, None))
 
     def ring(self, seat: int) -> None:
@@ -380,7 +376,7 @@ class Room:
 
     def _is_in_a_call(self) -> bool:
         """Return whether Python collects here, and this thread may have the lock."""
-        return garbage.is_here() and is_held(self.lock)
+        return is_collector() and is_held(self.lock)
 
     def _refuse_in_a_call(self) -> None:
         if self._is_in_a_call():

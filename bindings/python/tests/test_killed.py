@@ -1,5 +1,6 @@
-"""Journals in files whose process is killed or forked, or whose file another program cuts."""
+"""How switchboards with a journal in a file end: by close, by kills, in forks, in lost files."""
 
+import asyncio
 import gc
 import multiprocessing
 import os
@@ -22,6 +23,117 @@ from .test_opened import InFolder, run, text_of
 
 # Writes lines by pwrite(2), so that another program may cut the file without a SIGBUS.
 BY_WRITES = _library.FileOptions(0, 1, 0)
+
+
+class Closing(InFolder):
+    def test_after_close_each_call_fails(self):
+        board = self.opened()
+        seat, other = board.seat(), board.seat()
+        letters, variable = seat.mailbox(str), seat.mvar(int)
+        end = self.waiting(board, lambda: other.recv(letters))
+        board.sync()
+        board.close()
+        self.assertIs(end(), BoardClosed)
+        for call in (
+            lambda: seat.send(letters, "late"),
+            lambda: seat.recv(letters, timeout=0),
+            lambda: seat.recv_poll(letters),
+            lambda: seat.swap(variable, 5),
+            lambda: seat.mailbox(str),
+            lambda: seat.mailbox_again(0, str),
+            lambda: asyncio.run(seat.recv_async(letters)),
+            lambda: len(letters),
+            lambda: board.held(variable),
+            lambda: board.entries,
+            board.seat,
+            board.compact,
+            board.sync,
+        ):
+            self.assertRaises(BoardClosed, call)
+        seat.leave()
+        other.leave()
+        board.close()
+        self.assertEqual(text_of(self.path).count(b"\n"), 3)
+
+    def test_a_task_that_waits_as_it_is_closed(self):
+        async def parked():
+            task = asyncio.ensure_future(ben.recv_async(letters))
+            while not board._room._parked:
+                await asyncio.sleep(0)
+            return task
+
+        async def wait():
+            task = await parked()
+            ann.send(letters, "one")
+            self.assertEqual(await task, "one")
+            task = await parked()
+            task.cancel()
+            with self.assertRaises(asyncio.CancelledError):
+                await task
+            task = await parked()
+            board.close()
+            with self.assertRaises(BoardClosed):
+                await task
+
+        board = self.opened()
+        ann, ben = board.seat(), board.seat()
+        letters = ben.mailbox(str)
+        asyncio.run(wait())
+
+    def test_threads_close_and_sync_at_once(self):
+        board, failed = self.opened(), []
+        barrier = threading.Barrier(8)
+
+        def work(calls):
+            try:
+                with board.seat() as seat:
+                    barrier.wait(LIMIT)
+                    for _ in range(20):
+                        seat.send(seat.mailbox_again(0, str), "x")
+                        board.sync()
+                    calls()
+            except BoardClosed:
+                pass
+            except BaseException as error:
+                failed.append(error)
+
+        threads = [threading.Thread(target=work, args=(board.close,)) for _ in range(8)]
+        for thread in threads:
+            thread.start()
+        for thread in threads:
+            thread.join()
+        self.assertEqual(failed, [])
+        board.close()
+
+    def test_a_switchboard_that_is_dropped_is_closed(self):
+        board = seryugo.open(self.path)
+        seat = board.seat()
+        seat.send(seat.mailbox(str), "hello")
+        seat.leave()
+        del board
+        self.assertRaises(FileBusy, seryugo.open, self.path)
+        with self.assertWarnsRegex(ResourceWarning, "letters.journal' was not closed"):
+            del seat
+            gc.collect()
+        self.assertEqual(text_of(self.path), Path(self.path).read_bytes())
+        self.assertEqual(self.opened().entries, 2)
+
+    def test_the_end_of_a_program_closes_it(self):
+        program = """if True:
+            import seryugo, sys, threading
+            board = seryugo.open(sys.argv[1])
+            seat, other = board.seat(), board.seat()
+            letters = seat.mailbox_again(0, str)
+            threading.Thread(target=other.recv, args=(letters,), daemon=True).start()
+            while not board._room._parked: pass
+            seat.multicast(seat.channel(str), "hello")
+        """
+        ended = run(program, self.path)
+        self.assertEqual((ended.returncode, ended.stdout), (0, ""))
+        self.assertIn("letters.journal' was not closed", ended.stderr)
+        self.assertNotIn("BoardClosed", ended.stderr)
+        self.assertEqual(text_of(self.path), Path(self.path).read_bytes())
+        self.assertEqual(self.opened().entries, 3)
 
 
 class Lost(InFolder):
@@ -220,8 +332,8 @@ class Kills(InFolder):
                 returned = [words[1] for words in lines if words[0] == what]
                 self.assertEqual(len(set(found)), len(found))
                 self.assertEqual(len(set(returned)), len(returned))
-                self.assertLessEqual(set(returned), set(found))
-            self.assertLessEqual(set(got), set(sent))
+                self.assertEqual(set(returned) - set(found), set())
+            self.assertEqual(set(got) - set(sent), set())
             with seryugo.open(self.path) as board, board.seat() as seat:
                 seat.mailbox_again(0, str)
                 boxes = [seat.mailbox_again(number, str) for number in range(4)]

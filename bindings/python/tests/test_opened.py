@@ -1,8 +1,6 @@
 """Switchboards whose journal is kept in a file: what survives, what is refused, and what fails."""
 
-import asyncio
 import errno
-import gc
 import json
 import os
 import resource
@@ -63,7 +61,7 @@ class InFolder(unittest.TestCase):
             pass
 
     def waiting(self, board, call):
-        """Start a thread in a call that waits, and return what ends it and returns what it did."""
+        """Start a thread in a call that waits. Return what waits for its end, for its result."""
         ended = []
 
         def wait():
@@ -81,6 +79,7 @@ class InFolder(unittest.TestCase):
             thread.join(LIMIT)
             return ended[0]
 
+        end.thread = thread
         return end
 
 
@@ -95,9 +94,35 @@ class Opened(InFolder):
                 seat.send(letters, f"letter {count}")
         with seryugo.open(self.path) as board, board.seat() as seat:
             letters = board.mailbox(0, str)
-            self.assertEqual([seat.recv(letters) for _ in range(3)], [f"letter {n}" for n in range(3)])
+            self.assertEqual(list(seat.iter(letters)), [f"letter {count}" for count in range(3)])
         self.assertEqual(text_of(self.path), Path(self.path).read_bytes())
         self.assertEqual(seryugo.Switchboard.restore([text_of(self.path) + b"end 7\n"]).entries, 7)
+
+    def test_the_example(self):
+        example = Path(__file__).parent.parent / "examples" / "durable.py"
+        page = (Path(__file__).parent.parent / "README.md").read_text()
+        self.assertIn(f"```python\n{example.read_text()}```\n", page)
+        for entries in 3, 5:
+            ended = run(f"import os; os.chdir({str(self.folder)!r})\n{example.read_text()}")
+            self.assertEqual((ended.stdout, ended.stderr), ("Dear Ben\n", ""))
+            self.assertEqual(text_of(self.path).count(b"\n"), entries + 1)
+
+    def test_pieces_are_gone_on_with(self):
+        """Of a text with sums, or without, as older versions wrote into files."""
+        for is_sealed in False, True:
+            board = seryugo.Switchboard()
+            with board.seat() as seat:
+                seat.send(seat.mailbox(str), "hello")
+            journal = board.take_journal()
+            text = journal.sealed_text(None)[0] if is_sealed else journal.text()
+            Path(self.path).write_bytes(text)
+            for entries in 2, 3:
+                with seryugo.open(self.path) as board, board.seat() as seat:
+                    self.assertEqual(board.recovered.entries, entries)
+                    seat.mailbox_again(entries - 1, int)
+            self.assertTrue(text_of(self.path).startswith(text))
+            board = seryugo.Switchboard.restore([text_of(self.path)], is_torn_fine=True)
+            self.assertEqual((board.entries, board.restored_from.sum is None), (4, not is_sealed))
 
     def test_each_call_is_kept_as_it_returns(self):
         board = self.opened()
@@ -375,121 +400,15 @@ class Refused(InFolder):
                 for count in range(100):
                     seat.send(parcels, bytes(100_000))
             self.assertEqual((told.exception.errno, len(parcels)), (errno.EFBIG, count))
-            self.assertTrue(board._room._parked)
+            # Once it has taken the second of these, its call was made again after the first.
+            for _ in range(2):
+                board._room.recover()
+                while end.thread.is_alive() and not other._bell.locked():
+                    time.sleep(0.001)
+            self.assertTrue(end.thread.is_alive())
             resource.setrlimit(resource.RLIMIT_FSIZE, limits)
             seat.send(letters, "Dear Ben")
             self.assertEqual(end(), "Dear Ben")
-
-
-class Closing(InFolder):
-    def test_after_close_each_call_fails(self):
-        board = self.opened()
-        seat, other = board.seat(), board.seat()
-        letters, variable = seat.mailbox(str), seat.mvar(int)
-        end = self.waiting(board, lambda: other.recv(letters))
-        board.sync()
-        board.close()
-        self.assertIs(end(), BoardClosed)
-        for call in (
-            lambda: seat.send(letters, "late"),
-            lambda: seat.recv(letters, timeout=0),
-            lambda: seat.recv_poll(letters),
-            lambda: seat.swap(variable, 5),
-            lambda: seat.mailbox(str),
-            lambda: seat.mailbox_again(0, str),
-            lambda: asyncio.run(seat.recv_async(letters)),
-            lambda: len(letters),
-            lambda: board.held(variable),
-            lambda: board.entries,
-            board.seat,
-            board.compact,
-            board.sync,
-        ):
-            self.assertRaises(BoardClosed, call)
-        seat.leave()
-        other.leave()
-        board.close()
-        self.assertEqual(text_of(self.path).count(b"\n"), 3)
-
-    def test_a_task_that_waits_as_it_is_closed(self):
-        async def parked():
-            task = asyncio.ensure_future(ben.recv_async(letters))
-            while not board._room._parked:
-                await asyncio.sleep(0)
-            return task
-
-        async def wait():
-            task = await parked()
-            ann.send(letters, "one")
-            self.assertEqual(await task, "one")
-            task = await parked()
-            task.cancel()
-            with self.assertRaises(asyncio.CancelledError):
-                await task
-            task = await parked()
-            board.close()
-            with self.assertRaises(BoardClosed):
-                await task
-
-        board = self.opened()
-        ann, ben = board.seat(), board.seat()
-        letters = ben.mailbox(str)
-        asyncio.run(wait())
-
-    def test_threads_close_and_sync_at_once(self):
-        board, failed = self.opened(), []
-        barrier = threading.Barrier(8)
-
-        def work(calls):
-            try:
-                with board.seat() as seat:
-                    barrier.wait(LIMIT)
-                    for _ in range(20):
-                        seat.send(seat.mailbox_again(0, str), "x")
-                        board.sync()
-                    calls()
-            except BoardClosed:
-                pass
-            except BaseException as error:
-                failed.append(error)
-
-        threads = [threading.Thread(target=work, args=(board.close,)) for _ in range(8)]
-        for thread in threads:
-            thread.start()
-        for thread in threads:
-            thread.join()
-        self.assertEqual(failed, [])
-        board.close()
-
-    def test_a_switchboard_that_is_dropped_is_closed(self):
-        board = seryugo.open(self.path)
-        seat = board.seat()
-        seat.send(seat.mailbox(str), "hello")
-        seat.leave()
-        del board
-        self.assertRaises(FileBusy, seryugo.open, self.path)
-        with self.assertWarnsRegex(ResourceWarning, "letters.journal' was not closed"):
-            del seat
-            gc.collect()
-        self.assertEqual(text_of(self.path), Path(self.path).read_bytes())
-        self.assertEqual(self.opened().entries, 2)
-
-    def test_the_end_of_a_program_closes_it(self):
-        program = """if True:
-            import seryugo, sys, threading
-            board = seryugo.open(sys.argv[1])
-            seat, other = board.seat(), board.seat()
-            letters = seat.mailbox_again(0, str)
-            threading.Thread(target=other.recv, args=(letters,), daemon=True).start()
-            while not board._room._parked: pass
-            seat.multicast(seat.channel(str), "hello")
-        """
-        ended = run(program, self.path)
-        self.assertEqual((ended.returncode, ended.stdout), (0, ""))
-        self.assertIn("letters.journal' was not closed", ended.stderr)
-        self.assertNotIn("BoardClosed", ended.stderr)
-        self.assertEqual(text_of(self.path), Path(self.path).read_bytes())
-        self.assertEqual(self.opened().entries, 3)
 
 
 if __name__ == "__main__":
