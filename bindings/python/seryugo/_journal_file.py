@@ -175,9 +175,9 @@ class FileKeeper(Keeper):
         if code == DONE:
             code = library.file_sync(self._at)
         failure = None if code == DONE else self._error(code)
-        # No signal's handler runs between these two steps, so that they are made both or neither.
-        taken = iter(partial(self._unclosed.pop, "file", None), None)
-        closed = list(map(library.file_close, taken))
+        # No signal's handler runs between these two steps, so that both are made or neither is.
+        take: Any = self._unclosed.pop
+        closed = list(map(library.file_close, iter(partial(take, "file", None), None)))
         if failure is None and closed not in ([], [DONE]):
             failure = errors.FileLost("the file's end was not cut off or not synced", 0, self.path)
         return failure

@@ -269,7 +269,9 @@ class Forks(InFolder):
 
 def work(path, name):
     """Make calls in four threads, and write each to standard output as soon as it returned."""
-    board = seryugo.Switchboard._open(path, 1_000, _library.FileOptions(20, 0, 4096))
+    # Lines are mapped, or written, and the file grows page by page.
+    options = _library.FileOptions(20, int(name) // 2 % 2, 4096)
+    board = seryugo.Switchboard._open(path, 1_000, options)
     seats = [board.seat() for _ in range(4)]
 
     def call(me, seat):
@@ -317,6 +319,46 @@ class Kills(InFolder):
         sent = re.findall(r"^seat \d+ send \d =([\d.]+)\S*: done$", text, re.MULTILINE)
         got = re.findall(r"^seat \d+ poll \d: =([\d.]+)\S*$", text, re.MULTILINE)
         return sent, got
+
+    def calls(self, board):
+        """Yield after each call, also after one that was woken, and after one that was awaited."""
+
+        def send():
+            while not board._room._parked:
+                time.sleep(0.001)
+            other.send(mailbox, "two")
+
+        seat, other = board.seat(), board.seat()
+        yield (mailbox := seat.mailbox_again(0, str))
+        yield seat.send(mailbox, "one")
+        yield seat.recv(mailbox)
+        for recv in (seat.recv, lambda source: asyncio.run(seat.recv_async(source))):
+            thread = threading.Thread(target=send)
+            thread.start()
+            yield recv(mailbox), thread.join()
+        yield seat.recv_poll(mailbox)
+        yield seat.multicast(seat.channel(bytes), bytes(300_000))
+        yield (variable := seat.mvar(int, 5))
+        yield seat.swap(variable, 6)
+        yield self.assertRaises(TimeoutError, seat.recv, mailbox, timeout=0)
+
+    def test_a_kill_just_as_a_call_returned(self):
+        for count in range(1, 11):
+            told, telling = os.pipe()
+            child = os.fork()
+            if child == 0:
+                signal.alarm(LIMIT)
+                board = seryugo.open(f"{self.path}.{count}")
+                calls = self.calls(board)
+                for _ in range(count):
+                    next(calls)
+                os.write(telling, str(board.entries).encode())
+                os.kill(os.getpid(), signal.SIGKILL)
+            os.close(telling)
+            self.assertEqual(os.waitpid(child, 0)[1], signal.SIGKILL)
+            with open(told, "rb") as file, seryugo.open(f"{self.path}.{count}") as board:
+                self.assertEqual(board.recovered.entries, int(file.read()))
+                self.assertGreaterEqual(board.entries, count)
 
     def test_nothing_that_returned_is_lost_or_doubled(self):
         told = self.folder / "told"
