@@ -2,7 +2,8 @@
 
 A `Switchboard` has objects with messages of `bytes`, `str` or `int`, and a journal of every
 accepted call. Threads call from seats. A call that can't go on blocks, and lets the interpreter's
-lock go meanwhile.
+lock go meanwhile. `open` keeps the journal in a file, so that each call that returned survives the
+end of the program.
 
     import threading
     from seryugo import Switchboard

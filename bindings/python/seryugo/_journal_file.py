@@ -208,7 +208,10 @@ class FileKeeper(Keeper):
 
     def _size(self, call: Callable[..., int], arguments: Tuple[Any, ...]) -> int:
         """Return how many bytes a call's messages have."""
-        size = next((len(given) for given in arguments if isinstance(given, bytes)), 0)
+        size = 0
+        for given in arguments:
+            if isinstance(given, bytes):
+                size = len(given)
         if call is calls.swap:
             if library.held(self._handle, arguments[1], byref(self._held)) == DONE:
                 size += len(library.taken_over(self._held))
