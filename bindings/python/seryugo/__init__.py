@@ -2,7 +2,8 @@
 
 A `Switchboard` has objects with messages of `bytes`, `str` or `int`, and a journal of every
 accepted call. Threads call from seats. A call that can't go on blocks, and lets the interpreter's
-lock go meanwhile.
+lock go meanwhile. `open` keeps the journal in a file, so that each call that returned survives the
+end of the program.
 
     import threading
     from seryugo import Switchboard
@@ -18,20 +19,30 @@ lock go meanwhile.
 import warnings
 from typing import TYPE_CHECKING
 
-from ._appending import append_to
 from ._fast_calls import HAS_EXTENSION
+from ._journal_file import Recovered
 from ._keeping import drop_entries
-from ._prefix import ValidPrefix
-from ._restoring import compacted
+from ._restoring import ValidPrefix, compacted
 from ._version import __version__
 from .errors import (
+    BeginsLater,
+    BoardClosed,
     Busy,
     Closed,
     Fault,
+    FileBusy,
+    FileFailed,
+    FileFull,
+    FileLost,
+    Forked,
     Gone,
     JournalFull,
+    KeptInFile,
+    NoJournal,
     NoMemory,
     NoSuch,
+    OtherMessages,
+    OtherVersion,
     OutOfBounds,
     SeryugoError,
     Stalled,
@@ -56,9 +67,11 @@ from .journal import (
 )
 from .objects import Channel, IVar, Mailbox, MVar, Object, Port, Source, Variable
 from .seat import Seat
-from .switchboard import Switchboard
+from .switchboard import Switchboard, open
 
 __all__ = [
+    "BeginsLater",
+    "BoardClosed",
     "Busy",
     "Call",
     "CallKind",
@@ -67,20 +80,30 @@ __all__ = [
     "Closed",
     "Entry",
     "Fault",
+    "FileBusy",
+    "FileFailed",
+    "FileFull",
+    "FileLost",
+    "Forked",
     "Gone",
     "HAS_EXTENSION",
     "IVar",
     "Journal",
     "JournalFull",
+    "KeptInFile",
     "MVar",
     "Mailbox",
     "Maker",
     "MakerKind",
+    "NoJournal",
     "NoMemory",
     "NoSuch",
     "Object",
+    "OtherMessages",
+    "OtherVersion",
     "OutOfBounds",
     "Port",
+    "Recovered",
     "Reply",
     "ReplyKind",
     "Seat",
@@ -88,8 +111,8 @@ __all__ = [
     "Source",
     "Stalled",
     "Switchboard",
-    "TooLong",
     "TextOpen",
+    "TooLong",
     "Torn",
     "Unlawful",
     "Unreadable",
@@ -97,10 +120,10 @@ __all__ = [
     "Variable",
     "WrongKind",
     "__version__",
-    "append_to",
     "check",
     "compacted",
     "drop_entries",
+    "open",
 ]
 
 if TYPE_CHECKING:

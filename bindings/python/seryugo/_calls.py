@@ -1,8 +1,15 @@
 """The calls of seats: how the journal has each, and the library's function for it."""
 
 import enum
+from ctypes import byref, c_uint64
+from typing import Any, Callable
 
-from ._library import quick
+from . import _library as library
+from . import errors
+from ._library import DONE, quick
+
+# The kinds of objects, as the library numbers them.
+MAILBOX, CHANNEL, PORT, IVAR, MVAR = range(5)
 
 
 class CallKind(enum.Enum):
@@ -63,3 +70,19 @@ get_poll = quick("bytes_get_poll")
 take = quick("bytes_take")
 take_poll = quick("bytes_take_poll")
 swap = quick("bytes_swap_from")
+
+
+def again(kind: int, number: int, make: Callable[..., int]) -> Callable[..., int]:
+    """Name a call that finds the object of this number, or makes it if it would be the next one."""
+
+    def found(room: Any, seat: c_uint64, name: Any) -> int:
+        has = c_uint64()
+        if library.kind(room, number, byref(has)) == DONE:
+            # `name` is what byref has returned for a number.
+            name._obj.value = number
+            return DONE if has.value == kind else errors.WrongKind.code
+        if number > 0 and library.kind(room, number - 1, byref(has)) != DONE:
+            return errors.NoSuch.code
+        return make(room, seat, name)
+
+    return found

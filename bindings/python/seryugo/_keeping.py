@@ -2,19 +2,17 @@
 
 from __future__ import annotations
 
-from typing import TYPE_CHECKING, Callable, List
+from typing import Any, Callable, List, Tuple
 
 from . import _library as library
+from ._room import AGAIN, Keeper, Room
 from .journal import Journal
-
-if TYPE_CHECKING:
-    from ._room import Room
 
 # What is called with the entries of a full journal. If it raises an exception, they are kept.
 Sink = Callable[[Journal], object]
 
 
-class Keeper:
+class SinkKeeper(Keeper):
     """Cuts a full journal, and keeps the entries that it had until a sink takes them.
 
     Its caller has the room's lock.
@@ -25,8 +23,13 @@ class Keeper:
         self._sink = sink
         self._kept = kept
 
+    def made(self, room: Room, call: Callable[..., int], arguments: Tuple[Any, ...]) -> int:
+        if arguments[-2] is not AGAIN:
+            self.hand_over()
+        return super().made(room, call, arguments)
+
     def cut(self, room: Room) -> None:
-        """Cut a room's journal, and hand its entries over, after those that are kept."""
+        """Cut the journal, and hand its entries over, after those that are kept."""
         self.hand_over()
         # A signal's handler may raise an exception as soon as they are taken. Then they are here.
         journal = Journal(room.codecs, room.text_start())

@@ -12,6 +12,7 @@ from ctypes import (
     c_bool,
     c_char,
     c_char_p,
+    c_int,
     c_size_t,
     c_uint8,
     c_uint32,
@@ -19,7 +20,7 @@ from ctypes import (
     c_void_p,
 )
 from functools import partial
-from typing import Any, Callable, Optional, cast
+from typing import Any, Callable, Optional, Tuple, cast
 
 from . import _version
 
@@ -28,6 +29,9 @@ IN_PLACE = 78
 
 # How many bytes a sum has.
 SUM_LENGTH = 32
+
+# What the library takes as a number. ctypes drops what a larger one has above its 64 bits.
+MOST = 2**64 - 1
 
 # What a call returns if it isn't refused. `errors` has the refusals.
 DONE = 0
@@ -57,6 +61,27 @@ class Bytes(Structure):
         ("block", POINTER(c_char)),
         ("owner", Share),
         ("in_place", c_uint8 * IN_PLACE),
+    ]
+
+
+class FileOptions(Structure):
+    """How a journal's file is kept."""
+
+    _fields_ = [("sync_milliseconds", c_uint64), ("flags", c_uint32), ("segment", c_uint64)]
+
+
+class FileFound(Structure):
+    """What opening a journal's file found, or the cause why it failed."""
+
+    _fields_ = [
+        ("entries", c_uint64),
+        ("lines", c_uint64),
+        ("kept", c_uint64),
+        ("cut_off", c_uint64),
+        ("is_new", c_bool),
+        ("error", c_int),
+        ("saved", c_char * 256),
+        ("words", c_char * 256),
     ]
 
 
@@ -143,12 +168,12 @@ def _function(library: ctypes.CDLL, name: str) -> Any:
     return function
 
 
-def quick(name: str) -> Callable[..., int]:
+def quick(name: str, library: ctypes.CDLL = _HELD) -> Callable[..., int]:
     """Name a call of a seat. Each argument is an instance of its type in C, or bytes.
 
     To test arguments and turn them into these types would take longer than most of these calls.
     """
-    named: Callable[..., int] = _function(_HELD, name)
+    named: Callable[..., int] = _function(library, name)
     return named
 
 
@@ -189,13 +214,14 @@ _HANDLE = POINTER(Handle)
 _NUMBER = POINTER(c_uint64)
 
 # Which messages the library is asked for.
-_BYTES = 1
+BYTES = 1
 
 # Rooms, and the seats that wait.
-room_open = partial(_short("open_room", c_uint32, c_uint64, _HANDLE), _BYTES)
+room_open = partial(_short("open_room", c_uint32, c_uint64, _HANDLE), BYTES)
 new_seat = _short("new_seat", _HANDLE, _NUMBER)
 withdraw = _short("withdraw", _HANDLE, c_uint64)
 next_due = quick("next_due")
+is_due = quick("is_due")
 close = _freeing(_FREE, "close", Handle)
 
 # What frees the memory of a message.
@@ -219,14 +245,14 @@ _take_by = _long("take_by", _HANDLE, c_uint32, _HANDLE, _NUMBER)
 take_journal, take_journal_open = _of(_take_by, 0), _of(_take_by, 1)
 compact, compact_and_cut = _of(_take_by, 2), _of(_take_by, 3)
 _close_entry = _freeing(_HELD, "close", Handle)
-checker_open = partial(_short("open_checker", c_uint32, _HANDLE), _BYTES)
+checker_open = partial(_short("open_checker", c_uint32, _HANDLE), BYTES)
 checker_feed_journal = _long("checker_feed_journal", _HANDLE, _HANDLE, c_uint64)
 checker_verdict = _short("checker_verdict", _HANDLE, _NUMBER)
 
 # A journal as text.
 journal_text = _long("journal_text", _HANDLE, c_uint64, POINTER(Bytes))
 sealed_text = _long("sealed_text", _HANDLE, c_uint64, POINTER(Sum), POINTER(Bytes))
-reading_open = partial(_short("open_reading", c_uint32, _HANDLE), _BYTES)
+reading_open = partial(_short("open_reading", c_uint32, _HANDLE), BYTES)
 reading_take = _long("reading_take_from", _HANDLE, c_char_p, c_size_t)
 _reading_state = _short("reading_state", _HANDLE, c_uint32, _NUMBER)
 reading_entries, reading_lines = _of(_reading_state, 0), _of(_reading_state, 1)
@@ -234,6 +260,25 @@ reading_kept = _of(_reading_state, 3)
 reading_sum = _short("reading_sum", _HANDLE, POINTER(Sum))
 room_restore = _long("room_restore", _HANDLE, c_uint64, _HANDLE)
 reading_compact = _long("reading_compact", _HANDLE, _HANDLE, _NUMBER)
+
+# A journal in a file.
+_AT_FILE = (POINTER(FileOptions), _HANDLE, POINTER(FileFound), POINTER(c_void_p))
+file_open = _long("file_open", c_char_p, c_uint32, c_uint64, *_AT_FILE)
+# These two may wait for the disk.
+file_reserve, file_note = quick("file_reserve", _FREE), quick("file_note", _FREE)
+file_state = quick("file_state")
+file_sync = _long("file_sync", c_void_p)
+file_close = _long("file_close", c_void_p)
+_file_error = _function(_HELD, "file_error")
+_file_error.argtypes = (c_void_p, POINTER(c_int))
+_file_error.restype = c_char_p
+
+
+def file_error(file: c_void_p) -> Tuple[Optional[str], int]:
+    """Return in words why calls on a file fail, or None, and the cause as errno, or 0."""
+    number = c_int()
+    words = _file_error(file, byref(number))
+    return words and words.decode(errors="replace"), number.value
 
 
 def reading_end(reading: Any) -> int:

@@ -2,13 +2,52 @@
 
 Before Python 3.10 such an exception may come between the end of a `with` block and the release of
 its lock. So there the lock knows the thread that holds it, and `free` lets that thread release it.
+
+Python collects garbage in the midst of any method, and calls the `__del__` of what it collects in
+a thread that may hold the lock. `collector` is that thread, while Python collects.
 """
 
 from __future__ import annotations
 
+import gc
 import sys
 import threading
-from typing import Any
+from typing import Any, Dict, Optional, Type
+
+collector: Optional[int] = None
+
+
+def _note(phase: str, _counts: Dict[str, int]) -> None:
+    global collector
+    collector = threading.get_ident() if phase == "start" else None
+
+
+gc.callbacks.append(_note)
+
+
+def is_collector() -> bool:
+    """Return whether this thread calls from a `__del__` of what Python collects."""
+    return collector == threading.get_ident()
+
+
+class Refusing:
+    """A lock that nobody gets: whoever would take it gets this error."""
+
+    def __init__(self, error: Type[Exception]) -> None:
+        self._error = error
+
+    def __enter__(self) -> None:
+        raise self._error
+
+    def __exit__(self, *_: object) -> None:
+        pass
+
+    def locked(self) -> bool:
+        return False
+
+    # As new_lock() has them, in each version of Python.
+    _is_owned = locked
+
 
 if sys.version_info >= (3, 10):
 

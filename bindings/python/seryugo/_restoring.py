@@ -2,23 +2,94 @@
 
 from __future__ import annotations
 
+import builtins
 import re
 from contextlib import contextmanager
 from ctypes import byref, c_uint64
-from typing import Iterable, Iterator, Optional, Tuple
+from dataclasses import dataclass
+from typing import Callable, Iterable, Iterator, Optional, Tuple
 
 from . import _library as library
 from . import errors
-from ._prefix import Lines, ValidPrefix
 from ._library import DONE, NOTHING
 from ._messages import plain
 from .journal import Journal
-
 
 # How much of a text is looked at to say what is wrong with its first line.
 _HEAD = 32
 
 _NO_JOURNAL = "this is no journal"
+_BEHIND_ZERO = "a byte 0 ends the text, and other bytes follow it"
+
+# The most bytes of a line that are looked at: a piece's first line has no more.
+_LOOKED_AT = 80
+
+
+@dataclass(frozen=True)
+class ValidPrefix:
+    """The valid prefix of a torn text: its whole lines, but no piece's first line alone.
+
+    It has this many entries and bytes: cut the text there. `ending` is the line that ends its last
+    piece. Write it after these bytes, and the text is a whole journal. It is empty if the last
+    piece has its end.
+
+    `sum` is the sum of the last piece with this ending: pass it to `Journal.sealed_text` for the
+    next one. If it is `None`, and some bytes are kept, the text has no sums: go on by
+    `Journal.text`. If no bytes are kept, choose.
+    """
+
+    entries: int
+    bytes: int
+    ending: builtins.bytes
+    sum: Optional[builtins.bytes]
+
+
+class Lines:
+    """How the last lines begin of a text that comes in parts."""
+
+    def __init__(self) -> None:
+        # How the last whole line begins, and the line that has no end yet.
+        self._last = self._open = b""
+        # A byte 0 ends the text.
+        self._is_over = False
+
+    def note(self, part: bytes) -> bool:
+        """Note the next part. Return whether all bytes behind a byte 0 are zeros too."""
+        zero = 0 if self._is_over else part.find(b"\0")
+        stop = zero if zero >= 0 else len(part)
+        if not self._is_over:
+            self._note_lines(part, stop)
+        self._is_over = zero >= 0
+        return not part[stop:].strip(b"\0")
+
+    def _note_lines(self, part: bytes, stop: int) -> None:
+        end = part.rfind(b"\n", 0, stop)
+        if end >= 0:
+            at = part.rfind(b"\n", 0, end) + 1
+            begun = b"" if at else self._open
+            self._last = (begun + part[at : min(end, at + _LOOKED_AT)])[:_LOOKED_AT]
+            self._open = b""
+        rest = part[end + 1 : min(stop, end + 1 + _LOOKED_AT)]
+        self._open = (self._open + rest)[:_LOOKED_AT]
+
+    def valid_prefix(self, entries: int, kept: int, last: Optional[bytes]) -> ValidPrefix:
+        """Return the valid prefix, of this many bytes.
+
+        `last` is the sum of the whole lines, if the text has sums.
+        """
+        if self._last.startswith(b"journal"):
+            words = self._last.split(b" ")
+            named = _sum_of(words[2]) if len(words) == 3 else None
+            return ValidPrefix(entries, kept, b"", named)
+        if not self._last or self._last.startswith(b"end"):
+            return ValidPrefix(entries, kept, b"", last)
+        ending = f"end {entries} {last.hex()}\n" if last else f"end {entries}\n"
+        return ValidPrefix(entries, kept, ending.encode(), last)
+
+
+def _sum_of(digits: bytes) -> Optional[bytes]:
+    """Return the sum that has these digits in a text, if it is one."""
+    return bytes.fromhex(digits.decode()) if re.fullmatch(rb"[0-9a-f]{64}", digits) else None
 
 
 def restored(
@@ -27,11 +98,12 @@ def restored(
     """Open a room on a text of these parts, and say what is kept of the text."""
     room, lines = library.Handle(), Lines()
     with _read_from(parts, is_torn_fine, lines) as reading:
-        kept = lines.valid_prefix(_entries(reading), _kept(reading), _sum(reading))
+        kept = _counted(library.reading_kept, reading)
+        prefix = lines.valid_prefix(_entries(reading), kept, _sum(reading))
         code = library.room_restore(byref(reading), limit, byref(room))
         if code != DONE:
             raise errors.of_code(code)
-    return room, kept
+    return room, prefix
 
 
 def compacted(parts: Iterable[bytes], is_torn_fine: bool = False) -> Journal:
@@ -62,7 +134,7 @@ def _read_from(
     try:
         _read(reading, parts, lines)
         code = library.reading_end(byref(reading))
-        if code == errors.NO_JOURNAL:
+        if code == errors.NoJournal.code:
             raise errors.Fault(1, _NO_JOURNAL)
         if code != DONE and not is_torn_fine:
             raise errors.TextOpen if code == errors.TextOpen.code else errors.Torn
@@ -81,7 +153,9 @@ def _read(reading: library.Handle, parts: Iterable[bytes], lines: Lines) -> None
         code = library.reading_take(byref(reading), part, len(part))
         if code != DONE:
             raise _stopped(reading, code, head)
-        lines.note(part)
+        if not lines.note(part):
+            count = _lines(reading)
+            raise errors.Fault(count + 1, _BEHIND_ZERO if count else _NO_JOURNAL)
 
 
 def _flaw_of(head: bytes) -> Optional[str]:
@@ -95,15 +169,17 @@ def _flaw_of(head: bytes) -> Optional[str]:
 
 
 def _entries(reading: library.Handle) -> int:
-    count = c_uint64()
-    library.reading_entries(byref(reading), byref(count))
-    return count.value
+    return _counted(library.reading_entries, reading)
 
 
-def _kept(reading: library.Handle) -> int:
-    count = c_uint64()
-    library.reading_kept(byref(reading), byref(count))
-    return count.value
+def _lines(reading: library.Handle) -> int:
+    return _counted(library.reading_lines, reading)
+
+
+def _counted(count: Callable[..., int], reading: library.Handle) -> int:
+    counted = c_uint64()
+    count(byref(reading), byref(counted))
+    return counted.value
 
 
 def _sum(reading: library.Handle) -> Optional[bytes]:
@@ -118,9 +194,8 @@ def _sum(reading: library.Handle) -> Optional[bytes]:
 def _stopped(reading: library.Handle, code: int, head: bytes) -> errors.SeryugoError:
     """Return why the reading of a text with this head has stopped."""
     if code == errors.Fault.code:
-        count = c_uint64()
-        library.reading_lines(byref(reading), byref(count))
-        return errors.Fault(count.value + 1, None if count.value else _flaw_of(head))
+        count = _lines(reading)
+        return errors.Fault(count + 1, None if count else _flaw_of(head))
     if code == errors.Unlawful.code:
         return errors.Unlawful(_entries(reading))
     return errors.of_code(code)

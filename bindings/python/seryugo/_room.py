@@ -6,21 +6,28 @@ import threading
 import weakref
 from collections import deque
 from ctypes import byref, c_bool, c_uint64
-from typing import TYPE_CHECKING, Any, Callable, Deque, Dict, List, Optional, Set, Tuple, TypeVar
+from typing import (
+    Any,
+    Callable,
+    Deque,
+    Dict,
+    List,
+    Optional,
+    Set,
+    Tuple,
+    Type,
+    TypeVar,
+)
 
 from . import _calls as calls
 from . import _fast_calls as fast_calls
-from . import _garbage as garbage
 from . import _library as library
+from . import _lock as locks
 from . import errors
 from ._library import DONE, PARKED
-from ._lock import free, is_held, new_lock
+from ._lock import Refusing, free, is_collector, is_held, new_lock
 from ._messages import Codec
-from ._start import Start, at_nothing
-
-if TYPE_CHECKING:
-    from ._keeping import Keeper
-    from .journal import Journal
+from .journal import Journal, Start, at_nothing
 
 T = TypeVar("T")
 
@@ -29,7 +36,32 @@ FIRST = c_bool(False)
 AGAIN = c_bool(True)
 
 # What a call returns if the journal has no room for its entry.
-_FULL = errors.JournalFull.code
+FULL = errors.JournalFull.code
+
+
+class Keeper:
+    """What keeps the entries of a room's journal. Its caller has the room's lock."""
+
+    def made(self, room: Room, call: Callable[..., int], arguments: Tuple[Any, ...]) -> int:
+        """Make a call of a seat, and return its code. If the journal is full, have that cut first.
+
+        If the call may block, its next to last argument says whether it is made again.
+        """
+        code = call(room.handle, *arguments)
+        if code == FULL:
+            self.cut(room)
+            if arguments[-2] is AGAIN:
+                # The refusal has ended the seat's wait.
+                arguments = (*arguments[:-2], FIRST, arguments[-1])
+            code = call(room.handle, *arguments)
+        return code
+
+    def cut(self, room: Room) -> None:
+        """Cut the journal, and keep the entries that it had."""
+        raise NotImplementedError
+
+    def settle(self, room: Room) -> None:
+        """After an exception do what a call may have left undone."""
 
 
 class Room:
@@ -41,12 +73,16 @@ class Room:
     was made, so `recover` wakes all threads that wait: each makes its call again.
     """
 
-    def __init__(self, room: library.Handle) -> None:
+    def __init__(self, room: library.Handle, is_fast: bool = True) -> None:
+        """Make one of this handle. If `is_fast`, the extension may make calls of seats."""
         # At its end the process frees all memory, and threads may be in a call then.
-        weakref.finalize(self, library.close_for_good, room).atexit = False
+        self._end = weakref.finalize(self, library.close_for_good, room)
+        self._end.atexit = False
         self.handle = byref(room)
         self.lock = new_lock()
-        # What cuts a full journal, if that isn't left to the switchboard's owner.
+        # Why no call is made any more, if that is so.
+        self.refusal: Optional[Type[errors.SeryugoError]] = None
+        # What keeps the journal, if that isn't left to the switchboard's owner.
         self.keeper: Optional[Keeper] = None
         # The journal that the keeper has cut and not handed over yet, if there is one.
         self.unwritten: List[Journal] = []
@@ -65,12 +101,14 @@ class Room:
         # are still to leave.
         self._dropped: Deque[Tuple[int, bool]] = deque()
         # What the extension has of this room.
-        self.fast = fast_calls.room_of(
-            room, self.lock, self._parked, self._dropped, self.unwritten
+        self.fast = (
+            fast_calls.room_of(room, self.lock, self._parked, self._dropped, self.unwritten)
+            if is_fast
+            else None
         )
         # Where the library writes a message, and the seat that is due.
-        self._message = library.Bytes()
-        self._at_message = byref(self._message)
+        self.message = library.Bytes()
+        self._at_message = byref(self.message)
         self._due = c_uint64()
         self._at_due = byref(self._due)
 
@@ -92,7 +130,7 @@ class Room:
 
     def do(self, call: Callable[..., int], *arguments: Any) -> int:
         """Make a call that makes no seat due."""
-        if garbage.thread is not None:
+        if locks.collector is not None:
             self._refuse_in_a_call()
         try:
             with self.lock:
@@ -106,7 +144,7 @@ class Room:
 
     def within(self, action: Callable[[], T]) -> T:
         """Run this with the lock."""
-        if garbage.thread is not None:
+        if locks.collector is not None:
             self._refuse_in_a_call()
         try:
             with self.lock:
@@ -128,16 +166,14 @@ class Room:
 
     def call(self, call: Callable[..., int], *arguments: Any) -> int:
         """Make a seat's call that never blocks and hands no message over."""
-        if garbage.thread is not None:
+        if locks.collector is not None:
             self._refuse_in_a_call()
         try:
             with self.lock:
-                if self.keeper:
-                    self.keeper.hand_over()
-                code = call(self.handle, *arguments)
-                if code == _FULL and self.keeper:
-                    self.keeper.cut(self)
+                if self.keeper is None:
                     code = call(self.handle, *arguments)
+                else:
+                    code = self.keeper.made(self, call, arguments)
                 if self._parked:
                     self._wake_next()
         except BaseException:
@@ -152,18 +188,16 @@ class Room:
     ) -> int:
         """Make an object by a seat's call, maybe one on another object. Return its number."""
         name = c_uint64()
-        if garbage.thread is not None:
+        if locks.collector is not None:
             self._refuse_in_a_call()
         try:
             with self.lock:
-                if self.keeper:
-                    self.keeper.hand_over()
-                code = call(self.handle, *arguments, byref(name))
-                if code == _FULL and self.keeper:
-                    self.keeper.cut(self)
+                if self.keeper is None:
                     code = call(self.handle, *arguments, byref(name))
+                else:
+                    code = self.keeper.made(self, call, (*arguments, byref(name)))
                 if code == DONE:
-                    self.codecs[name.value] = codec
+                    self.codecs.setdefault(name.value, codec)
                 if self._parked:
                     self._wake_next()
         except BaseException:
@@ -173,21 +207,26 @@ class Room:
             self._let_dropped_leave()
         if code != DONE:
             raise errors.of_code(code, of)
+        self.name_codec(name.value, codec)
         return name.value
+
+    def name_codec(self, number: int, codec: Codec[Any]) -> None:
+        """Have an object's messages be of this type. Raises `TypeError` if they are of another."""
+        known = self.codecs.setdefault(number, codec)
+        if known is not codec:
+            raise TypeError(f"the messages of object {number} are {known.type.__name__}")
 
     def poll(self, call: Callable[..., int], *arguments: Any) -> Tuple[int, bytes]:
         """Make a call that never blocks, and if it is done hands a message over."""
-        if garbage.thread is not None:
+        if locks.collector is not None:
             self._refuse_in_a_call()
         try:
             with self.lock:
-                if self.keeper:
-                    self.keeper.hand_over()
-                code = call(self.handle, *arguments, self._at_message)
-                if code == _FULL and self.keeper:
-                    self.keeper.cut(self)
+                if self.keeper is None:
                     code = call(self.handle, *arguments, self._at_message)
-                data = library.taken_over(self._message) if code == DONE else b""
+                else:
+                    code = self.keeper.made(self, call, (*arguments, self._at_message))
+                data = library.taken_over(self.message) if code == DONE else b""
                 if self._parked:
                     self._wake_next()
         except BaseException:
@@ -202,7 +241,7 @@ class Room:
 
         def looked() -> Tuple[int, bytes]:
             code = call(self.handle, *arguments, self._at_message)
-            return code, library.taken_over(self._message) if code == DONE else b""
+            return code, library.taken_over(self.message) if code == DONE else b""
 
         return self.within(looked)
 
@@ -213,17 +252,15 @@ class Room:
 
         After an exception its caller calls `recover`.
         """
-        if garbage.thread is not None:
+        if locks.collector is not None:
             self._refuse_in_a_call()
         with self.lock:
-            if self.keeper and is_again is FIRST:
-                self.keeper.hand_over()
-            code = call(self.handle, *arguments, is_again, self._at_message)
-            if code == _FULL and self.keeper:
-                self.keeper.cut(self)
-                # The refusal has ended the seat's wait.
-                code = call(self.handle, *arguments, FIRST, self._at_message)
-            data = library.taken_over(self._message) if code == DONE else b""
+            if self.keeper is None:
+                code = call(self.handle, *arguments, is_again, self._at_message)
+            else:
+                all_arguments = (*arguments, is_again, self._at_message)
+                code = self.keeper.made(self, call, all_arguments)
+            data = library.taken_over(self.message) if code == DONE else b""
             if code == PARKED:
                 self._parked.add(seat)
             elif is_again is AGAIN:
@@ -236,7 +273,9 @@ class Room:
 
     def leave(self, seat: c_uint64) -> int:
         """Let a seat leave. This has no entry in the journal, so that it hands none over."""
-        if garbage.is_here():
+        if self.refusal is not None:
+            return DONE
+        if is_collector():
             self.drop(seat.value)
             return DONE
 
@@ -250,7 +289,9 @@ class Room:
 
     def give_up(self, seat: int) -> None:
         """Withdraw a seat's call, and hand on what the seat was woken for."""
-        if garbage.is_here():
+        if self.refusal is not None:
+            return
+        if is_collector():
             self._settle_later(seat, False)
             return
         with self.lock:
@@ -271,7 +312,7 @@ class Room:
 
     def listen_no_more(self, seat: int) -> None:
         """Have a seat's bell rung again. Within a collection, `give_up` does that later."""
-        if not garbage.is_here():
+        if self.refusal is None and not is_collector():
             self.within(lambda: self._listeners.pop(seat, None))
 
     def ring(self, seat: int) -> None:
@@ -283,14 +324,14 @@ class Room:
 
     def recover(self, *seats: int) -> None:
         """After an exception in a call, withdraw the call of this seat, and wake all that wait."""
-        if self._is_in_a_call():
+        if self.refusal is not None or self._is_in_a_call():
             # It was refused, and has done nothing.
             return
         while True:
             try:
                 free(self.lock)
                 with self.lock:
-                    self._wake_all(seats)
+                    self._recover(seats)
                 if self._dropped:
                     self._let_dropped_leave()
                 return
@@ -303,7 +344,29 @@ class Room:
 
         The collector runs in the midst of any method, so this very thread may have the lock.
         """
-        self._settle_later(seat, True)
+        if self.refusal is None:
+            self._settle_later(seat, True)
+
+    def refuse(self, error: Type[errors.SeryugoError]) -> None:
+        """Have each call from now on fail with this error, before it takes the lock.
+
+        A thread that waits for the lock still gets it.
+        """
+        self.refusal = error
+        self.lock = Refusing(error)
+
+    def refuse_in_child(self) -> None:
+        """Do so in a forked child. Another thread may have been in a call, so nothing is freed."""
+        self.refuse(errors.Forked)
+        self._end.detach()
+
+    def wake_all(self) -> None:
+        """Wake all threads and tasks that wait, so that they make their calls again.
+
+        Its caller has the lock.
+        """
+        for seat in tuple(self._parked):
+            self._ring(seat)
 
     def _settle_later(self, seat: int, leaves: bool) -> None:
         """Withdraw a seat's call, and let it leave, now or as soon as the lock is free."""
@@ -313,7 +376,7 @@ class Room:
 
     def _is_in_a_call(self) -> bool:
         """Return whether Python collects here, and this thread may have the lock."""
-        return garbage.is_here() and is_held(self.lock)
+        return is_collector() and is_held(self.lock)
 
     def _refuse_in_a_call(self) -> None:
         if self._is_in_a_call():
@@ -341,11 +404,12 @@ class Room:
             self._wake_next()
             self._dropped.popleft()
 
-    def _wake_all(self, withdrawn: Tuple[int, ...]) -> None:
+    def _recover(self, withdrawn: Tuple[int, ...]) -> None:
         for seat in withdrawn:
             self._withdraw(seat)
-        for seat in tuple(self._parked):
-            self._ring(seat)
+        if self.keeper is not None:
+            self.keeper.settle(self)
+        self.wake_all()
 
     def _end_wait(self, seat: int, code: int) -> None:
         if code == errors.NoMemory.code:

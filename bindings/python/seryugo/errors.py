@@ -141,10 +141,108 @@ class TextOpen(Torn):
 
 
 class TooLong(SeryugoError):
-    """A journal isn't written as text, since no reader would take the line of a message."""
+    """No reader would take the line that a message has in a journal's text.
+
+    A journal in a file takes 371,000 bytes of a message, and of both messages of a swap.
+    """
 
     code = 20
     words = "a message of the journal is so long that no reader would take its line"
+
+
+class BoardClosed(SeryugoError):
+    """The switchboard was closed."""
+
+    words = "the switchboard was closed"
+
+
+class KeptInFile(SeryugoError):
+    """The journal is kept in a file, which alone cuts it."""
+
+    words = "the journal is kept in a file, which alone cuts it"
+
+
+class NoJournal(SeryugoError):
+    """The file isn't a journal. It stays as it was."""
+
+    code = 23
+    words = "the file is no journal"
+
+
+class FileBusy(SeryugoError):
+    """Another switchboard or another program has the file open."""
+
+    code = 24
+    words = "another switchboard or program has the file"
+
+
+class OtherVersion(SeryugoError):
+    """The file is a journal of a version that this library doesn't know. It stays as it was."""
+
+    code = 25
+    words = "the journal is of another version"
+
+
+class OtherMessages(SeryugoError):
+    """The messages of the file's journal are numbers, not bytes. It stays as it was."""
+
+    code = 26
+    words = "the journal has messages of another type"
+
+
+class BeginsLater(SeryugoError):
+    """The file's journal begins after a cut: its objects aren't known. It stays as it was."""
+
+    code = 27
+    words = "the journal begins after a cut"
+
+
+class _FileError(SeryugoError, OSError):
+    """The system refused something. `errno` is its number, or `None` if it gave none."""
+
+    def __init__(
+        self, words: Optional[str] = None, number: int = 0, path: Optional[str] = None
+    ) -> None:
+        self._all = (words, number, path)
+        words = words or self.words
+        if number:
+            OSError.__init__(self, number, words, path)
+        else:
+            OSError.__init__(self, f"{path}: {words}" if path else words)
+
+    def __reduce__(self) -> Tuple[Any, ...]:
+        return type(self), self._all
+
+
+class FileFailed(_FileError):
+    """The system refused a call on the file while it was opened. What it has is still there."""
+
+    code = 28
+    words = "the file can't be opened"
+
+
+class FileFull(_FileError):
+    """The disk is full, or the file may not grow. The call wasn't made: make it again later."""
+
+    code = 29
+    words = "there is no room for the journal's file"
+
+
+class FileLost(_FileError):
+    """The file has failed, or another program changed it. Each later call fails so too.
+
+    Nobody knows whether this call is in the file. Close the switchboard, and open the file again.
+    """
+
+    code = 30
+    words = "the file has failed, or was changed"
+
+
+class Forked(SeryugoError):
+    """The switchboard is the parent's: a process that was forked can't use it."""
+
+    code = 31
+    words = "a process that was forked can't use the switchboard of its parent"
 
 
 _KINDS = (
@@ -158,10 +256,16 @@ _KINDS = (
     NoMemory,
     OutOfBounds,
     TooLong,
+    NoJournal,
+    FileBusy,
+    OtherVersion,
+    OtherMessages,
+    BeginsLater,
+    FileFailed,
+    FileFull,
+    FileLost,
+    Forked,
 )
-
-# What the library returns for a text that is no journal.
-NO_JOURNAL = 23
 
 # What the library returns for an object that Python has collected, in a cycle with its user.
 COLLECTED = 15
@@ -182,3 +286,16 @@ def of_code(code: int, named: object = None) -> SeryugoError:
     if named is not None and kind in (NoSuch, WrongKind):
         return kind(f"{kind.words}: {named!r}")
     return kind()
+
+
+def of_file(code: int, path: str, words: Optional[str], number: int) -> SeryugoError:
+    """Return the error for what a call on a journal's file has returned.
+
+    It has the cause in words and as errno, or 0, if the library gave them.
+    """
+    kind = _BY_CODE.get(code)
+    if kind is None:
+        return of_code(code)
+    if issubclass(kind, _FileError):
+        return kind(words, number, path)
+    return kind(f"{path}: {words}" if words else None)

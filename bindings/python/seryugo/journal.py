@@ -15,8 +15,11 @@ from ._calls import ON_NO_OBJECT, WITH_MESSAGE
 from ._calls import CallKind as CallKind
 from ._library import DONE
 from ._messages import BYTES, Codec, Message, read_by
-from ._start import UNWRITTEN, Start, at_nothing
 from ._unpicklable import Unpicklable
+
+
+# What a count has until the library writes it. No list is so long.
+_UNWRITTEN = 2**64 - 1
 
 
 class MakerKind(enum.Enum):
@@ -97,6 +100,48 @@ def entry_of(found: library.Entry, codecs: Dict[int, Codec[Any]]) -> Entry:
         library.entry_free(found)
 
 
+class Start:
+    """A text begins with a short journal, or with nothing.
+
+    A call that makes a later start has the library write its length, or cut the journal. Since a
+    signal's handler may raise an exception as soon as the library returns, the length or the cut
+    says whether it did.
+    """
+
+    def __init__(
+        self, cut: int, length: c_uint64, is_made: Optional[Callable[[], bool]] = None
+    ) -> None:
+        """Begin with a short journal of this length, which stands for this many entries."""
+        self._cut = cut
+        self._length = length
+        self._is_made = is_made or (lambda: length.value != _UNWRITTEN)
+        self._later: Optional[Start] = None
+
+    def follow_by(self, later: Start) -> None:
+        """Name the start that a call is to make."""
+        self._later = later
+
+    def latest(self) -> Start:
+        """Return the start that was made last: this one or the one that follows."""
+        later = self._later
+        return later if later is not None and later._is_made() else self
+
+    def settled(self) -> Start:
+        """Return the latest start. A later one that isn't made by now is never made."""
+        latest = self.latest()
+        latest._later = None
+        return latest
+
+    def place(self, position: int) -> int:
+        """Return where an entry is in the text. Its position counts since the room was made."""
+        return position - self._cut + self._length.value
+
+
+def at_nothing() -> Start:
+    """Return the start of a text that begins with a room's first entry."""
+    return Start(0, c_uint64())
+
+
 class Journal(Unpicklable):
     """The entries that a switchboard's journal had when it was taken, oldest first.
 
@@ -170,7 +215,7 @@ class Journal(Unpicklable):
 
         Until the library writes how many it has, nothing is begun.
         """
-        self._count.value = UNWRITTEN
+        self._count.value = _UNWRITTEN
         return Start(cut, self._count)
 
     def _begin_once_cut(self, cut: int, room: Any) -> Start:

@@ -3,6 +3,7 @@
 from __future__ import annotations
 
 import asyncio
+import operator
 import threading
 import time
 import warnings
@@ -13,8 +14,8 @@ from typing import Any, AsyncIterator, Callable, Iterator, Optional, Tuple, Type
 from . import _awaiting, errors
 from . import _calls as calls
 from . import _fast_calls as fast_calls
-from ._library import CLOSED, DONE, NOTHING, PARKED, PUT
-from ._messages import T, codec_of
+from ._library import CLOSED, DONE, MOST, NOTHING, PARKED, PUT
+from ._messages import Codec, T, codec_of
 from ._room import AGAIN, FIRST, Room
 from ._unpicklable import Unpicklable
 from .objects import Channel, IVar, Mailbox, MVar, Object, Port, Source, Variable, name_in
@@ -57,7 +58,7 @@ class Seat(Unpicklable):
         self.leave()
 
     def __del__(self) -> None:
-        if not getattr(self, "_has_left", True):
+        if not getattr(self, "_has_left", True) and self._room.refusal is None:
             self._has_left = True
             self._room.drop(self.number)
             # Last, since a filter may make an exception of it.
@@ -106,6 +107,30 @@ class Seat(Unpicklable):
         data = codec.encode(initial)
         name = self._room.make(codec, calls.mvar_init, self._seat, data, c_size_t(len(data)))
         return MVar(self._room, name, codec)
+
+    # What finds an object, or makes it. Objects have numbers from 0 on, in the order in which they
+    # are made. Fails with `WrongKind` if another object has the number, and with `NoSuch` if no
+    # object has the number before. Two threads that call it at once get one object.
+
+    def mailbox_again(self, number: int, of: Type[T]) -> Mailbox[T]:
+        """Find the mailbox of this number, or make it if it would be the next object."""
+        codec, make = codec_of(of), calls.new_mailbox
+        return Mailbox(self._room, self._again(number, codec, calls.MAILBOX, make), codec)
+
+    def channel_again(self, number: int, of: Type[T]) -> Channel[T]:
+        """Find the channel of this number, or make it if it would be the next object."""
+        codec, make = codec_of(of), calls.new_channel
+        return Channel(self._room, self._again(number, codec, calls.CHANNEL, make), codec)
+
+    def ivar_again(self, number: int, of: Type[T]) -> IVar[T]:
+        """Find the i-variable of this number, or make it if it would be the next object."""
+        codec, make = codec_of(of), calls.new_ivar
+        return IVar(self._room, self._again(number, codec, calls.IVAR, make), codec)
+
+    def mvar_again(self, number: int, of: Type[T]) -> MVar[T]:
+        """Find the m-variable of this number, or make an empty one if it would be the next."""
+        codec, make = codec_of(of), calls.new_mvar
+        return MVar(self._room, self._again(number, codec, calls.MVAR, make), codec)
 
     def port(self, channel: Channel[T]) -> Port[T]:
         """Make a port of a channel, which receives what is multicast from now on."""
@@ -257,6 +282,19 @@ class Seat(Unpicklable):
 
     def _recover(self) -> None:
         self._room.recover()
+
+    def _again(
+        self, number: int, codec: Codec[Any], kind: int, make: Callable[..., int]
+    ) -> int:
+        number = operator.index(number)
+        if not 0 <= number <= MOST:
+            raise errors.NoSuch
+        try:
+            return self._room.make(codec, calls.again(kind, number, make), self._seat)
+        except errors.NoSuch:
+            raise errors.NoSuch(f"object {number} isn't there, nor the one before it") from None
+        except errors.WrongKind:
+            raise errors.WrongKind(f"object {number} is of another kind") from None
 
     def _port(self, call: Callable[..., int], of: Union[Channel[T], Port[T]]) -> Port[T]:
         name = self._room.make(of._codec, call, self._seat, name_in(self._room, of), of=of)

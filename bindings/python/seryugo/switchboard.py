@@ -9,11 +9,12 @@ from typing import Any, Callable, Iterable, Optional, Type, TypeVar, Union
 
 from . import _library as library
 from . import errors
-from ._keeping import Keeper, Sink
-from ._library import DONE, NOTHING
-from ._prefix import ValidPrefix
+from ._calls import CHANNEL, IVAR, MAILBOX, MVAR, PORT
+from ._journal_file import FileKeeper, Path, Recovered
+from ._keeping import Sink, SinkKeeper
+from ._library import DONE, MOST, NOTHING
 from ._messages import Codec, T, codec_of
-from ._restoring import restored
+from ._restoring import ValidPrefix, restored
 from ._room import Room
 from ._unpicklable import Unpicklable
 from .journal import Entry, Journal, entry_of
@@ -33,11 +34,8 @@ from .seat import Seat
 
 R = TypeVar("R")
 
-# What the library takes as a number. ctypes drops what a larger one has above its 64 bits.
-_MOST = 2**64 - 1
-
-# The kinds of objects, as the library numbers them.
-_MAILBOX, _CHANNEL, _PORT, _IVAR, _MVAR = range(5)
+# Of seconds between two syncs. That is thirty years.
+_LONGEST = 1e9
 
 
 class Switchboard(Unpicklable):
@@ -52,10 +50,20 @@ class Switchboard(Unpicklable):
     `when_full` must not call the switchboard: it would wait for ever. If Ctrl-C comes just as it
     returns, it may be called with the same journal once more, which has the same `start`.
 
-    At the end of a `with` block it hands the journal's last entries to `when_full`, by `keep`.
+    At the end of a `with` block it hands the journal's last entries to `when_full`, by `keep`. If
+    the journal is kept in a file (`open`), the file takes all entries, so that the limit fails no
+    call, and the end of a `with` block closes the switchboard. Nothing else cuts that journal: what
+    would fails with `KeptInFile`.
     """
 
     _instead = "pickle the text of its journal, and restore it"
+
+    # What takes the entries, if something does.
+    _sink: Optional[SinkKeeper] = None
+    _file: Optional[FileKeeper] = None
+
+    _restored_from: Optional[ValidPrefix] = None
+    _recovered: Optional[Recovered] = None
 
     def __init__(self, limit: int = 65_536, when_full: Optional[Sink] = None) -> None:
         room = library.Handle()
@@ -63,7 +71,6 @@ class Switchboard(Unpicklable):
         if code != DONE:
             raise errors.of_code(code)
         self._room = Room(room)
-        self._restored_from: Optional[ValidPrefix] = None
         self._keep_by(when_full)
 
     def __enter__(self) -> Switchboard:
@@ -75,7 +82,16 @@ class Switchboard(Unpicklable):
         error: Optional[BaseException],
         trace: Optional[TracebackType],
     ) -> None:
-        self.keep()
+        self.close()
+
+    @classmethod
+    def _open(cls, path: Path, limit: int, options: library.FileOptions) -> Switchboard:
+        board = cls.__new__(cls)
+        # They have what the library opens, from the moment on at which it does.
+        board._room = room = Room(library.Handle(), is_fast=False)
+        board._file = room.keeper = FileKeeper(room, path)
+        board._recovered = board._file.open(_bounded(limit), options)
+        return board
 
     @classmethod
     def restore(
@@ -102,6 +118,11 @@ class Switchboard(Unpicklable):
         return board
 
     @property
+    def recovered(self) -> Optional[Recovered]:
+        """What `open` found in the journal's file, or None without a file."""
+        return self._recovered
+
+    @property
     def restored_from(self) -> Optional[ValidPrefix]:
         """What is kept of the text that this was restored from, or None if it began at nothing.
 
@@ -111,23 +132,23 @@ class Switchboard(Unpicklable):
 
     def mailbox(self, number: int, of: Type[T]) -> Mailbox[T]:
         """Name the mailbox of this number again. `of` is the type that its messages had."""
-        return Mailbox(self._room, number, self._codec(number, _MAILBOX, of))
+        return Mailbox(self._room, number, self._codec(number, MAILBOX, of))
 
     def channel(self, number: int, of: Type[T]) -> Channel[T]:
         """Name the channel of this number again."""
-        return Channel(self._room, number, self._codec(number, _CHANNEL, of))
+        return Channel(self._room, number, self._codec(number, CHANNEL, of))
 
     def port(self, number: int, of: Type[T]) -> Port[T]:
         """Name the port of this number again."""
-        return Port(self._room, number, self._codec(number, _PORT, of))
+        return Port(self._room, number, self._codec(number, PORT, of))
 
     def ivar(self, number: int, of: Type[T]) -> IVar[T]:
         """Name the i-variable of this number again."""
-        return IVar(self._room, number, self._codec(number, _IVAR, of))
+        return IVar(self._room, number, self._codec(number, IVAR, of))
 
     def mvar(self, number: int, of: Type[T]) -> MVar[T]:
         """Name the m-variable of this number again."""
-        return MVar(self._room, number, self._codec(number, _MVAR, of))
+        return MVar(self._room, number, self._codec(number, MVAR, of))
 
     def seat(self) -> Seat:
         """Make a seat.
@@ -174,7 +195,7 @@ class Switchboard(Unpicklable):
 
         If Ctrl-C comes just as it returns, call it again: the next short journal stands for all.
         """
-        room = self._room
+        room = self._room_to_cut()
 
         def compacted() -> Journal:
             entries = c_uint64()
@@ -183,8 +204,8 @@ class Switchboard(Unpicklable):
             # The journal is cut after the last entry that there is now.
             room.text_start().follow_by(journal._begin(entries.value))
             journal._shorten(room.handle, library.compact_and_cut)
-            if room.keeper:
-                room.keeper.forget()
+            if self._sink:
+                self._sink.forget()
             return journal
 
         return room.within(compacted)
@@ -200,7 +221,7 @@ class Switchboard(Unpicklable):
         If Ctrl-C comes just as `keep` returns, what it wrote may stand for nothing yet: call this
         again.
         """
-        room = self._room
+        room = self._room_to_cut()
 
         def compacted() -> R:
             entries = c_uint64()
@@ -211,37 +232,67 @@ class Switchboard(Unpicklable):
             begun = journal._begin_once_cut(entries.value, room.handle)
             room.text_start().follow_by(begun)
             library.cut_open(room.handle)
-            if room.keeper:
-                room.keeper.forget()
+            if self._sink:
+                self._sink.forget()
             return kept
 
         return room.within(compacted)
 
     def keep(self) -> None:
         """Cut the journal now, and hand its entries to `when_full`. Without one do nothing."""
-        room, keeper = self._room, self._room.keeper
-        if keeper is not None:
-            cut = keeper.cut
+        room, sink = self._room_to_cut(), self._sink
+        if sink is not None:
+            cut = sink.cut
             room.within(lambda: cut(room))
+
+    def sync(self) -> None:
+        """Wait until the entries of all calls that returned are on the disk.
+
+        Blocks for as long as the disk takes, and other threads may call meanwhile. Fails with
+        `FileLost` if that can't be done. Without a file do nothing.
+        """
+        if self._room.refusal is not None:
+            raise self._room.refusal
+        if self._file is None:
+            return
+        try:
+            self._file.sync()
+        except errors.FileLost:
+            # Nobody's call will be kept, so nobody waits.
+            self._room.recover()
+            raise
+
+    def close(self) -> None:
+        """Store what is pending, sync the file, and close it. Later calls fail with `BoardClosed`.
+
+        Blocks for as long as the disk takes. Calls that wait fail so too, and seats need not leave.
+        Fails with `FileLost` or `FileFull` if entries aren't on the disk; the file is closed in any
+        case. Do nothing if it was closed, or in a child of a fork. Without a file do what `keep`
+        does, and close nothing.
+        """
+        if self._file is None:
+            self.keep()
+        elif self._room.refusal is not errors.Forked:
+            self._file.close(self._room)
 
     def cut(self) -> None:
         """Cut the journal: drop its entries, so that it takes as many again.
 
         The objects keep what they have. Entries that `when_full` didn't take are dropped too.
         """
-        self._room.within(lambda: self._cut(library.cut))
+        self._room_to_cut().within(lambda: self._cut(library.cut))
 
     def cut_open(self) -> None:
         """Cut the journal also while lanes and feeds are open, which go on.
 
         This package opens none, so that here it does what `cut` does.
         """
-        self._room.within(lambda: self._cut(library.cut_open))
+        self._room_to_cut().within(lambda: self._cut(library.cut_open))
 
     def reserve(self, entries: int) -> None:
         """Allocate memory for this many more entries."""
         entries = operator.index(entries)
-        if not 0 <= entries <= _MOST:
+        if not 0 <= entries <= MOST:
             raise errors.NoMemory
         code = self._room.do(library.reserve, entries)
         if code != DONE:
@@ -256,7 +307,7 @@ class Switchboard(Unpicklable):
         found = library.Entry()
         code = errors.NoSuch.code
         position = operator.index(position)
-        if 0 <= position <= _MOST:
+        if 0 <= position <= MOST:
             code = self._room.do(library.entry, position, byref(found))
         if code == errors.NoSuch.code:
             raise errors.NoSuch(f"the journal has no entry at position {position}")
@@ -315,14 +366,20 @@ class Switchboard(Unpicklable):
 
     def _keep_by(self, sink: Optional[Sink]) -> None:
         if sink is not None:
-            self._room.keeper = Keeper(sink, self._room.unwritten)
+            self._sink = self._room.keeper = SinkKeeper(sink, self._room.unwritten)
+
+    def _room_to_cut(self) -> Room:
+        """Return the room. Fails with `KeptInFile` if a file alone cuts its journal."""
+        if self._file is not None:
+            raise errors.KeptInFile
+        return self._room
 
     def _taken(self, take: Callable[..., int]) -> Journal:
-        room = self._room
+        room = self._room_to_cut()
 
         def taken() -> Journal:
-            if room.keeper:
-                room.keeper.hand_over()
+            if self._sink:
+                self._sink.hand_over()
             journal = Journal(room.codecs, room.text_start())
             journal._take(room.handle, take)
             return journal
@@ -334,19 +391,17 @@ class Switchboard(Unpicklable):
         code = cut(self._room.handle)
         if code != DONE:
             raise errors.of_code(code)
-        if self._room.keeper:
-            self._room.keeper.forget()
+        if self._sink:
+            self._sink.forget()
 
     def _codec(self, number: int, kind: int, of: Type[T]) -> Codec[T]:
         """Return the codec of an object of this kind."""
         codec = codec_of(of)
-        if not 0 <= operator.index(number) <= _MOST:
+        if not 0 <= operator.index(number) <= MOST:
             raise errors.NoSuch
         if self._room.count(library.kind, number) != kind:
             raise errors.WrongKind(f"object {number} is of another kind")
-        known = self._room.codecs.setdefault(number, codec)
-        if known is not codec:
-            raise TypeError(f"the messages of object {number} are {known.type.__name__}")
+        self._room.name_codec(number, codec)
         return codec
 
     def _name(self, named: Object[Any]) -> c_uint64:
@@ -356,6 +411,37 @@ class Switchboard(Unpicklable):
 def _bounded(limit: int) -> int:
     """Return a limit. The library tests it too, but sees 64 bits of it alone."""
     limit = operator.index(limit)
-    if not 0 < limit <= _MOST:
+    if not 0 < limit <= MOST:
         raise errors.OutOfBounds
     return limit
+
+
+def open(
+    path: Path, limit: int = 65_536, *, sync_every: Optional[float] = 1.0
+) -> Switchboard:
+    """Open a switchboard whose journal is kept in a file: each call that returned survives a kill.
+
+    It makes the file, or goes on where its journal ends: with its objects, and what waits in them.
+    Find these by `mailbox_again` and its like. `recovered` says what was found. Close it, or use
+    it in a `with` block.
+
+    After a loss of power the file has what was synced, and a beginning of the rest. A thread syncs
+    it each `sync_every` seconds. With `None` it is synced by `sync` and `close`, and where 32 MiB
+    aren't synced yet. A call waits for the disk only where 64 MiB aren't.
+
+    These leave the file as it was: `FileBusy`, `NoJournal`, `OtherVersion`, `OtherMessages`,
+    `BeginsLater`, and `Fault` or `Unlawful` if the journal was changed. So does `OutOfBounds`. If
+    it fails with `FileFailed` or `NoMemory`, all entries are still there.
+
+    A call on it may fail with `FileFull`, `FileLost` or `TooLong`. A child of a fork can make none.
+    """
+    return Switchboard._open(path, limit, library.FileOptions(_milliseconds(sync_every), 0, 0))
+
+
+def _milliseconds(seconds: Optional[float]) -> int:
+    """Return how often a file is synced, as the library takes it."""
+    if seconds is None:
+        return 0
+    if not 0 < seconds < _LONGEST:
+        raise ValueError(f"a file is synced each so many seconds, more than 0, and not {seconds}")
+    return max(1, round(seconds * 1000))

@@ -1,14 +1,11 @@
 """Full journals that a switchboard cuts by itself."""
 
-import errno
-import os
-import tempfile
 import threading
 import unittest
 import weakref
 from unittest import mock
 
-from seryugo import JournalFull, Switchboard, TooLong, _library, append_to, drop_entries
+from seryugo import JournalFull, Switchboard, TooLong, _library, drop_entries
 
 
 class Sink:
@@ -103,16 +100,6 @@ class Keeping(unittest.TestCase):
             self.assertEqual(board.held(variable), 5)
         self.assertEqual(self.sink.failures, 2)
 
-    @unittest.skipUnless(os.path.exists("/dev/full"), "there is no full device")
-    def test_a_full_disk_is_told_as_such(self):
-        with open("/dev/full", "wb", buffering=0) as file:
-            board = Switchboard(1, when_full=append_to(file))
-            with board.seat() as seat:
-                seat.mailbox(int)
-            with self.assertRaises(OSError) as refused:
-                board.keep()
-        self.assertEqual(refused.exception.errno, errno.ENOSPC)
-
     def test_what_is_kept_goes_before_what_is_taken(self):
         board = Switchboard(1, when_full=self.sink)
         with board.seat() as seat:
@@ -160,55 +147,19 @@ class Keeping(unittest.TestCase):
         del board
         self.assertIsNone(room())
 
-    def test_a_file_is_gone_on_from(self):
-        with tempfile.TemporaryFile() as file:
-            board = Switchboard(3, when_full=append_to(file))
-            with board.seat() as seat:
-                mailbox = seat.mailbox(str)
-                for number in range(10):
-                    seat.send(mailbox, str(number))
-            board.keep()
-            file.seek(0)
-            board = Switchboard.restore(file, 3, when_full=append_to(file))
-            with board.seat() as seat:
-                mailbox = board.mailbox(0, str)
-                self.assertEqual([seat.recv(mailbox) for _ in range(10)], list("0123456789"))
-            board.keep()
-            file.seek(0)
-            self.assertEqual(Switchboard.restore(file).entries, 21)
-
-    def test_no_piece_is_written_after_a_gap(self):
-        with tempfile.TemporaryFile() as file:
-            sink = append_to(file)
-            board = Switchboard(3, when_full=sink)
-            with board.seat() as seat:
-                mailbox = seat.mailbox(int)
-                for number in range(4):
-                    seat.send(mailbox, number)
-                taken = board.take_journal()
-                seat.send(mailbox, 4)
-                for _ in range(2):
-                    with self.assertRaisesRegex(ValueError, "lacks entries before"):
-                        board.keep()
-                sink(taken)
-                seat.send(mailbox, 5)
-            board.keep()
-            file.seek(0)
-            self.assertEqual(Switchboard.restore(file).entries, 7)
-
-    def test_no_file_begins_with_a_gap(self):
-        with tempfile.TemporaryFile() as file:
-            board = Switchboard(10, when_full=append_to(file))
-            with board.seat() as seat:
-                mailbox = seat.mailbox(int)
-                board.cut()
-                seat.send(mailbox, 1)
-            with self.assertRaisesRegex(ValueError, "lacks entries before"):
-                board.keep()
-            board.compact_with(append_to(file))
-            file.seek(0)
-            restored = Switchboard.restore(file)
-        self.assertEqual(len(restored.mailbox(0, int)), 1)
+    def test_a_text_is_gone_on_from(self):
+        board = Switchboard(3, when_full=self.sink)
+        with board.seat() as seat:
+            mailbox = seat.mailbox(str)
+            for number in range(10):
+                seat.send(mailbox, str(number))
+        board.keep()
+        board = Switchboard.restore([self.sink.text], 3, when_full=self.sink)
+        with board.seat() as seat:
+            mailbox = board.mailbox(0, str)
+            self.assertEqual([seat.recv(mailbox) for _ in range(10)], list("0123456789"))
+        board.keep()
+        self.assertEqual(self.sink.entries(), 21)
 
     def test_a_cut_drops_entries_that_no_sink_can_take(self):
         board = Switchboard(2, when_full=self.sink)

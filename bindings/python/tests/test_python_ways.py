@@ -1,12 +1,24 @@
 """What a user of Python expects of any object: loops, lengths, `with`, pickles and copies."""
 
 import copy
+import errno
 import pickle
 import threading
 import unittest
 
 import seryugo
-from seryugo import Checker, Closed, Fault, NoSuch, Switchboard, Unlawful, Unreadable
+from seryugo import (
+    Checker,
+    Closed,
+    Fault,
+    FileBusy,
+    FileFailed,
+    FileLost,
+    NoSuch,
+    Switchboard,
+    Unlawful,
+    Unreadable,
+)
 
 
 class Ways(unittest.TestCase):
@@ -81,7 +93,19 @@ class Ways(unittest.TestCase):
 
     def test_errors_are_pickled(self):
         unreadable = Unreadable("utf-8", b"\xff", 0, 1, "invalid start byte")
-        for error in Closed(), Unlawful(3), Fault(7), Fault(1, "why"), unreadable:
+        failed = FileFailed("open the file", errno.EACCES, "letters.journal")
+        lost = FileLost("the file was cut by others", 0, "letters.journal")
+        for error in (
+            Closed(),
+            Unlawful(3),
+            Fault(7),
+            Fault(1, "why"),
+            unreadable,
+            FileBusy("why"),
+            failed,
+            lost,
+            FileLost(),
+        ):
             for again in pickle.loads(pickle.dumps(error)), copy.copy(error):
                 self.assertEqual(
                     (type(again), str(again), vars(again)), (type(error), str(error), vars(error))

@@ -1,11 +1,8 @@
 """Journals with sums: each damage is seen, and torn ones are gone on from."""
 
-import os
-import tempfile
 import unittest
-from unittest import mock
 
-from seryugo import Fault, Switchboard, TooLong, Torn, Unlawful, ValidPrefix, _appending, append_to
+from seryugo import Fault, Switchboard, TooLong, Torn, Unlawful, ValidPrefix
 
 
 def pieces():
@@ -58,9 +55,7 @@ class Sealed(unittest.TestCase):
         for at in range(len(self.text) - 1):
             changed = bytearray(self.text)
             changed[at] ^= 1 << at % 7
-            # A byte 0 ends the text.
-            seen = (Fault, Unlawful) if changed[at] else Torn
-            with self.subTest(at=at), self.assertRaises(seen):
+            with self.subTest(at=at), self.assertRaises((Fault, Unlawful)):
                 Switchboard.restore([bytes(changed)])
         with self.assertRaises(Torn):
             Switchboard.restore([self.text[:-1]])
@@ -115,140 +110,6 @@ class Sealed(unittest.TestCase):
             seat.send(seat.mailbox(bytes), bytes(2_000_000))
         with self.assertRaises(TooLong):
             board.take_journal().sealed_text(None)
-
-
-class Appended(unittest.TestCase):
-    def setUp(self):
-        self.file = tempfile.NamedTemporaryFile(buffering=0)
-        self.addCleanup(self.file.close)
-
-    def text(self):
-        return os.pread(self.file.fileno(), 1 << 20, 0)
-
-    def write(self, file=None):
-        """Go on from the file, and make some calls, whose journal the file takes."""
-        text = [self.text()]
-        sink = append_to(file or self.file)
-        board = Switchboard.restore(text, 2, True, sink) if text[0] else Switchboard(2, sink)
-        with board.seat() as seat:
-            for _ in range(5):
-                seat.mailbox(int)
-        board.keep()
-
-    def test_a_file_goes_on_as_it_began(self):
-        for begun, entries in ((b"", 0), (b"journal 2\nseat 0 mailbox: made 0\nend 1\n", 1)):
-            self.file.seek(0)
-            self.file.truncate()
-            self.file.write(begun)
-            for _ in range(3):
-                self.write()
-            board = Switchboard.restore([self.text()])
-            self.assertEqual(board.entries, entries + 15)
-            self.assertEqual(board.restored_from.sum is None, begun != b"")
-
-    def test_a_new_file_need_not_be_read(self):
-        with open(self.file.name, "wb") as file:
-            self.write(file)
-        before = self.text()
-        self.assertEqual(Switchboard.restore([before]).entries, 5)
-        # Else it has to be: nothing is written without the last sum.
-        with open(self.file.name, "ab") as file, self.assertRaises(OSError):
-            self.write(file)
-        self.assertEqual(self.text(), before)
-
-    def test_a_file_goes_on_behind_a_short_journal(self):
-        def put(journal):
-            self.file.truncate(0)
-            self.file.seek(0)
-            self.file.write(journal.sealed_text(None)[0])
-
-        board = Switchboard(2, append_to(self.file))
-        with board.seat() as seat:
-            for _ in range(2):
-                for _ in range(5):
-                    seat.mailbox(int)
-                board.compact_with(put)
-            seat.mailbox(int)
-        board.keep()
-        self.assertEqual(Switchboard.restore([self.text()]).entries, 11)
-
-    def test_the_file_of_another_switchboard_gets_no_piece(self):
-        self.write()
-        before = self.text()
-        board = Switchboard(10, append_to(self.file))
-        with board.seat() as seat:
-            seat.mailbox(int)
-        self.assertRaises(ValueError, board.keep)
-        self.assertEqual(self.text(), before)
-
-    def test_a_torn_file_gets_no_piece(self):
-        last = "0" * 64
-        for torn in (
-            "journal 4\n",
-            "journal 4\nseat 0 mailbox: made 0\nend 1",
-            "x\nend 1 2\n",
-            "x\nend\n",
-            f"x\nend 1 {last}",
-            f"x\nend 1 {last} \n",
-            f"x\nend x {last}\n",
-        ):
-            self.file.seek(0)
-            self.file.truncate()
-            self.file.write(torn.encode())
-            board = Switchboard(10, when_full=append_to(self.file))
-            with board.seat() as seat:
-                seat.mailbox(int)
-            with self.subTest(torn), self.assertRaises(ValueError):
-                board.keep()
-            self.assertEqual(self.text(), torn.encode())
-
-    def test_what_was_not_written_is_written_later(self):
-        board = Switchboard(10, when_full=append_to(self.file))
-        with board.seat() as seat:
-            for fails in (False, True, True, False):
-                seat.mailbox(int)
-                with mock.patch.object(os, "fsync", side_effect=OSError if fails else None):
-                    if fails:
-                        self.assertRaises(OSError, board.keep)
-                    else:
-                        board.keep()
-        self.assertEqual(Switchboard.restore([self.text()]).entries, 4)
-
-    def test_ctrl_c_doubles_no_piece(self):
-        sink = append_to(self.file)
-        kept = []
-
-        def interrupted(journal):
-            sink(journal)
-            if not kept:
-                kept.append(journal)
-                raise KeyboardInterrupt
-
-        board = Switchboard(10, when_full=interrupted)
-        with board.seat() as seat:
-            seat.mailbox(int)
-            with self.assertRaises(KeyboardInterrupt):
-                board.keep()
-            seat.mailbox(int)
-        board.keep()
-        self.assertEqual(Switchboard.restore([self.text()]).entries, 2)
-
-    def test_a_piece_that_was_interrupted_is_written_anew(self):
-        board = Switchboard(10, when_full=append_to(self.file))
-        write = _appending._write
-
-        def interrupted(*arguments):
-            write(*arguments)
-            raise KeyboardInterrupt
-
-        with board.seat() as seat:
-            seat.mailbox(int)
-            with mock.patch.object(_appending, "_write", interrupted):
-                self.assertRaises(KeyboardInterrupt, board.keep)
-            self.assertEqual(self.text(), b"")
-            seat.mailbox(int)
-        board.keep()
-        self.assertEqual(Switchboard.restore([self.text()]).entries, 2)
 
 
 if __name__ == "__main__":

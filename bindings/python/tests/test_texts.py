@@ -88,9 +88,18 @@ class Texts(unittest.TestCase):
         text = b"journal 2\nseat 0 mailbox: made 0\n"
         with self.assertRaises(seryugo.TextOpen):
             Switchboard.restore([text])
-        # What is behind a byte 0 isn't read.
-        board = Switchboard.restore([text + b"\0\0", b"what\n"], is_torn_fine=True)
+        # A byte 0 ends the text.
+        board = Switchboard.restore([text + b"\0\0", b"\0\0"], is_torn_fine=True)
         self.assertEqual(board.restored_from, seryugo.ValidPrefix(1, len(text), b"end 1\n", None))
+
+    def test_nothing_follows_a_byte_0(self):
+        open_text = b"journal 2\nseat 0 mailbox: made 0\n"
+        for text, line in (open_text, 3), (open_text + b"end 1\n", 4), (open_text[:-2], 2):
+            for parts in [text + b"\0what\n"], [text + b"\0", b"\0", b"\0what\n"]:
+                for read in Switchboard.restore, seryugo.compacted:
+                    with self.assertRaisesRegex(seryugo.Fault, "other bytes follow it") as refused:
+                        read(parts, is_torn_fine=True)
+                    self.assertEqual(refused.exception.line, line)
 
     def test_no_journal(self):
         for other in (b'{"precious": 1}', b"journals", b"journal 10", b"\x7fELF"):

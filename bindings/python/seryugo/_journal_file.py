@@ -1,0 +1,235 @@
+"""A journal that is kept in a file, by the library's part in C.
+
+Before each call of a seat the file gets room for its entry. After it the entry is stored, before
+the room's lock is released. So each call that returned survives the end of the process.
+"""
+
+from __future__ import annotations
+
+import os
+import warnings
+import weakref
+from ctypes import byref, c_uint64, c_void_p
+from functools import partial
+from typing import Any, Callable, NamedTuple, Optional, Tuple, Union
+
+from . import _calls as calls
+from . import _library as library
+from . import errors
+from ._library import DONE, NOTHING, PARKED
+from ._lock import free, is_collector, is_held, new_lock
+from ._room import AGAIN, Keeper, Room
+
+Path = Union[str, bytes, "os.PathLike[str]", "os.PathLike[bytes]"]
+
+_TOO_LONG = "a message has more than 371,000 bytes, or both messages of a swap have more"
+
+# The rooms with a file, which a forked child must not use.
+_rooms: weakref.WeakSet[Room] = weakref.WeakSet()
+
+
+def _after_fork() -> None:
+    for room in tuple(_rooms):
+        room.refuse_in_child()
+
+
+os.register_at_fork(after_in_child=_after_fork)
+
+
+class Recovered(NamedTuple):
+    """What opening a journal's file found.
+
+    It read this many `entries` and `lines`, and kept the first `kept` bytes. Behind them it cut
+    off `cut_off` bytes, such as a line whose call never returned, and zeros. If these were more
+    than a line has, the file of the path `saved` has them. `is_new`: there was no file.
+    """
+
+    entries: int
+    lines: int
+    kept: int
+    cut_off: int
+    saved: Optional[str]
+    is_new: bool
+
+
+class FileKeeper(Keeper):
+    """Keeps a room's journal in a file. `made`, `cut` and `settle` need the room's lock."""
+
+    def __init__(self, room: Room, path: Path) -> None:
+        """Keep nothing until `open` has opened the file."""
+        self.path = os.fsdecode(path)
+        self._process = os.getpid()
+        self._handle = room.handle
+        self._room_lock = room.lock
+        self._at = c_void_p()
+        # Whoever takes the file out of this closes it.
+        self._unclosed = {"file": self._at}
+        # Set under the room's lock: then no call uses the file.
+        self._is_closed = False
+        # Held by whoever syncs or closes the file. Only then the room's lock may be taken.
+        self._lock = new_lock()
+        # How many syncs have begun, and the last of them that went well.
+        self._begun = self._synced = 0
+        self._held = library.Bytes()
+        weakref.finalize(room, self._end)
+        _rooms.add(room)
+
+    def open(self, limit: int, options: library.FileOptions) -> Recovered:
+        """Open the file, and the room on what is in it. The library writes both before it returns.
+
+        So they are closed even if a signal's handler raises an exception then.
+        """
+        name, found = os.fsencode(self.path), library.FileFound()
+        if b"\0" in name:
+            raise ValueError("a path has no byte 0")
+        at = (byref(options), self._handle, byref(found), byref(self._at))
+        code = library.file_open(name, library.BYTES, limit, *at)
+        if code != DONE:
+            raise self._refused(code, found)
+        saved = os.fsdecode(found.saved)
+        if saved:
+            saved = os.path.join(os.path.dirname(os.path.realpath(self.path)), saved)
+        return Recovered(
+            found.entries, found.lines, found.kept, found.cut_off, saved or None, found.is_new
+        )
+
+    def made(self, room: Room, call: Callable[..., int], arguments: Tuple[Any, ...]) -> int:
+        """Make a call, and store its entry. It fails if that can't be done."""
+        if self._is_closed:
+            raise errors.BoardClosed
+        if arguments[-2] is AGAIN and self._sleeps_on(arguments[0]):
+            return PARKED
+        size = self._size(call, arguments)
+        code = library.file_reserve(self._at, self._handle, c_uint64(size))
+        if code != DONE:
+            raise self._error(code)
+        code = super().made(room, call, arguments)
+        noted = self._note()
+        if noted != DONE:
+            if code == DONE and getattr(arguments[-1], "_obj", None) is room.message:
+                library.taken_over(room.message)
+            raise self._error(noted)
+        return code
+
+    def cut(self, room: Room) -> None:
+        """Store the entries of calls that a signal's handler interrupted. That cuts the journal."""
+        self._note()
+
+    def settle(self, room: Room) -> None:
+        # If this fails, so does the next call.
+        if not self._is_closed:
+            self._note()
+
+    def sync(self) -> None:
+        """Wait until all that was stored before is on the disk.
+
+        If many threads wait, the second of them syncs for all.
+        """
+        self._refuse_in_a_call()
+        asked = self._begun
+        try:
+            with self._lock:
+                if self._is_closed:
+                    raise errors.BoardClosed
+                if self._synced > asked:
+                    return
+                self._begun = begun = self._begun + 1
+                code = library.file_sync(self._at)
+                if code != DONE:
+                    raise self._error(code)
+                self._synced = begun
+        except BaseException:
+            free(self._lock)
+            raise
+
+    def close(self, room: Room) -> None:
+        """Store what is pending, sync, and close the file. Each later call is refused.
+
+        If it was closed, do nothing. If this fails, the file is closed too.
+        """
+
+        def refuse() -> None:
+            room.refuse(errors.BoardClosed)
+            room.wake_all()
+
+        self._refuse_in_a_call()
+        failure = self._close(refuse)
+        if failure is not None:
+            raise failure
+
+    def _close(self, refuse: Callable[[], None]) -> Optional[errors.SeryugoError]:
+        """Close the file, and return why that failed, if it did."""
+        try:
+            with self._lock:
+                return self._close_once(refuse) if self._unclosed else None
+        except BaseException:
+            free(self._lock)
+            free(self._room_lock)
+            raise
+
+    def _close_once(self, refuse: Callable[[], None]) -> Optional[errors.SeryugoError]:
+        with self._room_lock:
+            code = DONE if self._is_closed else self._note()
+            self._is_closed = True
+            refuse()
+        if code == DONE:
+            code = library.file_sync(self._at)
+        failure = None if code == DONE else self._error(code)
+        # No signal's handler runs between these two steps, so that both are made or neither is.
+        take: Any = self._unclosed.pop
+        closed = list(map(library.file_close, iter(partial(take, "file", None), None)))
+        if failure is None and closed not in ([], [DONE]):
+            failure = errors.FileLost("the file's end was not cut off or not synced", 0, self.path)
+        return failure
+
+    def _end(self) -> None:
+        """Close the file of a room that was dropped, or is still there as the interpreter ends."""
+        if not (self._at and self._unclosed) or os.getpid() != self._process:
+            return
+        failure = self._close(lambda: None)
+        if failure is not None:
+            # The interpreter prints this, since nobody can catch it.
+            raise failure
+        warnings.warn(f"the switchboard of {self.path!r} was not closed", ResourceWarning)
+
+    def _refuse_in_a_call(self) -> None:
+        # This thread may have a lock, in the midst of which Python collects.
+        if is_collector() and (is_held(self._lock) or is_held(self._room_lock)):
+            raise errors.SeryugoError("Python collects a cycle in the midst of another call")
+
+    def _note(self) -> int:
+        """Store all entries that aren't stored yet, and return the code of the library."""
+        return library.file_note(self._at, self._handle, None)
+
+    def _sleeps_on(self, seat: c_uint64) -> bool:
+        """Return whether a seat was woken for nothing, so that the file need not have room."""
+        is_due = library.is_due(self._handle, seat) != NOTHING
+        return not is_due and library.file_state(self._at) == DONE
+
+    def _size(self, call: Callable[..., int], arguments: Tuple[Any, ...]) -> int:
+        """Return how many bytes a call's messages have."""
+        size = 0
+        for given in arguments:
+            if isinstance(given, bytes):
+                size = len(given)
+        if call is calls.swap:
+            if library.held(self._handle, arguments[1], byref(self._held)) == DONE:
+                size += len(library.taken_over(self._held))
+        return size
+
+    def _error(self, code: int) -> errors.SeryugoError:
+        """Return the error of a call on the open file."""
+        if code == errors.TooLong.code:
+            return errors.TooLong(_TOO_LONG)
+        if code not in (errors.FileFull.code, errors.FileLost.code):
+            return errors.of_code(code)
+        return errors.of_file(code, self.path, *library.file_error(self._at))
+
+    def _refused(self, code: int, found: library.FileFound) -> errors.SeryugoError:
+        """Return the error of a file that can't be opened."""
+        words = found.words.decode(errors="replace")
+        if code == errors.Fault.code:
+            return errors.Fault(found.lines + 1, f"{self.path}: {words}")
+        if code == errors.Unlawful.code:
+            return errors.Unlawful(found.entries)
+        return errors.of_file(code, self.path, words, found.error)
