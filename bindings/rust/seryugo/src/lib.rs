@@ -186,6 +186,7 @@ pub use channel::{Messages, Receiver, Sender};
 pub use error::{Error, SendError};
 pub use journal::checker::{CheckError, Checker};
 pub use journal::entry::{Call, Entry, Reply, Who};
+pub use journal::file::{JournalFile, Recovered};
 pub use journal::full::WhenFull;
 #[allow(deprecated)]
 pub use journal::prefix::Kept;

@@ -1,8 +1,8 @@
 //! Each example of `docs/RUST.md` is in this file, so it compiles as it is printed there.
 
-use seryugo::{Error, Mailbox, Object, Request, Seat, Switchboard, WhenFull};
+use seryugo::{Error, Mailbox, Object, Request, Seat, Switchboard};
 use std::error::Error as AnyError;
-use std::fs::{self, File};
+use std::fs;
 use std::path::Path;
 use std::time::Duration;
 
@@ -82,12 +82,6 @@ fn goes_on(board: &Switchboard) -> Ended {
     let mailbox = board.mailbox::<u64>(0)?;
     assert_eq!(mailbox.number(), 0);
     Ok(())
-}
-
-#[allow(dead_code)]
-fn to_a_file(file: File) -> Result<Switchboard, Error> {
-    let board = Switchboard::new(65_536)?.when_full(WhenFull::file(file));
-    Ok(board)
 }
 
 #[cfg(feature = "scripts")]

@@ -6,30 +6,90 @@ use crate::journal::full::{
 };
 use crate::journal::Journal;
 use crate::message::carries::MessageKind;
-use crate::raw::{self, code, done, written, Handle, Reader, Taking};
+use crate::message::kind::{Kind, Misfit, Missing};
+use crate::park::parker::Parker;
+use crate::raw::{self, code, done, written, File, Handle, Reader, Taking};
 use crate::request::answers::Answers;
 use crate::switchboard::expected::Expected;
 use std::collections::BTreeMap;
 use std::io::{self, ErrorKind};
 use std::panic::{self, AssertUnwindSafe};
+use std::sync::Arc;
 
 /// A drain or a pump moves at most this many messages: no ring has room for more.
 pub(crate) const MOST_MOVED: u64 = 1024;
 
-/// What a call returns that isn't made, since nobody took the entries of the last full journal.
-pub(crate) trait Unkept {
-    fn unkept() -> Self;
+/// What a call under the lock returns.
+pub(crate) trait Answer {
+    /// The answer of a call that wasn't made or isn't kept, by this code.
+    fn refused(code: u32) -> Self;
 }
 
-impl Unkept for u32 {
-    fn unkept() -> u32 {
-        code::NOT_KEPT
+impl Answer for () {
+    fn refused(_: u32) {}
+}
+
+impl Answer for u32 {
+    fn refused(code: u32) -> u32 {
+        code
     }
 }
 
-impl<T> Unkept for Result<T, Error> {
-    fn unkept() -> Result<T, Error> {
-        Err(Error::NotKept)
+impl<T> Answer for Result<T, Error> {
+    fn refused(code: u32) -> Result<T, Error> {
+        Err(Error::of_code(code))
+    }
+}
+
+impl<A: Answer, B: Default> Answer for (A, B) {
+    fn refused(code: u32) -> (A, B) {
+        (A::refused(code), B::default())
+    }
+}
+
+/// The messages of a call's line, which a file has to have room for.
+#[derive(Clone, Copy)]
+pub(crate) enum Line {
+    /// None, or one that an earlier line had.
+    Short,
+    /// A message of this many bytes.
+    Message(u64),
+    /// The message of a swap, and the one that the variable holds.
+    Swap { variable: u64, bytes: u64 },
+}
+
+impl Line {
+    fn bytes<R: MessageKind>(self, room: &mut Handle) -> u64 {
+        match self {
+            Line::Short => 0,
+            Line::Message(bytes) => bytes,
+            Line::Swap { variable, bytes } => {
+                let mut held = R::nothing();
+                match R::held(room, variable, &mut held) {
+                    code::DONE => bytes.saturating_add(R::received_length(&held)),
+                    _ => bytes,
+                }
+            }
+        }
+    }
+}
+
+/// A call that may park its seat, or that of a parked seat again.
+#[derive(Clone, Copy)]
+pub(crate) struct Ask {
+    pub seat: u64,
+    pub is_again: bool,
+    pub line: Line,
+}
+
+impl Ask {
+    /// The first ask of a seat, whose line is short.
+    pub fn first(seat: u64) -> Ask {
+        Ask {
+            seat,
+            is_again: false,
+            line: Line::Short,
+        }
     }
 }
 
@@ -46,7 +106,8 @@ pub(crate) struct OpenLane {
 #[repr(C)]
 pub(crate) struct State<R: MessageKind> {
     pub handle: Handle,
-    /// The journal surely has room for this many more. Without a full-journal policy no call asks.
+    /// The journal surely has room for this many more. Without a full-journal policy or a file no
+    /// call asks, and with a file each does.
     spare: u64,
     /// How many seats are parked.
     parked: u64,
@@ -56,6 +117,10 @@ pub(crate) struct State<R: MessageKind> {
     limit: u64,
     /// The policy for a full journal, and the entries that its sink refused.
     pending: Option<PendingJournal<R>>,
+    /// The file that keeps the journal.
+    file: Option<Arc<File>>,
+    /// Whether the file is lost, and all who waited were woken.
+    is_lost: bool,
     /// Where the text begins to which the next piece is added.
     start: Start,
     /// The number of the first seat that was made here. Those of a journal from which the
@@ -84,6 +149,8 @@ impl<R: MessageKind> State<R> {
             limit,
             spare: u64::MAX,
             pending: None,
+            file: None,
+            is_lost: false,
             start: Start::default(),
             first_seat: 0,
             seats: 0,
@@ -97,6 +164,35 @@ impl<R: MessageKind> State<R> {
         }
     }
 
+    /// Keeps the journal in a file, which has let this room go on.
+    pub fn set_file(&mut self, file: Option<Arc<File>>) {
+        self.spare = if file.is_some() { 0 } else { u64::MAX };
+        self.file = file;
+    }
+
+    /// Stores what the room has had since the last time in its file.
+    pub fn note(&mut self) -> u32 {
+        self.file.as_ref().map_or(code::DONE, |file| file.note(&mut self.handle))
+    }
+
+    /// Returns how many parkers are to be woken, if the file was lost just now: those of all seats.
+    pub fn newly_lost(&mut self) -> u64 {
+        let is_lost = self.file.as_ref().is_some_and(|file| file.state() == code::FILE_LOST);
+        if self.is_lost || !is_lost {
+            return 0;
+        }
+        self.is_lost = true;
+        self.seats
+    }
+
+    /// Fails if the journal has a file: it is the file's, and nobody else cuts it.
+    fn without_file(&self) -> Result<(), Error> {
+        match self.file {
+            None => Ok(()),
+            Some(_) => Err(Error::HasFile),
+        }
+    }
+
     /// Sets the full-journal policy.
     pub fn set_when_full(&mut self, when_full: WhenFull<R>) {
         let kept = self.pending.take().and_then(PendingJournal::into_kept);
@@ -104,19 +200,30 @@ impl<R: MessageKind> State<R> {
         self.spare = if self.pending.is_some() { 0 } else { u64::MAX };
     }
 
-    /// Reserves an entry, if a policy is set: cuts a full journal first. Returns `false` if its sink
-    /// refuses the entries. The call fails with `NotKept` then.
+    /// Reserves an entry, if a policy is set or a file is there: cuts a full journal first. `Err`:
+    /// the code by which the call fails.
     #[inline]
-    pub fn makes_room(&mut self) -> bool {
+    pub fn makes_room(&mut self, line: Line) -> Result<(), u32> {
         if self.spare == 0 {
-            return self.looks_for_room().is_ok();
+            return self.looks_for_room(line);
         }
         self.spare -= 1;
-        true
+        Ok(())
     }
 
     #[cold]
-    fn looks_for_room(&mut self) -> Result<(), Error> {
+    fn looks_for_room(&mut self, line: Line) -> Result<(), u32> {
+        let Some(file) = &self.file else {
+            return self.cuts_for_room().map_err(|_| code::NOT_KEPT);
+        };
+        let bytes = line.bytes::<R>(&mut self.handle);
+        match file.reserve(&mut self.handle, bytes) {
+            code::DONE => Ok(()),
+            code => Err(code),
+        }
+    }
+
+    fn cuts_for_room(&mut self) -> Result<(), Error> {
         let Some(pending) = &mut self.pending else {
             return Ok(());
         };
@@ -143,6 +250,7 @@ impl<R: MessageKind> State<R> {
 
     /// Cuts the journal, and does with its entries what is done with those of a full one.
     pub fn keep(&mut self) -> Result<(), Error> {
+        self.without_file()?;
         let is_empty = self.spare_now() == self.limit;
         match &mut self.pending {
             Some(pending) if is_empty => pending.hand_over(),
@@ -154,6 +262,7 @@ impl<R: MessageKind> State<R> {
     /// Cuts the journal, while lanes and feeds may be open if `is_open`, and drops its entries, and
     /// those that nobody took.
     pub fn cut(&mut self, is_open: bool) -> Result<(), Error> {
+        self.without_file()?;
         done(raw::seryugo_cut_by(&mut self.handle, is_open))?;
         if let Some(pending) = &mut self.pending {
             pending.forget();
@@ -164,6 +273,7 @@ impl<R: MessageKind> State<R> {
     /// Cuts the journal, and returns its entries. If some were cut away before and
     /// nobody took them, they go first.
     pub fn take_journal(&mut self, taking: Taking) -> Result<Journal<R>, Error> {
+        self.without_file()?;
         if let Some(pending) = &mut self.pending {
             pending.hand_over()?;
         }
@@ -178,6 +288,7 @@ impl<R: MessageKind> State<R> {
     /// Returns a short journal, and cuts the journal. The short one stands for the entries that
     /// nobody took, too.
     pub fn compact_and_cut(&mut self) -> Result<Journal<R>, Error> {
+        self.without_file()?;
         let (journal, start) = cut_short(&mut self.handle)?;
         self.begin(start);
         Ok(journal)
@@ -189,6 +300,7 @@ impl<R: MessageKind> State<R> {
         &mut self,
         keep: impl FnOnce(&Journal<R>) -> io::Result<T>,
     ) -> io::Result<T> {
+        self.without_file().map_err(uncompacted)?;
         let journal = self.compact().map_err(uncompacted)?;
         let kept = keep(&journal)?;
         let start = cut_behind(&mut self.handle, journal.len() as u64).map_err(uncompacted)?;
@@ -204,9 +316,13 @@ impl<R: MessageKind> State<R> {
         }
     }
 
-    /// Returns why the sink refused entries last. Returns it once.
+    /// Returns why the sink refused entries last, once; or why the file doesn't take them.
     pub fn keeping_error(&mut self) -> Option<io::Error> {
-        self.pending.as_mut().and_then(PendingJournal::error)
+        let Some(file) = &self.file else {
+            return self.pending.as_mut().and_then(PendingJournal::error);
+        };
+        let (words, errno) = file.error()?;
+        Some(io::Error::new(io::Error::from_raw_os_error(errno).kind(), words))
     }
 
     /// How many messages were lost with their lanes.
@@ -252,12 +368,6 @@ impl<R: MessageKind> State<R> {
         (code == code::DONE).then(|| seat.wrapping_sub(self.first_seat))
     }
 
-    /// How many calls were made that may park a seat or make one due.
-    #[inline]
-    pub fn calls(&self) -> u64 {
-        self.calls
-    }
-
     /// Makes a call that may make a seat due.
     #[inline]
     pub fn call<T>(&mut self, call: impl FnOnce(&mut State<R>) -> T) -> T {
@@ -267,44 +377,90 @@ impl<R: MessageKind> State<R> {
 
     /// Makes a call that has an entry in the journal, if it is accepted.
     #[inline]
-    pub fn enter<T: Unkept>(&mut self, call: impl FnOnce(&mut Handle) -> T) -> T {
-        if self.makes_room() {
-            call(&mut self.handle)
-        } else {
-            T::unkept()
+    pub fn enter<T: Answer>(&mut self, line: Line, call: impl FnOnce(&mut Handle) -> T) -> T {
+        match self.makes_room(line) {
+            Ok(()) => call(&mut self.handle),
+            Err(code) => T::refused(code),
+        }
+    }
+
+    /// Finds the object of this number and kind. If there is none, and its number is the next one,
+    /// this seat makes it.
+    pub fn again(
+        &mut self,
+        seat: u64,
+        number: u64,
+        wanted: Kind,
+        make: impl FnOnce(&mut Handle, u64, &mut u64) -> u32,
+    ) -> Result<(), Error> {
+        match self.kind(number)? {
+            Some(is) if is == wanted => return Ok(()),
+            Some(is) => return Err(Error::WrongKind(Misfit::Kind { number, is, wanted })),
+            None => {}
+        }
+        if let Some(before) = number.checked_sub(1) {
+            self.kind(before)?.ok_or(Error::NoSuch(Missing::Object(before)))?;
+        }
+        done(self.enter(Line::Short, |room| make(room, seat, &mut 0)))
+    }
+
+    /// What the object of this number is, if it is there.
+    fn kind(&mut self, number: u64) -> Result<Option<Kind>, Error> {
+        match raw::read(&mut self.handle, Reader::Kind, number) {
+            Err(Error::Unknown(code::NO_SUCH)) => Ok(None),
+            kind => Kind::of(kind?).map(Some),
         }
     }
 
     /// Makes a call that may park its seat, or that of a parked seat again. A parked seat's call
     /// was taken before. So while the journal has room it is made, even if nobody took the entries
-    /// of the last full one.
+    /// of the last full one. A file that has no room refuses it.
     #[inline]
-    pub fn ask(&mut self, is_again: bool, call: impl FnOnce(&mut Handle) -> u32) -> u32 {
-        let has_room = self.makes_room();
-        if !has_room && !is_again {
-            return code::NOT_KEPT;
+    pub fn ask(&mut self, ask: Ask, call: impl FnOnce(&mut Handle) -> u32) -> u32 {
+        let room = self.makes_room(ask.line);
+        if let Err(code) = room {
+            if !ask.is_again || self.file.is_some() {
+                return self.refuse(ask, code);
+            }
         }
         self.calls += 1;
         let code = call(&mut self.handle);
         self.parked =
-            (self.parked + u64::from(code == code::PARKED)).saturating_sub(u64::from(is_again));
+            (self.parked + u64::from(code == code::PARKED)).saturating_sub(u64::from(ask.is_again));
         match code {
-            code::JOURNAL_FULL if !has_room => code::NOT_KEPT,
+            code::JOURNAL_FULL if room.is_err() => code::NOT_KEPT,
             _ => code,
         }
     }
 
-    /// Makes a call at the end of a wait. If it parks its seat, this withdraws it before others have
-    /// the lock.
-    pub fn ask_at_last(
+    /// Makes such a call of the seat with this parker.
+    #[inline]
+    pub fn ask_by(
         &mut self,
-        seat: u64,
-        is_again: bool,
+        by: &Parker,
+        ask: Ask,
         call: impl FnOnce(&mut Handle) -> u32,
     ) -> u32 {
-        let code = self.ask(is_again, call);
+        let code = self.ask(ask, call);
+        by.note_ask(ask.is_again, code == code::PARKED, self.calls);
+        code
+    }
+
+    /// Refuses a call. If its seat was parked, it waits no longer.
+    #[cold]
+    fn refuse(&mut self, ask: Ask, code: u32) -> u32 {
+        if ask.is_again {
+            self.withdraw(ask.seat);
+        }
+        code
+    }
+
+    /// Makes a call at the end of a wait. If it parks its seat, this withdraws it before others have
+    /// the lock.
+    pub fn ask_at_last(&mut self, ask: Ask, call: impl FnOnce(&mut Handle) -> u32) -> u32 {
+        let code = self.ask(ask, call);
         if code == code::PARKED {
-            self.withdraw(seat);
+            self.withdraw(ask.seat);
         }
         code
     }
@@ -352,9 +508,7 @@ impl<R: MessageKind> State<R> {
     }
 
     fn move_once(&mut self, call: impl Fn(&mut Self) -> Result<u64, Error>) -> Result<u64, Error> {
-        if !self.makes_room() {
-            return Err(Error::NotKept);
-        }
+        self.makes_room(Line::Short).map_err(Error::of_code)?;
         if self.pending.is_some() {
             // It has an entry for each message.
             self.spare = 0;
@@ -387,8 +541,8 @@ impl<R: MessageKind> State<R> {
         // A lane may end as its thread panics, so that no panic of a sink may leave this: the sink
         // has failed.
         let drained = panic::catch_unwind(AssertUnwindSafe(|| self.drain_all(lane)));
-        // Messages that are refused are lost.
-        if !matches!(drained, Ok(Ok(()))) {
+        // Messages that are refused are lost. A file has no room for them.
+        if !matches!(drained, Ok(Ok(()))) && self.file.is_none() {
             while self.drain_unkept(lane).is_ok_and(|count| count != 0) {}
         }
         raw::seryugo_lane_abandon(&mut self.handle, lane);
@@ -443,7 +597,11 @@ mod tests {
     }
 
     fn receive(state: &mut State<Numbers>, seat: u64, is_again: bool) {
-        state.ask(is_again, |room| Numbers::ask(Read::Recv, room, seat, MAILBOX, is_again, &mut 0));
+        let ask = Ask {
+            is_again,
+            ..Ask::first(seat)
+        };
+        state.ask(ask, |room| Numbers::ask(Read::Recv, room, seat, MAILBOX, is_again, &mut 0));
     }
 
     /// Makes some calls, and wakes each seat that is due.
