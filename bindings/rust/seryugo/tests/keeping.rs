@@ -230,6 +230,13 @@ fn other_text_is_no_journal() {
     let text = b"journal 1\nseat 0 mailbox: made 0\n\0\0what\nend 7\n";
     let (_, kept) = Board::restore_torn(&text[..], LIMIT).unwrap();
     assert_eq!((kept.entries, kept.bytes, kept.ending.as_str()), (1, 33, "end 1\n"));
+    for (torn, has_more) in [(&text[..], true), (&text[..36], true), (&text[..35], false)] {
+        for length in [1, 10, 34, 35] {
+            let parts = BufReader::with_capacity(length, torn);
+            let (_, kept) = Board::restore_torn(parts, LIMIT).unwrap();
+            assert_eq!((kept.bytes, kept.has_more), (33, has_more));
+        }
+    }
 }
 
 #[test]
