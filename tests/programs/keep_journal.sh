@@ -25,8 +25,8 @@ build() {
     mkdir -p "$work/examples/programs"
     cp -r bindings "$work/bindings"
     cp -r examples/programs/keep_journal "$work/examples/programs"
-    SERYUGO_ARCHIVE=$rooms SERYUGO_SCRIPT_ARCHIVE=/nowhere sh bindings/install.sh "$work/prefix" > "$work/installed" || return
-    env -u SERYUGO_ARCHIVES SERYUGO_PREFIX="$work/prefix" CARGO_TARGET_DIR="$work/target" \
+    install_rooms "$rooms" "$work/prefix" > "$work/installed" || return
+    env SERYUGO_PREFIX="$work/prefix" CARGO_TARGET_DIR="$work/target" \
         cargo build --release --quiet --offline --manifest-path "$work/examples/programs/keep_journal/Cargo.toml" || return
     program=$work/target/release/keep_journal
 }
