@@ -12,7 +12,7 @@ use crate::message::Message;
 use crate::raw::done;
 use crate::seat::owned::Holds;
 use crate::seat::Seat;
-use crate::switchboard::state::Line;
+use crate::switchboard::call::Line;
 use std::fmt;
 use std::marker::PhantomData;
 use std::panic::{self, AssertUnwindSafe};

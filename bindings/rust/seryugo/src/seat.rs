@@ -18,7 +18,7 @@ use crate::park::table::ParkerAt;
 use crate::raw::{self, code, done, done_or, Handle};
 use crate::request::answers::Answers;
 use crate::seat::owned::Holds;
-use crate::switchboard::state::Line;
+use crate::switchboard::call::Line;
 use crate::switchboard::Switchboard;
 use std::fmt;
 use std::marker::PhantomData;

@@ -1,10 +1,12 @@
 //! A room under a lock, on which threads call and wait.
 
+pub(crate) mod call;
 pub(crate) mod expected;
 pub(crate) mod guest;
 pub(crate) mod journal;
 pub(crate) mod lock;
 pub(crate) mod locked;
+pub(crate) mod moving;
 pub(crate) mod objects;
 pub(crate) mod state;
 

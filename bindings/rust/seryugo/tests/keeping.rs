@@ -221,7 +221,12 @@ fn a_text_may_end_anywhere() {
 /// behind a byte 0 isn't read.
 #[test]
 fn other_text_is_no_journal() {
-    for other in [&b"{\"precious\": 1}"[..], b"journals", b"journal 10", b"\x7fELF"] {
+    for other in [
+        &b"{\"precious\": 1}"[..],
+        b"journals",
+        b"journal 10",
+        b"\x7fELF",
+    ] {
         let restored = Board::restore_torn(other, LIMIT);
         assert!(matches!(restored, Err(RestoreError::Check(CheckError::NoJournal))));
         let restored = Board::restore(other, LIMIT);

@@ -2,59 +2,15 @@
 
 mod common;
 
-use common::{asking, block_on, poll_once, without_a_hang, Random};
+use common::{asking, block_on, path_given, poll_once, run_apart, Random, Scratch};
 use seryugo::{
     Error, JournalFile, Kind, Message, Misfit, Missing, Numbers, Object, Request, Switchboard,
 };
 use std::fs;
-use std::io::ErrorKind;
-use std::path::PathBuf;
-use std::process::{Command, Output};
 use std::sync::{Arc, Barrier};
 use std::task::Poll;
 use std::thread;
 use std::time::{Duration, Instant};
-
-/// A folder of a test, which is removed in the end.
-struct Scratch(PathBuf);
-
-impl Scratch {
-    fn new(name: &str) -> Scratch {
-        let name = format!("seryugo_opened_{}_{name}", std::process::id());
-        let folder = std::env::temp_dir().join(name);
-        let _ = fs::remove_dir_all(&folder);
-        fs::create_dir(&folder).unwrap();
-        Scratch(folder)
-    }
-
-    fn path(&self) -> PathBuf {
-        self.0.join("x.journal")
-    }
-
-    /// The journal's text, without the zeros after it.
-    fn text(&self) -> String {
-        let bytes = fs::read(self.path()).unwrap();
-        let text = bytes.split(|byte| *byte == 0).next().unwrap();
-        String::from_utf8(text.to_vec()).unwrap()
-    }
-}
-
-impl Drop for Scratch {
-    fn drop(&mut self) {
-        let _ = fs::remove_dir_all(&self.0);
-    }
-}
-
-/// Runs one ignored test of this file in a process of its own, which a shell prepares.
-fn run_apart(test: &str, prepare: &str, path: &std::path::Path) -> Output {
-    let this = std::env::current_exe().unwrap();
-    let run = format!("{prepare} exec '{}' --ignored --exact --nocapture {test}", this.display());
-    Command::new("sh").args(["-c", &run]).env("SERYUGO_PATH", path).output().unwrap()
-}
-
-fn path_given() -> PathBuf {
-    std::env::var_os("SERYUGO_PATH").unwrap().into()
-}
 
 #[derive(Debug, PartialEq)]
 struct Order {
@@ -318,7 +274,10 @@ fn calls_that_wait_are_kept_once_they_are_answered() {
     let variable = seat.mvar_again::<String>(1).unwrap();
     let at_once = Duration::ZERO;
     assert_eq!(seat.recv_timeout(mailbox, at_once), Err(Error::TimedOut));
-    assert_eq!(seat.swap_deadline(variable, "a", Instant::now()).err().unwrap().error, Error::TimedOut);
+    assert_eq!(
+        seat.swap_deadline(variable, "a", Instant::now()).err().unwrap().error,
+        Error::TimedOut
+    );
     let received = thread::spawn(move || (other.recv(mailbox), other));
     seat.send(mailbox, 5).unwrap();
     let (answer, mut other) = received.join().unwrap();
@@ -390,80 +349,6 @@ fn a_message_that_is_too_long_is_refused_before_it_is_sent() {
     assert_eq!(board.seat().unwrap().recv(board.mailbox::<Vec<u8>>(0).unwrap()), Ok(most));
 }
 
-/// A file that may grow no further refuses calls by name, and has all others.
-#[test]
-fn a_full_disk_refuses_calls_and_loses_none() {
-    let scratch = Scratch::new("full");
-    let other = run_apart("fills_a_file", "ulimit -f 500 &&", &scratch.path());
-    assert!(other.status.success(), "{other:?}");
-    let said = String::from_utf8(other.stdout).unwrap();
-    let sent: u64 = said.lines().find_map(|line| line.strip_prefix("sent ")).unwrap().parse().unwrap();
-    let board = Switchboard::open_numbers(scratch.path()).unwrap();
-    assert_eq!(board.owed(board.mailbox(0).unwrap()), Ok(sent));
-    assert!(sent > 1_000);
-}
-
-#[test]
-#[ignore = "another test runs it in its own process"]
-fn fills_a_file() {
-    let options = JournalFile::new().grow_by(4096);
-    let board = options.open_numbers(path_given()).unwrap();
-    let (mut seat, mut waits) = (board.seat().unwrap(), board.seat().unwrap());
-    let (mailbox, other) = (seat.mailbox_again(0).unwrap(), seat.mailbox_again(1).unwrap());
-    let mut asked = asking(waits.recv_async(other));
-    let refused = loop {
-        if let Err(refused) = seat.send(mailbox, 7) {
-            break refused.error;
-        }
-    };
-    assert_eq!(refused, Error::FileFull);
-    let sent = board.sent(mailbox).unwrap();
-    assert_eq!(board.keeping_error().unwrap().kind(), ErrorKind::FileTooLarge);
-    assert_eq!(seat.recv_poll(mailbox), Err(Error::FileFull));
-    let mut lane = board.lane(mailbox, 8).unwrap();
-    lane.send(8).unwrap();
-    assert_eq!(lane.drain(), Err(Error::FileFull));
-    drop(lane);
-    assert_eq!((board.lost(), board.sent(mailbox)), (1, Ok(sent)));
-    assert!(poll_once(asked.as_mut()).is_pending());
-    drop(asked);
-    drop((seat, waits));
-    board.close().unwrap();
-    println!("\nsent {sent}");
-}
-
-/// Cuts the file as no program may while it is open, and has the switchboard see it.
-fn lose(scratch: &Scratch, board: &Switchboard) {
-    fs::File::options().write(true).open(scratch.path()).unwrap().set_len(0).unwrap();
-    assert_eq!(board.sync(), Err(Error::FileLost));
-}
-
-#[test]
-fn a_file_that_is_lost_refuses_calls_and_wakes_all_who_wait() {
-    without_a_hang(|| {
-        let scratch = Scratch::new("lost");
-        let board = JournalFile::new().sync_by_hand().open(scratch.path()).unwrap();
-        let [mut seat, mut waits, mut future] = [(); 3].map(|()| board.seat().unwrap());
-        let mailbox = seat.mailbox_again::<u64>(0).unwrap();
-        let mut asked = asking(future.recv_async(mailbox));
-        thread::scope(|scope| {
-            let waiter = scope.spawn(move || waits.recv(mailbox));
-            common::let_them_wait();
-            lose(&scratch, &board);
-            assert_eq!(seat.send(mailbox, 5).unwrap_err().error, Error::FileLost);
-            assert_eq!(waiter.join().unwrap(), Err(Error::FileLost));
-        });
-        assert_eq!(poll_once(asked.as_mut()), Poll::Ready(Err(Error::FileLost)));
-        drop(asked);
-        let why = board.keeping_error().unwrap().to_string();
-        assert_eq!(why, "the file was cut by others");
-        assert_eq!(seat.recv_poll(mailbox), Err(Error::FileLost));
-        assert_eq!(board.lane(mailbox, 8).unwrap().drain(), Err(Error::FileLost));
-        drop((seat, future));
-        assert_eq!(board.close(), Err(Error::FileLost));
-    });
-}
-
 #[test]
 fn threads_lose_nothing_on_their_way() {
     const THREADS: u64 = 4;
@@ -473,19 +358,25 @@ fn threads_lose_nothing_on_their_way() {
         let board = JournalFile::new().grow_by(4096).open(scratch.path()).unwrap();
         let board = Arc::new(board);
         let seats = [(); THREADS as usize].map(|()| board.seat_owned().unwrap());
-        let threads: Vec<_> = (0..).zip(seats).map(|(own, mut seat)| {
-            thread::spawn(move || {
-                let mut random = Random::new(run * THREADS + own);
-                let mailboxes = [0, 1, 2].map(|number| seat.mailbox_again::<u64>(number).unwrap());
-                for _ in 0..200 {
-                    let mailbox = mailboxes[random.below(3) as usize];
-                    seat.send(mailbox, own).unwrap();
-                    seat.recv(mailbox).unwrap();
-                }
+        let threads: Vec<_> = (0..)
+            .zip(seats)
+            .map(|(own, mut seat)| {
+                thread::spawn(move || {
+                    let mut random = Random::new(run * THREADS + own);
+                    let mailboxes =
+                        [0, 1, 2].map(|number| seat.mailbox_again::<u64>(number).unwrap());
+                    for _ in 0..200 {
+                        let mailbox = mailboxes[random.below(3) as usize];
+                        seat.send(mailbox, own).unwrap();
+                        seat.recv(mailbox).unwrap();
+                    }
+                })
             })
-        }).collect();
+            .collect();
         drop(board);
-        threads.into_iter().for_each(|thread| thread.join().unwrap());
+        for thread in threads {
+            thread.join().unwrap();
+        }
     }
     let board = Switchboard::open(scratch.path()).unwrap();
     assert_eq!(board.entries(), 3 + 3 * 2 * 200 * THREADS);

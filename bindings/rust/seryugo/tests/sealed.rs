@@ -1,15 +1,7 @@
 //! Journals with sums: each damage is seen, and torn ones are gone on from.
 
-mod common;
-
-use common::Board;
-use seryugo::{
-    Bytes, CheckError, Checker, Error, Journal, MessageKind, Numbers, RestoreError, Sum,
-    Switchboard, WhenFull,
-};
-use std::fs::{self, File};
+use seryugo::{Bytes, CheckError, Checker, Error, Journal, MessageKind, RestoreError, Switchboard};
 use std::io::{BufReader, ErrorKind, Write};
-use std::path::PathBuf;
 
 const LIMIT: u64 = 1_000;
 

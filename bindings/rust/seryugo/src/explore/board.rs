@@ -6,7 +6,7 @@ use crate::journal::entry::Entry;
 use crate::message::carries::MessageKind;
 use crate::message::kind;
 use crate::raw::{self, code, EntrySource, Handle, Reader, Taking};
-use crate::switchboard::state::Ask;
+use crate::switchboard::call::Ask;
 use crate::switchboard::Switchboard;
 use std::hash::{DefaultHasher, Hash, Hasher};
 

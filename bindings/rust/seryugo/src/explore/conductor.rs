@@ -10,7 +10,8 @@ use crate::message::carries::{Bytes, MessageKind};
 use crate::park::parker::Parker;
 use crate::raw::{self, Handle, Reader};
 use crate::request::answers::Answers;
-use crate::switchboard::state::{Line, State};
+use crate::switchboard::call::Line;
+use crate::switchboard::state::State;
 use crate::switchboard::Switchboard;
 use std::sync::Arc;
 
@@ -179,12 +180,7 @@ impl<R: MessageKind> Switchboard<R> {
 
     /// Waits in a rerun until the object of this number is there, which another seat makes.
     /// `false`: this seat makes it, by its next entry or after the last one.
-    pub(crate) fn is_found_again(
-        &self,
-        follower: &Follower<R>,
-        seat: u64,
-        number: u64,
-    ) -> bool {
+    pub(crate) fn is_found_again(&self, follower: &Follower<R>, seat: u64, number: u64) -> bool {
         if follower.makes_next(seat, number) {
             return false;
         }

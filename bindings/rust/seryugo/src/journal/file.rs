@@ -440,7 +440,6 @@ mod tests {
 
     #[test]
     fn only_a_file_bounds_what_a_lane_takes() {
-        let board: Switchboard<Bytes> = Switchboard::new(10).unwrap();
-        assert!(board.takes(&[0; 371_001]));
+        assert!(Switchboard::<Bytes>::new(10).unwrap().takes(&vec![0; 371_001]));
     }
 }

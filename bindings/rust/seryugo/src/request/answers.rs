@@ -11,7 +11,7 @@ use crate::request::{Asker, Request};
 use crate::seat::owned::Holds;
 use crate::seat::pending::{Answer, PendingCall};
 use crate::seat::Seat;
-use crate::switchboard::state::Line;
+use crate::switchboard::call::Line;
 use std::fmt;
 use std::time::{Duration, Instant};
 

@@ -8,7 +8,7 @@ use crate::message::carries::{Carries, MessageKind};
 use crate::message::names::{Channel, Port};
 use crate::raw::{self, code, written, Handle};
 use crate::seat::owned::Holds;
-use crate::switchboard::state::Line;
+use crate::switchboard::call::Line;
 use crate::switchboard::Switchboard;
 use std::fmt;
 use std::marker::PhantomData;

@@ -8,7 +8,8 @@ use crate::message::names::{Channel, IVar, MVar, Mailbox, Named, Port};
 use crate::raw::{self, code, done, done_or, Handle};
 use crate::seat::owned::Holds;
 use crate::seat::Seat;
-use crate::switchboard::state::{Line, State};
+use crate::switchboard::call::Line;
+use crate::switchboard::state::State;
 
 /// # Calls that make objects
 impl<R: MessageKind, H: Holds<R>> Seat<'_, R, H> {

@@ -9,7 +9,7 @@ use crate::message::names::Source;
 use crate::raw::{self, code, Handle};
 use crate::seat::owned::Holds;
 use crate::seat::Seat;
-use crate::switchboard::state::{Ask, Line};
+use crate::switchboard::call::{Ask, Line};
 use std::future::Future;
 use std::pin::Pin;
 use std::task::{Context, Poll, Waker};

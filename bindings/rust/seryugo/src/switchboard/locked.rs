@@ -6,8 +6,9 @@ use crate::park::backoff;
 use crate::park::parker::{Parker, Woken};
 use crate::park::yields::pass_by_yielding;
 use crate::raw::{code, Handle};
+use crate::switchboard::call::{Answer, Ask};
 use crate::switchboard::lock::Guard;
-use crate::switchboard::state::{Answer, Ask, State};
+use crate::switchboard::state::State;
 use crate::switchboard::Switchboard;
 use std::any::Any;
 use std::mem;
@@ -45,12 +46,7 @@ impl<R: MessageKind> Switchboard<R> {
 
     /// The same for a call that may park the seat, or that of a parked seat again.
     #[inline]
-    pub(crate) fn ask(
-        &self,
-        by: &Parker,
-        ask: Ask,
-        call: impl FnOnce(&mut Handle) -> u32,
-    ) -> u32 {
+    pub(crate) fn ask(&self, by: &Parker, ask: Ask, call: impl FnOnce(&mut Handle) -> u32) -> u32 {
         if self.file.is_some() {
             return self.keep_call(
                 Some(by),
@@ -83,9 +79,8 @@ impl<R: MessageKind> Switchboard<R> {
         call: impl FnOnce(&mut State<R>) -> T,
         undo: impl FnOnce(&mut State<R>),
     ) -> T {
-        let mut state = match self.locked() {
-            Ok(state) => state,
-            Err(_) => return T::refused(code::FORKED),
+        let Ok(mut state) = self.locked() else {
+            return T::refused(code::FORKED);
         };
         let mut answer = call(&mut state);
         let noted = state.note();

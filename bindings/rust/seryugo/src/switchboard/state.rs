@@ -10,96 +10,12 @@ use crate::message::kind::{Kind, Misfit, Missing};
 use crate::park::parker::Parker;
 use crate::raw::{self, code, done, written, File, Handle, Reader, Taking};
 use crate::request::answers::Answers;
+use crate::switchboard::call::{Answer, Ask, Line};
 use crate::switchboard::expected::Expected;
+use crate::switchboard::moving::OpenLane;
 use std::collections::BTreeMap;
 use std::io::{self, ErrorKind};
-use std::panic::{self, AssertUnwindSafe};
 use std::sync::Arc;
-
-/// A drain or a pump moves at most this many messages: no ring has room for more.
-pub(crate) const MOST_MOVED: u64 = 1024;
-
-/// What a call under the lock returns.
-pub(crate) trait Answer {
-    /// The answer of a call that wasn't made or isn't kept, by this code.
-    fn refused(code: u32) -> Self;
-}
-
-impl Answer for () {
-    fn refused(_: u32) {}
-}
-
-impl Answer for u32 {
-    fn refused(code: u32) -> u32 {
-        code
-    }
-}
-
-impl<T> Answer for Result<T, Error> {
-    fn refused(code: u32) -> Result<T, Error> {
-        Err(Error::of_code(code))
-    }
-}
-
-impl<A: Answer, B: Default> Answer for (A, B) {
-    fn refused(code: u32) -> (A, B) {
-        (A::refused(code), B::default())
-    }
-}
-
-/// The messages of a call's line, which a file has to have room for.
-#[derive(Clone, Copy)]
-pub(crate) enum Line {
-    /// None, or one that an earlier line had.
-    Short,
-    /// A message of this many bytes.
-    Message(u64),
-    /// The message of a swap, and the one that the variable holds.
-    Swap { variable: u64, bytes: u64 },
-}
-
-impl Line {
-    fn bytes<R: MessageKind>(self, room: &mut Handle) -> u64 {
-        match self {
-            Line::Short => 0,
-            Line::Message(bytes) => bytes,
-            Line::Swap { variable, bytes } => {
-                let mut held = R::nothing();
-                match R::held(room, variable, &mut held) {
-                    code::DONE => bytes.saturating_add(R::received_length(&held)),
-                    _ => bytes,
-                }
-            }
-        }
-    }
-}
-
-/// A call that may park its seat, or that of a parked seat again.
-#[derive(Clone, Copy)]
-pub(crate) struct Ask {
-    pub seat: u64,
-    pub is_again: bool,
-    pub line: Line,
-}
-
-impl Ask {
-    /// The first ask of a seat, whose line is short.
-    pub fn first(seat: u64) -> Ask {
-        Ask {
-            seat,
-            is_again: false,
-            line: Line::Short,
-        }
-    }
-}
-
-/// A lane that is open.
-pub(crate) struct OpenLane {
-    /// The object to which it sends.
-    pub target: u64,
-    /// How many of its messages have moved.
-    moved: u64,
-}
 
 /// The state under the lock. What each call uses comes first, so that it lies in the lock's cache
 /// line: each line moves from the thread that called before to the one that calls.
@@ -108,7 +24,7 @@ pub(crate) struct State<R: MessageKind> {
     pub handle: Handle,
     /// The journal surely has room for this many more. Without a full-journal policy or a file no
     /// call asks, and with a file each does.
-    spare: u64,
+    pub(super) spare: u64,
     /// How many seats are parked.
     parked: u64,
     /// How many calls were made that may park a seat or make one due.
@@ -116,9 +32,9 @@ pub(crate) struct State<R: MessageKind> {
     /// How many entries the journal takes between two cuts.
     limit: u64,
     /// The policy for a full journal, and the entries that its sink refused.
-    pending: Option<PendingJournal<R>>,
+    pub(super) pending: Option<PendingJournal<R>>,
     /// The file that keeps the journal.
-    file: Option<Arc<File>>,
+    pub(super) file: Option<Arc<File>>,
     /// Whether the file is lost, and all who waited were woken.
     is_lost: bool,
     /// Where the text begins to which the next piece is added.
@@ -135,7 +51,7 @@ pub(crate) struct State<R: MessageKind> {
     /// The open lanes, by their numbers.
     pub lanes: BTreeMap<u64, OpenLane>,
     /// How many messages were lost with their lanes.
-    lost: u64,
+    pub(super) lost: u64,
     /// The ports of the open feeds, by the feeds' numbers.
     pub fed: BTreeMap<u64, u64>,
 }
@@ -243,7 +159,7 @@ impl<R: MessageKind> State<R> {
     }
 
     /// How many more entries the journal takes.
-    fn spare_now(&mut self) -> u64 {
+    pub(super) fn spare_now(&mut self) -> u64 {
         let (entries, cut) = (self.count(Reader::Entries), self.count(Reader::CutAt));
         self.limit.saturating_sub(entries - cut)
     }
@@ -325,11 +241,6 @@ impl<R: MessageKind> State<R> {
         Some(io::Error::new(io::Error::from_raw_os_error(errno).kind(), words))
     }
 
-    /// How many messages were lost with their lanes.
-    pub fn lost(&self) -> u64 {
-        self.lost
-    }
-
     /// The place of the next seat among those that were made here, hosts included.
     pub fn next_place(&self) -> u64 {
         self.expected.host().map_or(self.seats, |host| host.wrapping_sub(self.first_seat))
@@ -343,16 +254,6 @@ impl<R: MessageKind> State<R> {
         }
         self.seats += 1;
         Ok(number)
-    }
-
-    /// Opens a lane to this object, and returns its number.
-    pub fn open_lane(&mut self, target: u64, capacity: usize) -> Result<(Handle, u64), Error> {
-        let mut number = 0;
-        let lane = Handle::opened(|lane| {
-            raw::seryugo_lane_open(&mut self.handle, target, capacity, lane, &mut number)
-        })?;
-        self.lanes.insert(number, OpenLane { target, moved: 0 });
-        Ok((lane, number))
     }
 
     /// The place of the next seat that is due among those that were made here. Each seat that is
@@ -435,12 +336,7 @@ impl<R: MessageKind> State<R> {
 
     /// Makes such a call of the seat with this parker.
     #[inline]
-    pub fn ask_by(
-        &mut self,
-        by: &Parker,
-        ask: Ask,
-        call: impl FnOnce(&mut Handle) -> u32,
-    ) -> u32 {
+    pub fn ask_by(&mut self, by: &Parker, ask: Ask, call: impl FnOnce(&mut Handle) -> u32) -> u32 {
         let code = self.ask(ask, call);
         by.note_ask(ask.is_again, code == code::PARKED, self.calls);
         code
@@ -469,87 +365,6 @@ impl<R: MessageKind> State<R> {
     pub fn withdraw(&mut self, seat: u64) {
         let code = raw::seryugo_withdraw(&mut self.handle, seat);
         self.parked = self.parked.saturating_sub(u64::from(code == code::DONE));
-    }
-
-    /// Moves what is seen of an open lane into the journal, up to the first message that is
-    /// refused.
-    pub fn drain(&mut self, lane: u64) -> Result<u64, Error> {
-        self.move_seen(|state| state.drain_unkept(lane))
-    }
-
-    /// Drains a lane, also while the sink refuses the entries of the last full journal. The next call
-    /// still hands them over first.
-    fn drain_unkept(&mut self, lane: u64) -> Result<u64, Error> {
-        let count = written(|count| raw::seryugo_lane_drain(&mut self.handle, lane, count))?;
-        if let Some(lane) = self.lanes.get_mut(&lane) {
-            lane.moved = lane.moved.saturating_add(count);
-        }
-        Ok(count)
-    }
-
-    /// Receives what a feed is owed, up to the first message that is refused.
-    pub fn pump(&mut self, feed: u64) -> Result<u64, Error> {
-        self.move_seen(|state| {
-            written(|count| raw::seryugo_feed_pump(&mut state.handle, feed, count))
-        })
-    }
-
-    /// Makes a call that moves what it sees. If it stops at a full journal, and room is made there,
-    /// it goes on.
-    fn move_seen(&mut self, call: impl Fn(&mut Self) -> Result<u64, Error>) -> Result<u64, Error> {
-        let mut last = self.move_once(&call)?;
-        let mut moved = last;
-        while last != 0 && moved < MOST_MOVED && self.cuts_now() {
-            // If a message after the first is refused, the call returns how many moved.
-            last = self.move_once(&call).unwrap_or_default();
-            moved += last;
-        }
-        Ok(moved)
-    }
-
-    fn move_once(&mut self, call: impl Fn(&mut Self) -> Result<u64, Error>) -> Result<u64, Error> {
-        self.makes_room(Line::Short).map_err(Error::of_code)?;
-        if self.pending.is_some() {
-            // It has an entry for each message.
-            self.spare = 0;
-        }
-        call(self)
-    }
-
-    /// Whether the journal is full, and the next call cuts it.
-    fn cuts_now(&mut self) -> bool {
-        self.pending.is_some() && self.spare_now() == 0
-    }
-
-    /// Drains a lane until nothing more moves.
-    pub fn drain_all(&mut self, lane: u64) -> Result<(), Error> {
-        while self.drain(lane)? != 0 {}
-        Ok(())
-    }
-
-    /// Closes a lane that has ended, once all of its messages have moved.
-    pub fn close_lane(&mut self, number: u64, lane: &mut Handle) -> Result<(), Error> {
-        self.drain_all(number)?;
-        done(raw::seryugo_lane_close(&mut self.handle, lane))?;
-        self.lanes.remove(&number);
-        Ok(())
-    }
-
-    /// Moves what it can of an open lane on which this many messages were sent, and closes the lane:
-    /// how many are lost.
-    pub fn end_lane(&mut self, lane: u64, sent: u64) -> u64 {
-        // A lane may end as its thread panics, so that no panic of a sink may leave this: the sink
-        // has failed.
-        let drained = panic::catch_unwind(AssertUnwindSafe(|| self.drain_all(lane)));
-        // Messages that are refused are lost. A file has no room for them.
-        if !matches!(drained, Ok(Ok(()))) && self.file.is_none() {
-            while self.drain_unkept(lane).is_ok_and(|count| count != 0) {}
-        }
-        raw::seryugo_lane_abandon(&mut self.handle, lane);
-        let moved = self.lanes.remove(&lane).map_or(0, |lane| lane.moved);
-        let lost = sent.saturating_sub(moved);
-        self.lost = self.lost.saturating_add(lost);
-        lost
     }
 }
 
