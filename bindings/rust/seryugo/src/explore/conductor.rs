@@ -178,16 +178,16 @@ impl<R: MessageKind> Switchboard<R> {
         }
     }
 
-    /// Waits in a rerun until the object of this number is there, which another seat makes.
-    /// `false`: this seat makes it, by its next entry or after the last one.
-    pub(crate) fn is_found_again(&self, follower: &Follower<R>, seat: u64, number: u64) -> bool {
+    /// Whether this seat makes the object of this number in a rerun, by its next entry or after the
+    /// last one. Otherwise this waits until another seat has made it.
+    pub(crate) fn makes_again(&self, follower: &Follower<R>, seat: u64, number: u64) -> bool {
         if follower.makes_next(seat, number) {
-            return false;
+            return true;
         }
-        let is_there = || raw::read(&mut self.lock().handle, Reader::Kind, number).is_ok();
-        let ask = || (is_there() || follower.is_over()).then_some(());
-        let waited = follower.wait_for(None, &Waits::of_seat(seat), ask);
-        waited.is_none() || is_there()
+        let is_there = |number| raw::read(&mut self.lock().handle, Reader::Kind, number).is_ok();
+        let ask = || (is_there(number) || follower.is_over()).then_some(());
+        follower.wait_for(None, &Waits::of_seat(seat), ask);
+        !is_there(number) && number.checked_sub(1).is_none_or(is_there)
     }
 
     /// A seat was made.

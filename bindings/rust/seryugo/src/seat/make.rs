@@ -283,7 +283,7 @@ impl<R: MessageKind, H: Holds<R>> Seat<'_, R, H> {
     /// # let mut seat = board.seat()?;
     /// let winner = seat.ivar_again::<String>(0)?;
     /// assert!(seat.put(winner, "Ann")?);
-    /// assert_eq!(seat.get(seat.ivar_again::<String>(0)?)?, "Ann");
+    /// assert_eq!(board.held(seat.ivar_again::<String>(0)?)?, Some("Ann".to_string()));
     /// # Ok::<(), seryugo::Error>(())
     /// ```
     ///
@@ -329,10 +329,8 @@ impl<R: MessageKind, H: Holds<R>> Seat<'_, R, H> {
         make: impl FnOnce(&mut Handle, u64, &mut u64) -> u32,
     ) -> Result<N, Error> {
         let seat = self.ready();
-        if let Some(follower) = self.board.follower() {
-            if self.board.is_found_again(follower, seat, number) {
-                return self.board.named(number);
-            }
+        let follower = self.board.follower();
+        if follower.is_some_and(|follower| self.board.makes_again(follower, seat, number)) {
             return self.make(step.makes(), Line::Short, make);
         }
         let find = || {

@@ -128,7 +128,7 @@ impl<R: MessageKind> Switchboard<R> {
     }
 
     /// The name of an object of this number, if it has this kind.
-    pub(crate) fn named<N: Named>(&self, number: u64) -> Result<N, Error> {
+    fn named<N: Named>(&self, number: u64) -> Result<N, Error> {
         self.pass_to_look_at_all();
         let (is, wanted) = (self.kind(number)?, N::KIND);
         if is == wanted {
