@@ -146,17 +146,19 @@ rooms_from_c() {
     sanitizers_from_c
 }
 
-# cargo_does COMMAND WORD..: a command of cargo's on a copy of the crate, with the archives.
+# cargo_does COMMAND WORD..: a command of cargo's on a copy of the crate, with the library that is installed of the archives.
 cargo_does() {
     command=$1
     shift
-    bounded env SERYUGO_ARCHIVES="$(dirname "$rooms"):$(dirname "$replay")" SERYUGO_KIT="$kit" \
+    bounded env SERYUGO_PREFIX="$work/prefix" \
         cargo "$command" --manifest-path "$work/bindings/rust/seryugo/Cargo.toml" --quiet --offline "$@"
 }
 
-# The README's ten lines do what it says.
+# The README's ten lines do what it says, also on their own journal.
 letters_from_rust() {
-    cargo_does run --example letters > "$work/letters" && [ "$(cat "$work/letters")" = 'Ben received 5' ]
+    (cd "$work" && cargo_does run --example letters && cargo_does run --example letters) > "$work/letters" &&
+        [ "$(cat "$work/letters")" = "Dear Ben
+Dear Ben" ] && [ "$(grep -c : "$work/letters.journal")" -eq 5 ]
 }
 
 # clean_in_rust TEST [MODULE..]: a file of tests in Rust, or these modules of it, run without a fault of memory.
@@ -170,6 +172,7 @@ from_rust() {
     cp -r bindings "$work/bindings"
     ln -s "$PWD/examples" "$work/examples"
     ln -s "$PWD/docs" "$work/docs"
+    check 'the library is installed' env SERYUGO_ARCHIVE="$rooms" SERYUGO_SCRIPT_ARCHIVE="$replay" sh bindings/install.sh "$work/prefix"
     check 'the crate in Rust' cargo_does test --all-features
     if has valgrind 'the crate in Rust without a fault of memory'; then
         for tests in codes keeping typed odd_messages owned waking 'explore ends rings futures'; do
@@ -177,7 +180,7 @@ from_rust() {
             check "without a fault of memory in Rust: $tests" clean_in_rust $tests
         done
     fi
-    check 'a mailbox and two threads in Rust' letters_from_rust
+    check 'letters in Rust, kept in a file' letters_from_rust
     check 'messages are timed in Rust' cargo_does run --release --example speed -- 4000
     check 'journals are timed in Rust' cargo_does run --release --example journals -- 40001
 }

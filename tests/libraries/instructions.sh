@@ -30,7 +30,7 @@ in_c() {
 
 in_rust() {
     cp -r bindings/rust/seryugo "$work/crate" || return
-    env -u SERYUGO_ARCHIVES SERYUGO_PREFIX="$work/prefix" CARGO_TARGET_DIR="$work/target" \
+    env SERYUGO_PREFIX="$work/prefix" CARGO_TARGET_DIR="$work/target" \
         cargo build --release --quiet --offline --manifest-path "$work/crate/Cargo.toml" --example speed || return
     count_in_rust "$work/target/release/examples/speed"
 }

@@ -39,7 +39,7 @@ has_peers() { [ -n "$(crate_version crossbeam-channel)" ] && [ -n "$(crate_versi
 cargo_builds() {
     crate=$1
     shift
-    env -u SERYUGO_ARCHIVES SERYUGO_PREFIX="$(cat "$built/prefix")" CARGO_TARGET_DIR="$built/target" cargo build --release --quiet --offline \
+    env SERYUGO_PREFIX="$(cat "$built/prefix")" CARGO_TARGET_DIR="$built/target" cargo build --release --quiet --offline \
         --config 'source.crates-io.replace-with="distribution"' --config "source.distribution.directory=\"$sources\"" \
         --manifest-path "$built/$crate/Cargo.toml" "$@"
 }

@@ -97,6 +97,7 @@ class ServerCases(Cases):
         else:
             print("left out: whether the journals are lawful: no command that checks one is named")
         cls.archive = given if given.suffix == ".a" else None
+        cls.prefix = cls.install_rooms(given) if cls.archive else None
         folder = cls.build() if cls.archive else given.parent
         cls.program = folder / ("chat_server" if cls.archive else given.name)
         cls.load = folder / "chat_load"
@@ -104,12 +105,8 @@ class ServerCases(Cases):
     @classmethod
     def cargo(cls, word):
         """Runs cargo on a copy of the sources, so that nothing is left beside them."""
-        kit = subprocess.run(
-            ["rt", "doc"], capture_output=True, text=True, check=True
-        ).stdout.strip()
         named = {
-            "SERYUGO_ARCHIVES": str(cls.archive.parent),
-            "SERYUGO_KIT": str(pathlib.Path(kit).parent / "c"),
+            "SERYUGO_PREFIX": str(cls.prefix),
             "CARGO_TARGET_DIR": str(cls.work / "target"),
         }
         manifest = cls.work / "examples/programs/chat_server/Cargo.toml"

@@ -1,14 +1,11 @@
-//! One thread sends a letter, and another receives it.
-
-use seryugo::{Switchboard, WhenFull};
-use std::sync::Arc;
-use std::thread;
+//! Letters that survive the end of the program, even by `kill -9`: the program of README.
 
 fn main() -> Result<(), seryugo::Error> {
-    let board = Arc::new(Switchboard::new(1_000)?.when_full(WhenFull::Drop));
-    let (mut ann, mut ben) = (board.seat_owned()?, board.seat_owned()?);
-    let letters = ben.mailbox::<u64>()?;
-    thread::spawn(move || ann.send(letters, 5));
-    println!("Ben received {:?}", ben.recv(letters)?);
-    Ok(())
+    let board = seryugo::Switchboard::open("letters.journal")?;
+    let mut seat = board.seat()?;
+    let letters = seat.mailbox_again::<String>(0)?; // finds it, or makes it
+    seat.send(letters, "Dear Ben")?;
+    println!("{}", seat.recv(letters)?);
+    drop(seat);
+    board.close()
 }

@@ -50,6 +50,15 @@ impl Calls for Bytes {
         kept
     }
 
+    #[inline]
+    fn length(message: &[u8]) -> u64 {
+        message.len() as u64
+    }
+
+    fn received_length(message: &Received) -> u64 {
+        message.as_slice().len() as u64
+    }
+
     const MESSAGES: Messages = Messages::Bytes;
 
     #[inline]

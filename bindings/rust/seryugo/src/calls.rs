@@ -36,6 +36,12 @@ pub trait Calls: Sized {
 
     fn sent(kept: &Self::OwnedMessage) -> Self::Sent<'_>;
 
+    /// How many bytes of a line depend on what is sent.
+    fn length(message: Self::Sent<'_>) -> u64;
+
+    /// How many depend on what was received.
+    fn received_length(message: &Self::Received) -> u64;
+
     /// Which messages the library is asked for.
     const MESSAGES: Messages;
 

@@ -65,8 +65,9 @@ pub enum Error {
     /// A limit isn't from 1 to 2^32, a capacity isn't from 1 to 1024, or a message has more than
     /// 2^32 - 1 bytes.
     OutOfBounds,
-    /// The journal isn't written as text, since a message is so long that no reader would take its
-    /// line, of more than 1,114,112 bytes.
+    /// A message is too long. The journal isn't written as text, since no reader would take the
+    /// line, of more than 1,114,112 bytes. Or a file keeps the journal, and the message has more than
+    /// 371,000 bytes, or both messages of a swap.
     TooLong,
     /// The call's time limit passed before there was an answer.
     TimedOut,
@@ -79,6 +80,41 @@ pub enum Error {
         /// The message's bytes.
         bytes: Vec<u8>,
     },
+    /// Another switchboard has the journal's file, of this process or of another one.
+    FileBusy,
+    /// The file is no journal.
+    NoJournal,
+    /// The journal's text has a version that the linked library doesn't read.
+    OtherVersion,
+    /// The journal's messages are numbers, and the switchboard is one of bytes, or the other way
+    /// round.
+    OtherMessages,
+    /// The journal begins after a cut: what was before isn't in the file.
+    BeginsLater,
+    /// This line of the journal's file, counted from 1, has a fault: the file was changed.
+    Fault(u64),
+    /// The entry at this position of the journal's file, counted from 0, isn't lawful: the file was
+    /// changed.
+    Unlawful(u64),
+    /// The system refused what opening the journal's file needs.
+    FileFailed {
+        /// What was refused, and why.
+        words: String,
+        /// The cause as `errno`, or 0.
+        errno: i32,
+    },
+    /// The disk is full, or the system lets the journal's file grow no further. The call wasn't made.
+    /// [`Switchboard::keeping_error`](crate::Switchboard::keeping_error) says why. A `drain` or a
+    /// `pump` of many long messages may have moved them: they are kept once there is room.
+    FileFull,
+    /// The journal's file is lost, since a sync failed or others cut the file: nobody knows whether
+    /// the call is there. [`Switchboard::keeping_error`](crate::Switchboard::keeping_error) says why.
+    /// Each later call fails so, and all who wait are woken.
+    FileLost,
+    /// The process is a child of a fork: the journal's file is its parent's.
+    Forked,
+    /// A [file](crate::Switchboard::open) keeps the journal, and alone cuts it.
+    HasFile,
     /// The switchboard is [rerun](crate::explore::rerun), and the run isn't the journal's any more.
     /// Each call fails so from there on.
     Diverged(Box<Diverged>),
@@ -111,6 +147,14 @@ impl Error {
             code::OUT_OF_BOUNDS => Error::OutOfBounds,
             code::TOO_LONG => Error::TooLong,
             code::NOT_KEPT => Error::NotKept,
+            code::NO_JOURNAL => Error::NoJournal,
+            code::FILE_BUSY => Error::FileBusy,
+            code::OTHER_VERSION => Error::OtherVersion,
+            code::OTHER_MESSAGES => Error::OtherMessages,
+            code::BEGINS_LATER => Error::BeginsLater,
+            code::FILE_FULL => Error::FileFull,
+            code::FILE_LOST => Error::FileLost,
+            code::FORKED => Error::Forked,
             other => Error::Unknown(other),
         }
     }
@@ -146,6 +190,7 @@ impl Error {
     ///
     /// - `JournalFull`: the journal was cut. `NotKept`: its entries were taken.
     /// - `Busy`: the lanes and feeds were closed. `Full`: the lane was drained.
+    /// - `FileBusy`: the other one has closed the file. `FileFull`: the disk has room.
     /// - `NoMemory`: memory was freed. `TimedOut`, `Unseen`: more time has passed.
     ///
     /// ```
@@ -159,6 +204,10 @@ impl Error {
         match self {
             Error::JournalFull | Error::NotKept | Error::Busy | Error::Full => true,
             Error::NoMemory | Error::TimedOut | Error::Unseen => true,
+            Error::FileBusy | Error::FileFull => true,
+            Error::NoJournal | Error::OtherVersion | Error::OtherMessages => false,
+            Error::BeginsLater | Error::Fault(_) | Error::Unlawful(_) => false,
+            Error::FileFailed { .. } | Error::FileLost | Error::Forked | Error::HasFile => false,
             Error::Gone | Error::NoSuch(_) | Error::WrongKind(_) | Error::Stalled => false,
             Error::OutOfBounds | Error::TooLong | Error::Declined => false,
             Error::Diverged(_) | Error::RerunEnded => false,
@@ -187,6 +236,28 @@ impl fmt::Display for Error {
             Error::TooLong => {
                 "a message of the journal is so long that no reader would take its line"
             }
+            Error::FileBusy => "another switchboard has the journal's file",
+            Error::NoJournal => "the file is no journal",
+            Error::OtherVersion => {
+                "the journal's text has a version that the linked library doesn't read"
+            }
+            Error::OtherMessages => {
+                "the journal's messages are those of the other kind of switchboard"
+            }
+            Error::BeginsLater => "the journal begins after a cut, and what was before is missing",
+            Error::Fault(line) => {
+                return write!(f, "line {line} of the journal's file has a fault")
+            }
+            Error::Unlawful(at) => {
+                return write!(f, "the entry at position {at} of the journal's file isn't lawful")
+            }
+            Error::FileFailed { words, .. } => {
+                return write!(f, "the system refused the journal's file: {words}")
+            }
+            Error::FileFull => "the disk has no room for the journal's file",
+            Error::FileLost => "the journal's file is lost, and nobody knows what it has",
+            Error::Forked => "a child of a fork can't use the journal's file of its parent",
+            Error::HasFile => "a file keeps the journal, and alone cuts it",
             Error::TimedOut => "the time limit passed before there was an answer",
             Error::Declined => "a server has declined to answer the question",
             Error::Diverged(diverged) => return diverged.fmt(f),

@@ -4,7 +4,6 @@ pub(crate) mod checker;
 pub(crate) mod entry;
 pub(crate) mod file;
 pub(crate) mod full;
-pub(crate) mod header;
 pub(crate) mod prefix;
 pub(crate) mod restore;
 pub(crate) mod sum;

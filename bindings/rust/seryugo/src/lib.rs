@@ -172,10 +172,21 @@ pub mod explore;
 mod journal;
 mod message;
 mod numbers;
-mod park;
+/// How a thread or a task waits.
+mod park {
+    pub(crate) mod backoff;
+    pub(crate) mod cache_padded;
+    pub(crate) mod parker;
+    pub(crate) mod table;
+    pub(crate) mod yields;
+}
 mod raw;
 mod request;
-mod rings;
+/// Lanes and feeds: rings of one thread, without a lock.
+mod rings {
+    pub(crate) mod feed;
+    pub(crate) mod lane;
+}
 #[cfg(feature = "scripts")]
 mod script;
 mod seat;
@@ -186,6 +197,7 @@ pub use channel::{Messages, Receiver, Sender};
 pub use error::{Error, SendError};
 pub use journal::checker::{CheckError, Checker};
 pub use journal::entry::{Call, Entry, Reply, Who};
+pub use journal::file::{JournalFile, Recovered};
 pub use journal::full::WhenFull;
 #[allow(deprecated)]
 pub use journal::prefix::Kept;

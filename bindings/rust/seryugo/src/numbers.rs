@@ -49,6 +49,15 @@ impl Calls for Numbers {
         *kept
     }
 
+    #[inline]
+    fn length(_: u64) -> u64 {
+        0
+    }
+
+    fn received_length(_: &u64) -> u64 {
+        0
+    }
+
     const MESSAGES: Messages = Messages::Numbers;
 
     #[inline]

@@ -6,7 +6,8 @@
 
 use crate::error::Error;
 use crate::journal::sum::RawSum;
-use std::ffi::c_void;
+use std::ffi::{c_char, c_int, c_void, CStr};
+use std::mem;
 use std::ptr;
 
 /// What a call returns, as the header numbers it.
@@ -31,6 +32,14 @@ pub mod code {
     pub const TOO_LONG: u32 = 20;
     pub const TEXT_OPEN: u32 = 22;
     pub const NO_JOURNAL: u32 = 23;
+    pub const FILE_BUSY: u32 = 24;
+    pub const OTHER_VERSION: u32 = 25;
+    pub const OTHER_MESSAGES: u32 = 26;
+    pub const BEGINS_LATER: u32 = 27;
+    pub const FILE_FAILED: u32 = 28;
+    pub const FILE_FULL: u32 = 29;
+    pub const FILE_LOST: u32 = 30;
+    pub const FORKED: u32 = 31;
     /// The library never returns it: a call that this crate didn't make, since nobody took the
     /// entries of a full journal.
     pub const NOT_KEPT: u32 = u32::MAX - 1;
@@ -142,6 +151,143 @@ struct Closing {
     at: *mut c_void,
 }
 
+/// How a journal's file is kept.
+#[repr(C)]
+pub struct FileOptions {
+    /// From one sync to the next. 0: only where the program asks for one.
+    pub sync_milliseconds: u64,
+    pub flags: u32,
+    /// By how many bytes the file grows. 0: as the library chooses.
+    pub segment: u64,
+}
+
+const WORDS: usize = 256;
+
+/// What opening a file found, or why it failed.
+#[repr(C)]
+pub struct FileFound {
+    pub entries: u64,
+    pub lines: u64,
+    pub kept: u64,
+    pub cut_off: u64,
+    pub is_new: bool,
+    /// The cause as `errno`, or 0.
+    pub errno: c_int,
+    saved: [u8; WORDS],
+    words: [u8; WORDS],
+}
+
+impl FileFound {
+    const fn nothing() -> FileFound {
+        FileFound {
+            entries: 0,
+            lines: 0,
+            kept: 0,
+            cut_off: 0,
+            is_new: false,
+            errno: 0,
+            saved: [0; WORDS],
+            words: [0; WORDS],
+        }
+    }
+
+    /// The name of the file that has what was cut off, or nothing.
+    pub fn saved(&self) -> &[u8] {
+        before_zero(&self.saved)
+    }
+
+    /// The cause in words, or nothing.
+    pub fn words(&self) -> String {
+        String::from_utf8_lossy(before_zero(&self.words)).into_owned()
+    }
+}
+
+fn before_zero(text: &[u8]) -> &[u8] {
+    text.split(|byte| *byte == 0).next().unwrap_or_default()
+}
+
+/// A journal's file. The library has opened it, and it is closed when this is dropped: before its
+/// room is.
+pub struct File(FileAt);
+
+#[derive(Clone, Copy)]
+#[repr(transparent)]
+struct FileAt(*mut c_void);
+
+// SAFETY: any thread may make a call on a file. Those that need the room's lock have the room alone.
+unsafe impl Send for File {}
+// SAFETY: as above.
+unsafe impl Sync for File {}
+
+impl File {
+    /// Opens a file, and the room that its journal leaves. Says what it found, or why it failed.
+    pub fn open(
+        path: &CStr,
+        messages: Messages,
+        limit: u64,
+        options: &FileOptions,
+    ) -> (FileFound, Result<(File, Handle), u32>) {
+        let (mut found, mut room) = (FileFound::nothing(), Opening::new());
+        let mut file = FileAt(ptr::null_mut());
+        // SAFETY: the path ends with a 0, and the library keeps none of the references.
+        let code = unsafe {
+            let path = path.as_ptr();
+            seryugo_file_open(path, messages, limit, options, &mut room, &mut found, &mut file)
+        };
+        let opened = match (code, room.opened()) {
+            (code::DONE, Ok(room)) => Ok((File(file), room)),
+            (code, _) => Err(code),
+        };
+        (found, opened)
+    }
+
+    /// Whether calls may be made. It takes no lock.
+    pub fn state(&self) -> u32 {
+        seryugo_file_state(self.0)
+    }
+
+    /// Makes room for the next call's line, whose message has this many bytes.
+    pub fn reserve(&self, room: &mut Handle, bytes: u64) -> u32 {
+        seryugo_file_reserve(self.0, room, bytes)
+    }
+
+    /// Stores the lines of all entries that the room has had since the last time.
+    pub fn note(&self, room: &mut Handle) -> u32 {
+        // SAFETY: a null pointer asks for no position.
+        unsafe { seryugo_file_note(self.0, room, ptr::null_mut()) }
+    }
+
+    /// Blocks until all that was stored before is on the disk.
+    pub fn sync(&self) -> u32 {
+        seryugo_file_sync(self.0)
+    }
+
+    /// Why calls fail, in words and as `errno`.
+    pub fn error(&self) -> Option<(String, c_int)> {
+        let mut errno = 0;
+        let words = seryugo_file_error(self.0, &mut errno);
+        if words.is_null() {
+            return None;
+        }
+        // SAFETY: the words end with a 0, and are there until the file is closed.
+        let words = unsafe { CStr::from_ptr(words) };
+        Some((words.to_string_lossy().into_owned(), errno))
+    }
+
+    /// Syncs and closes the file: whether all of it is on the disk.
+    pub fn close(self) -> u32 {
+        let file = self.0;
+        mem::forget(self);
+        seryugo_file_close(file)
+    }
+}
+
+impl Drop for File {
+    fn drop(&mut self) {
+        seryugo_file_close(self.0);
+    }
+}
+
 /// The result of a call that is only ever done or refused.
 #[inline]
 pub fn done(code: u32) -> Result<(), Error> {
@@ -175,6 +321,21 @@ pub fn read(room: &mut Handle, reader: Reader, object: u64) -> Result<u64, Error
 
 unsafe extern "C" {
     fn seryugo_close(handle: Closing);
+    fn seryugo_file_open(
+        path: *const c_char,
+        messages: Messages,
+        limit: u64,
+        options: &FileOptions,
+        room: &mut Opening,
+        found: &mut FileFound,
+        file: &mut FileAt,
+    ) -> u32;
+    safe fn seryugo_file_reserve(file: FileAt, room: &mut Handle, bytes: u64) -> u32;
+    fn seryugo_file_note(file: FileAt, room: &mut Handle, position: *mut u64) -> u32;
+    safe fn seryugo_file_state(file: FileAt) -> u32;
+    safe fn seryugo_file_sync(file: FileAt) -> u32;
+    safe fn seryugo_file_close(file: FileAt) -> u32;
+    safe fn seryugo_file_error(file: FileAt, errno: &mut c_int) -> *const c_char;
     pub fn seryugo_reading_take_from(reading: &mut Handle, at: *const u8, length: usize) -> u32;
     pub safe fn seryugo_open_room(messages: Messages, limit: u64, room: &mut Opening) -> u32;
     pub safe fn seryugo_open_reading(messages: Messages, reading: &mut Opening) -> u32;

@@ -12,6 +12,7 @@ use crate::message::Message;
 use crate::raw::done;
 use crate::seat::owned::Holds;
 use crate::seat::Seat;
+use crate::switchboard::call::Line;
 use std::fmt;
 use std::marker::PhantomData;
 use std::panic::{self, AssertUnwindSafe};
@@ -317,8 +318,8 @@ impl<A: Message> Asker<A> {
             bytes.push(1);
             <Bytes as Carries<A>>::with_sent(answer, |piece| bytes.extend_from_slice(piece));
         }
-        let mailbox = self.mailbox;
-        let code = seat.call(Give::Send.on(mailbox), |room, seat| {
+        let (mailbox, line) = (self.mailbox, Line::Message(Bytes::length(&bytes)));
+        let code = seat.call(Give::Send.on(mailbox), line, |room, seat| {
             Bytes::give(Give::Send, room, seat, mailbox, &bytes)
         });
         code.and_then(done).map_err(|error| match seat.board.kind(mailbox) {

@@ -18,6 +18,7 @@ use crate::park::table::ParkerAt;
 use crate::raw::{self, code, done, done_or, Handle};
 use crate::request::answers::Answers;
 use crate::seat::owned::Holds;
+use crate::switchboard::call::Line;
 use crate::switchboard::Switchboard;
 use std::fmt;
 use std::marker::PhantomData;
@@ -89,7 +90,7 @@ pub struct Seat<'a, R: MessageKind = Bytes, H: Holds<R> = &'a Switchboard<R>> {
 impl<R: MessageKind, H: Holds<R>> Seat<'_, R, H> {
     /// Makes a seat at a switchboard.
     pub(crate) fn at(board: H) -> Result<Self, Error> {
-        let mut state = board.lock();
+        let mut state = board.locked()?;
         let parker = board.parkers.make(state.next_place()).ok_or(Error::NoMemory)?;
         let number = state.new_seat()?;
         board.seat_comes(number);
@@ -149,7 +150,8 @@ impl<R: MessageKind, H: Holds<R>> Seat<'_, R, H> {
     {
         let sent = self.here(mailbox).and_then(|mailbox| {
             let code = R::with_sent(&message, |sent| {
-                self.call(Give::Send.on(mailbox), move |room, seat| {
+                let line = Line::Message(R::length(sent));
+                self.call(Give::Send.on(mailbox), line, move |room, seat| {
                     R::give(Give::Send, room, seat, mailbox, sent)
                 })
             });
@@ -185,7 +187,8 @@ impl<R: MessageKind, H: Holds<R>> Seat<'_, R, H> {
     {
         let sent = self.here(channel).and_then(|channel| {
             let code = R::with_sent(&message, |sent| {
-                self.call(Give::Multicast.on(channel), move |room, seat| {
+                let line = Line::Message(R::length(sent));
+                self.call(Give::Multicast.on(channel), line, move |room, seat| {
                     R::give(Give::Multicast, room, seat, channel, sent)
                 })
             });
@@ -252,7 +255,8 @@ impl<R: MessageKind, H: Holds<R>> Seat<'_, R, H> {
     {
         let put = self.here(variable).and_then(|variable| {
             let code = R::with_sent(&message, |sent| {
-                self.call(Give::Put.on(variable), move |room, seat| {
+                let line = Line::Message(R::length(sent));
+                self.call(Give::Put.on(variable), line, move |room, seat| {
                     R::give(Give::Put, room, seat, variable, sent)
                 })
             });
@@ -331,18 +335,19 @@ impl<R: MessageKind, H: Holds<R>> Seat<'_, R, H> {
         R: Carries<T>,
     {
         let mut found = R::nothing();
-        match self.call(step, |room, seat| call(room, seat, &mut found))? {
+        match self.call(step, Line::Short, |room, seat| call(room, seat, &mut found))? {
             code::NOTHING => Ok(None),
             code => received::<R, T>(code, &found).map(Some),
         }
     }
 
-    /// Makes a call that never blocks. `Err`: a rerun doesn't let it be made. Where nobody decides
+    /// Makes a call that never blocks, with these messages. `Err`: a rerun doesn't let it be made. Where nobody decides
     /// when calls are made, a call that owns what it uses (`move`) puts none of it into memory.
     #[inline]
     pub(crate) fn call(
         &mut self,
         step: Step,
+        line: Line,
         call: impl FnOnce(&mut Handle, u64) -> u32,
     ) -> Result<u32, Error> {
         let seat = self.ready();
@@ -350,7 +355,7 @@ impl<R: MessageKind, H: Holds<R>> Seat<'_, R, H> {
         if let Some(conductor) = &self.board.conductor {
             return self.board.call_conducted(conductor, &self.parker, seat, step, call);
         }
-        Ok(self.board.change(Some(&self.parker), |state| state.enter(call)))
+        Ok(self.board.change(Some(&self.parker), |state| state.enter(line, call)))
     }
 
     /// The seat's number, once it may call: a future that was forgotten left it waiting, or a call

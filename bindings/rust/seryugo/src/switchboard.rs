@@ -1,15 +1,18 @@
 //! A room under a lock, on which threads call and wait.
 
+pub(crate) mod call;
 pub(crate) mod expected;
 pub(crate) mod guest;
 pub(crate) mod journal;
 pub(crate) mod lock;
 pub(crate) mod locked;
+pub(crate) mod moving;
 pub(crate) mod objects;
 pub(crate) mod state;
 
 use crate::error::Error;
 use crate::explore::{Conductor, StepKind};
+use crate::journal::file::OpenFile;
 use crate::message::carries::{Bytes, Carries, MessageKind, Numbers};
 use crate::message::kind::Missing;
 use crate::message::names::{Channel, Name, Named, Target};
@@ -54,6 +57,8 @@ pub struct Switchboard<R: MessageKind = Bytes> {
     number: u64,
     /// Who decides when its calls are made, if it is explored or rerun.
     pub(crate) conductor: Option<Conductor<R>>,
+    /// The file that keeps its journal.
+    pub(crate) file: Option<Box<OpenFile>>,
     kind: PhantomData<fn() -> R>,
 }
 
@@ -78,7 +83,7 @@ impl Switchboard {
     /// `OutOfBounds`, `NoMemory`, and `Version` if the linked library isn't of this crate's
     /// version.
     pub fn new(limit: u64) -> Result<Switchboard, Error> {
-        Switchboard::open(limit)
+        Switchboard::with_limit(limit)
     }
 }
 
@@ -98,12 +103,12 @@ impl Switchboard<Numbers> {
     ///
     /// As [`new`](Switchboard::new).
     pub fn of_numbers(limit: u64) -> Result<Switchboard<Numbers>, Error> {
-        Switchboard::open(limit)
+        Switchboard::with_limit(limit)
     }
 }
 
 impl<R: MessageKind> Switchboard<R> {
-    pub(crate) fn open(limit: u64) -> Result<Switchboard<R>, Error> {
+    pub(crate) fn with_limit(limit: u64) -> Result<Switchboard<R>, Error> {
         version::check()?;
         let room = Handle::opened(|room| raw::seryugo_open_room(R::MESSAGES, limit, room))?;
         Ok(Switchboard::over(room, limit))
@@ -117,6 +122,7 @@ impl<R: MessageKind> Switchboard<R> {
             parkers: Parkers::new(),
             number: MADE.fetch_add(1, Ordering::Relaxed),
             conductor: None,
+            file: None,
             kind: PhantomData,
         }
     }
@@ -221,7 +227,7 @@ impl<R: MessageKind> Switchboard<R> {
 
     /// Closes a lane on which this many messages were sent: how many are lost.
     pub(crate) fn end_lane(&self, number: u64, sent: u64) -> u64 {
-        self.change(None, |state| state.end_lane(number, sent))
+        self.change(None, |state| Ok(state.end_lane(number, sent))).unwrap_or(sent)
     }
 
     /// How many messages were lost: those of lanes that were dropped or abandoned while the journal
@@ -238,7 +244,7 @@ impl<R: MessageKind> Switchboard<R> {
     /// ```
     pub fn lost(&self) -> u64 {
         self.pass_to_look_at_all();
-        self.lock().lost()
+        self.looked_at().lost()
     }
 
     /// Opens a feed of what is multicast on a channel from now on, whose ring has room for

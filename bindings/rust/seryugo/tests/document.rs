@@ -1,8 +1,8 @@
 //! Each example of `docs/RUST.md` is in this file, so it compiles as it is printed there.
 
-use seryugo::{Error, Mailbox, Object, Request, Seat, Switchboard, WhenFull};
+use seryugo::{Error, Mailbox, Object, Request, Seat, Switchboard};
 use std::error::Error as AnyError;
-use std::fs::{self, File};
+use std::fs;
 use std::path::Path;
 use std::time::Duration;
 
@@ -40,6 +40,10 @@ fn examples_end_well() {
     let ages = seat.mailbox().unwrap();
     with_a_limit(&mut seat, ages).unwrap();
     goes_on(&board).unwrap();
+    let path = std::env::temp_dir().join(format!("seryugo_document_{}", std::process::id()));
+    in_a_file(&path).unwrap();
+    in_a_file(&path).unwrap();
+    fs::remove_file(&path).unwrap();
 }
 
 fn two_mailboxes() -> Ended {
@@ -74,20 +78,26 @@ fn a_question(mut server: Seat, mut client: Seat) -> Ended {
     Ok(())
 }
 
-fn goes_on(board: &Switchboard) -> Ended {
-    let mut file = Vec::new();
-    board.take_journal()?.write_to(&mut file)?;
-
-    let board: Switchboard = Switchboard::restore(&file[..], 65_536)?;
-    let mailbox = board.mailbox::<u64>(0)?;
-    assert_eq!(mailbox.number(), 0);
+fn in_a_file(path: &Path) -> Ended {
+    let board = Switchboard::open(path)?;
+    let mut seat = board.seat()?;
+    let letters = seat.mailbox_again::<String>(0)?;
+    let runs = seat.mvar_again::<u64>(1)?;
+    seat.send(letters, "Dear Ben")?;
+    let before = seat.take_poll(runs)?.unwrap_or_default();
+    seat.put(runs, before + 1)?;
+    board.sync()?;
     Ok(())
 }
 
-#[allow(dead_code)]
-fn to_a_file(file: File) -> Result<Switchboard, Error> {
-    let board = Switchboard::new(65_536)?.when_full(WhenFull::file(file));
-    Ok(board)
+fn goes_on(board: &Switchboard) -> Ended {
+    let mut text = Vec::new();
+    board.take_journal()?.write_to(&mut text)?;
+
+    let board: Switchboard = Switchboard::restore(&text[..], 65_536)?;
+    let mailbox = board.mailbox::<u64>(0)?;
+    assert_eq!(mailbox.number(), 0);
+    Ok(())
 }
 
 #[cfg(feature = "scripts")]

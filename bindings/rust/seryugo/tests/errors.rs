@@ -30,6 +30,21 @@ fn each() -> Vec<Error> {
         Error::TooLong,
         Error::TimedOut,
         Error::Declined,
+        Error::FileBusy,
+        Error::NoJournal,
+        Error::OtherVersion,
+        Error::OtherMessages,
+        Error::BeginsLater,
+        Error::Fault(7),
+        Error::Unlawful(7),
+        Error::FileFailed {
+            words: "open the file: Permission denied".to_string(),
+            errno: 13,
+        },
+        Error::FileFull,
+        Error::FileLost,
+        Error::Forked,
+        Error::HasFile,
         Error::Diverged(Box::new(Diverged {
             position: 7,
             expected: "seat 0 send 0 5: done".to_string(),
@@ -64,7 +79,9 @@ fn errors_have_plain_words() {
             Error::NoMemory,
             Error::Unseen,
             Error::Full,
-            Error::TimedOut
+            Error::TimedOut,
+            Error::FileBusy,
+            Error::FileFull
         ]
     );
 }

@@ -88,7 +88,7 @@ fn function_in_c(name: &str, declared: &str) -> String {
 /// Whether a call opens or makes something, or is needed for that.
 fn opens(name: &str) -> bool {
     match name {
-        "room_restore" | "feed_port" | "lane_open" | "feed_open" => true,
+        "room_restore" | "feed_port" | "lane_open" | "feed_open" | "file_open" => true,
         _ => name.starts_with("open_") || name.starts_with("new_"),
     }
 }
@@ -126,7 +126,6 @@ fn a_foreign_library_makes_no_call_panic() {
         ])
         .current_dir(env!("CARGO_MANIFEST_DIR"))
         .env("SERYUGO_PREFIX", &folder)
-        .env_remove("SERYUGO_ARCHIVES")
         .env("CARGO_TARGET_DIR", folder.join("target"))
         .output()
         .unwrap();
@@ -151,6 +150,7 @@ fn each_code_at_each_call() {
         assert_eq!(Switchboard::new(9).err(), Some(error_of(code)));
         assert_eq!(Switchboard::of_numbers(9).err(), Some(error_of(code)));
         assert!(Checker::new().is_err());
+        assert_eq!(Switchboard::open("x.journal").err(), Some(unopened(code)));
         returns(0, code);
         let (bytes, numbers) = (Switchboard::new(9).unwrap(), Switchboard::of_numbers(9).unwrap());
         calls(&bytes, code);
@@ -183,7 +183,28 @@ fn error_of(code: u32) -> Error {
         13 => Error::Full,
         16 => Error::OutOfBounds,
         20 => Error::TooLong,
+        23 => Error::NoJournal,
+        24 => Error::FileBusy,
+        25 => Error::OtherVersion,
+        26 => Error::OtherMessages,
+        27 => Error::BeginsLater,
+        29 => Error::FileFull,
+        30 => Error::FileLost,
+        31 => Error::Forked,
         code => Error::Unknown(code),
+    }
+}
+
+/// Why no file is opened, of which the library says nothing else.
+fn unopened(code: u32) -> Error {
+    match code {
+        17 => Error::Unlawful(0),
+        18 => Error::Fault(1),
+        28 => Error::FileFailed {
+            words: String::new(),
+            errno: 0,
+        },
+        code => error_of(code),
     }
 }
 

@@ -221,7 +221,12 @@ fn a_text_may_end_anywhere() {
 /// behind a byte 0 isn't read.
 #[test]
 fn other_text_is_no_journal() {
-    for other in [&b"{\"precious\": 1}"[..], b"journals", b"journal 10", b"\x7fELF"] {
+    for other in [
+        &b"{\"precious\": 1}"[..],
+        b"journals",
+        b"journal 10",
+        b"\x7fELF",
+    ] {
         let restored = Board::restore_torn(other, LIMIT);
         assert!(matches!(restored, Err(RestoreError::Check(CheckError::NoJournal))));
         let restored = Board::restore(other, LIMIT);
@@ -230,6 +235,13 @@ fn other_text_is_no_journal() {
     let text = b"journal 1\nseat 0 mailbox: made 0\n\0\0what\nend 7\n";
     let (_, kept) = Board::restore_torn(&text[..], LIMIT).unwrap();
     assert_eq!((kept.entries, kept.bytes, kept.ending.as_str()), (1, 33, "end 1\n"));
+    for (torn, has_more) in [(&text[..], true), (&text[..36], true), (&text[..35], false)] {
+        for length in [1, 10, 34, 35] {
+            let parts = BufReader::with_capacity(length, torn);
+            let (_, kept) = Board::restore_torn(parts, LIMIT).unwrap();
+            assert_eq!((kept.bytes, kept.has_more), (33, has_more));
+        }
+    }
 }
 
 #[test]

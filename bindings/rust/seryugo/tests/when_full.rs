@@ -1,9 +1,8 @@
 //! Switchboards that cut full journals.
 
 use seryugo::{Bytes, Error, MessageKind, Numbers, Switchboard, WhenFull};
-use std::fs::File;
 use std::future::Future;
-use std::io::{self, ErrorKind, Read, Seek};
+use std::io::{self, ErrorKind};
 use std::panic::{self, AssertUnwindSafe};
 use std::pin::pin;
 use std::sync::atomic::{AtomicBool, AtomicU64, Ordering};
@@ -311,37 +310,6 @@ fn a_thread_takes_the_entries() {
     board.keep().unwrap();
     drop(board);
     assert_eq!(entries_of::<Numbers>(&taker.join().unwrap()), 101);
-}
-
-#[test]
-fn a_journal_is_written_to_a_file_and_goes_on_from_it() {
-    let path = std::env::temp_dir().join(format!("seryugo_when_full_{}", std::process::id()));
-    let file =
-        File::options().create(true).truncate(true).read(true).write(true).open(&path).unwrap();
-    let mut read = file.try_clone().unwrap();
-    let board = Switchboard::of_numbers(3).unwrap().when_full(WhenFull::file(file));
-    let mut seat = board.seat().unwrap();
-    let mailbox = seat.mailbox::<u64>().unwrap();
-    for number in 0..10 {
-        seat.send(mailbox, number).unwrap();
-    }
-    board.keep().unwrap();
-    let mut text = Vec::new();
-    read.rewind().unwrap();
-    read.read_to_end(&mut text).unwrap();
-    std::fs::remove_file(&path).unwrap();
-    let board = Switchboard::<Numbers>::restore(&text[..], 3).unwrap();
-    assert_eq!(board.owed(board.mailbox::<u64>(0).unwrap()), Ok(10));
-}
-
-#[cfg(target_os = "linux")]
-#[test]
-fn a_full_disk_is_told_as_such() {
-    let file = File::options().write(true).open("/dev/full").unwrap();
-    let board = Switchboard::of_numbers(1).unwrap().when_full(WhenFull::file(file));
-    board.seat().unwrap().mailbox::<u64>().unwrap();
-    assert_eq!(board.keep(), Err(Error::NotKept));
-    assert_eq!(board.keeping_error().map(|error| error.kind()), Some(ErrorKind::StorageFull));
 }
 
 #[test]

@@ -6,6 +6,7 @@ use crate::journal::entry::Entry;
 use crate::message::carries::MessageKind;
 use crate::message::kind;
 use crate::raw::{self, code, EntrySource, Handle, Reader, Taking};
+use crate::switchboard::call::Ask;
 use crate::switchboard::Switchboard;
 use std::hash::{DefaultHasher, Hash, Hasher};
 
@@ -145,8 +146,9 @@ impl<R: MessageKind> Board for Switchboard<R> {
                 _ => Read::Take,
             };
             let mut found = R::nothing();
-            let code =
-                state.ask(false, |room| R::ask(read, room, seat, step.object, false, &mut found));
+            let code = state.ask(Ask::first(seat), |room| {
+                R::ask(read, room, seat, step.object, false, &mut found)
+            });
             fails_as_stalled = code == code::STALLED;
         }
         let seats = state.next_place();

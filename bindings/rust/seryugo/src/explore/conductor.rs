@@ -8,8 +8,9 @@ use crate::error::Error;
 use crate::journal::entry::{Call, Who};
 use crate::message::carries::{Bytes, MessageKind};
 use crate::park::parker::Parker;
-use crate::raw::Handle;
+use crate::raw::{self, Handle, Reader};
 use crate::request::answers::Answers;
+use crate::switchboard::call::Line;
 use crate::switchboard::state::State;
 use crate::switchboard::Switchboard;
 use std::sync::Arc;
@@ -46,7 +47,7 @@ impl<R: MessageKind> Switchboard<R> {
                 follower.enter(Caller::of_seat(seat, step), WaitKind::Made)?
             }
         };
-        let call = |state: &mut State<R>| state.enter(call);
+        let call = |state: &mut State<R>| state.enter(Line::Short, call);
         match entering {
             None => Ok(self.change(Some(by), call)),
             Some(entering) => self.make_again(entering, call),
@@ -177,6 +178,18 @@ impl<R: MessageKind> Switchboard<R> {
         }
     }
 
+    /// Whether this seat makes the object of this number in a rerun, by its next entry or after the
+    /// last one. Otherwise this waits until another seat has made it.
+    pub(crate) fn makes_again(&self, follower: &Follower<R>, seat: u64, number: u64) -> bool {
+        if follower.makes_next(seat, number) {
+            return true;
+        }
+        let is_there = |number| raw::read(&mut self.lock().handle, Reader::Kind, number).is_ok();
+        let ask = || (is_there(number) || follower.is_over()).then_some(());
+        follower.wait_for(None, &Waits::of_seat(seat), ask);
+        !is_there(number) && number.checked_sub(1).is_none_or(is_there)
+    }
+
     /// A seat was made.
     pub(crate) fn seat_comes(&self, seat: u64) {
         if let Some(follower) = self.follower() {
@@ -202,7 +215,7 @@ impl Switchboard<Bytes> {
     /// a mailbox.
     pub(crate) fn answers_for(&self, seat: u64) -> Option<Answers> {
         match &self.conductor {
-            None => self.lock().free_answers.pop(),
+            None => self.locked().ok()?.free_answers.pop(),
             // Which are free depends on the order of seats.
             Some(Conductor::Exploration(_)) => None,
             Some(Conductor::Rerun(follower)) => self.answers_again(follower, seat),

@@ -249,7 +249,7 @@ impl<R: MessageKind> Rerun<R> {
     pub fn board(&self) -> Result<Switchboard<R>, Error> {
         keep_panics();
         let follower = Follower::new(Arc::clone(&self.plan), self.habits.clone());
-        let board = Switchboard::open(MOST_ENTRIES)?;
+        let board = Switchboard::with_limit(MOST_ENTRIES)?;
         Ok(board.conducted_by(Conductor::Rerun(Arc::new(follower))))
     }
 

@@ -143,7 +143,8 @@ impl Explorer {
 
     /// Runs the program once.
     pub fn run<R: MessageKind>(&self, run: u64, program: &impl Fn(&Arc<Switchboard<R>>)) -> Run {
-        let board = Switchboard::<R>::open(self.strategy.limits.entries).expect("a switchboard");
+        let board =
+            Switchboard::<R>::with_limit(self.strategy.limits.entries).expect("a switchboard");
         let board = Arc::new(board.conducted_by(Conductor::Exploration(Arc::clone(&self.play))));
         self.play.lock().begin(Arc::clone(&board) as Arc<dyn Board>, &self.main, run);
         play::enter(&self.play, 0);

@@ -8,7 +8,7 @@ use super::moves::{By, Move};
 use super::schedule::Choice;
 use super::step::{Step, StepKind, NONE};
 use super::worker::{Slot, Worker};
-use crate::switchboard::state::MOST_MOVED;
+use crate::switchboard::moving::MOST_MOVED;
 use calls::{Awaited, Call};
 use locks::Locks;
 use std::collections::VecDeque;

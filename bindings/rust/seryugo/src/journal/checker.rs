@@ -1,7 +1,6 @@
 //! A journal's text, checked as it is read.
 
 use crate::error::Error;
-use crate::journal::header;
 use crate::journal::prefix::{Lines, ValidPrefix};
 use crate::journal::sum::{RawSum, Sum};
 use crate::journal::Journal;
@@ -104,6 +103,21 @@ impl From<Error> for CheckError {
             Error::NoMemory => CheckError::NoMemory,
             error => CheckError::Library(error),
         }
+    }
+}
+
+/// Why the library doesn't read the text that begins with this line, if the line says so. The
+/// library refuses it too, but says only that the line has a fault.
+pub(crate) fn refused<R: MessageKind>(line: &[u8]) -> Option<CheckError> {
+    let is_printed = line.iter().all(|byte| matches!(byte, b' '..=b'~'));
+    let words = std::str::from_utf8(line).ok()?.strip_prefix("journal ")?;
+    let word = words.split(' ').next()?;
+    let version: u64 = word.parse().ok()?;
+    match version {
+        _ if !is_printed || version.to_string() != word => None,
+        _ if R::OTHER_VERSIONS.contains(&word) => Some(CheckError::OtherMessages),
+        1..=4 => None,
+        version => Some(CheckError::OtherVersion(version)),
     }
 }
 
@@ -228,7 +242,7 @@ impl<R: MessageKind> Checker<R> {
     /// The fault in the line after the whole ones.
     fn fault(&self) -> CheckError {
         let refused = match self.whole_lines() {
-            0 => self.lines.first().and_then(header::refused::<R>),
+            0 => self.lines.first().and_then(refused::<R>),
             _ => None,
         };
         refused.unwrap_or(CheckError::Fault(self.whole_lines().saturating_add(1)))

@@ -1,128 +1,445 @@
-//! A file to which the pieces of a journal are appended.
+//! A switchboard whose journal is kept in a file.
 
-use crate::journal::sum::Sum;
-use crate::journal::Journal;
-use crate::message::carries::MessageKind;
-use std::cmp::Ordering;
-use std::fs::File;
-use std::io::{self, ErrorKind, Read, Seek, SeekFrom};
+use crate::error::Error;
+use crate::message::carries::{MessageKind, Numbers};
+use crate::raw::{code, done, File, FileFound, FileOptions};
+use crate::switchboard::Switchboard;
+use crate::version;
+use std::ffi::{CString, OsStr};
+use std::os::unix::ffi::OsStrExt;
+use std::path::{Path, PathBuf};
+use std::sync::Arc;
+use std::time::Duration;
 
-/// The most bytes that a piece's last line has, with the line feed before it.
-const LAST_LINE: u64 = 96;
+/// How many entries the room's journal has at most. The file cuts it long before.
+const LIMIT: u64 = 65_536;
 
-pub(crate) struct Appending {
-    file: File,
-    /// Where the file ended after the last piece, and how.
-    left: Option<(u64, Ending)>,
+/// The most bytes of a message, and of both messages of a swap.
+const MESSAGE_MOST: u64 = 371_000;
+
+/// The errors of a system call that was given a bad argument.
+const EINVAL: i32 = 22;
+
+/// How a journal's file is opened. [`Switchboard::open`] opens one with the defaults.
+///
+/// ```
+/// use seryugo::{JournalFile, Switchboard};
+/// use std::time::Duration;
+///
+/// # fn main() -> Result<(), seryugo::Error> {
+/// # let path = std::env::temp_dir().join(format!("seryugo-doc-{}.options", std::process::id()));
+/// let options = JournalFile::new().sync_every(Duration::from_millis(100));
+/// let board = options.open(&path)?;
+/// board.close()?;
+/// # std::fs::remove_file(&path).unwrap();
+/// # Ok(())
+/// # }
+/// ```
+#[derive(Clone, Copy, Debug, PartialEq, Eq)]
+pub struct JournalFile {
+    sync_milliseconds: u64,
+    segment: u64,
 }
 
-/// How a file ends.
-#[derive(Clone, Copy)]
-struct Ending {
-    /// The position after the last entry.
-    entries: u64,
-    form: Form,
-}
-
-/// What the next piece follows.
-#[derive(Clone, Copy)]
-enum Form {
-    /// Pieces without sums.
-    Plain,
-    /// The piece with this sum. Without one, nothing.
-    Sealed(Option<Sum>),
-}
-
-impl Appending {
-    pub fn to(file: File) -> Appending {
-        Appending { file, left: None }
+impl Default for JournalFile {
+    fn default() -> JournalFile {
+        JournalFile::new()
     }
+}
 
-    /// Writes a journal where the file ends. A torn piece would make all after it unreadable, so
-    /// that none is left there.
-    pub fn append<R: MessageKind>(&mut self, journal: &Journal<R>) -> io::Result<()> {
-        let end = self.file.seek(SeekFrom::End(0))?;
-        let form = self.form_at(end, journal.first())?;
-        self.file.seek(SeekFrom::Start(end))?;
-        match self.write(form, journal) {
-            Ok(form) => {
-                let entries = journal.first() + journal.len() as u64;
-                let ending = Ending { entries, form };
-                self.left = self.file.stream_position().ok().map(|end| (end, ending));
-                Ok(())
-            }
-            Err(error) => {
-                // If this fails too, the error still says why the entries weren't written.
-                let _ = self.file.set_len(end);
-                Err(error)
-            }
+impl JournalFile {
+    /// The defaults: the file is synced each second, and grows by 4 MiB.
+    ///
+    /// ```
+    /// assert_eq!(seryugo::JournalFile::new(), seryugo::JournalFile::default());
+    /// ```
+    #[must_use]
+    pub fn new() -> JournalFile {
+        JournalFile {
+            sync_milliseconds: 1_000,
+            segment: 0,
         }
     }
 
-    /// What a piece follows whose first entry has this position. If the file's entries end
-    /// elsewhere, no reader would take the piece.
-    fn form_at(&mut self, end: u64, first: u64) -> io::Result<Form> {
-        let Ending { entries, form } = self.ending(end)?;
-        match entries.cmp(&first) {
-            Ordering::Equal => Ok(form),
-            Ordering::Greater => {
-                Err(unfit("the file has other entries where the next piece begins"))
-            }
-            Ordering::Less => Err(unfit("the file lacks entries before those of the next piece")),
+    /// Sets how long it is from one sync to the next, in whole milliseconds, from 1 on. After a loss
+    /// of power about this much is lacking.
+    ///
+    /// ```
+    /// use std::time::Duration;
+    ///
+    /// let often = seryugo::JournalFile::new().sync_every(Duration::from_millis(50));
+    /// assert_ne!(often, seryugo::JournalFile::new());
+    /// ```
+    #[must_use]
+    pub fn sync_every(mut self, period: Duration) -> JournalFile {
+        self.sync_milliseconds = u64::try_from(period.as_millis()).unwrap_or(u64::MAX).max(1);
+        self
+    }
+
+    /// Has the file synced only by [`sync`](Switchboard::sync), by [`close`](Switchboard::close), and
+    /// where 32 MiB aren't synced yet.
+    ///
+    /// ```
+    /// let by_hand = seryugo::JournalFile::new().sync_by_hand();
+    /// assert_ne!(by_hand, seryugo::JournalFile::new());
+    /// ```
+    #[must_use]
+    pub fn sync_by_hand(mut self) -> JournalFile {
+        self.sync_milliseconds = 0;
+        self
+    }
+
+    /// Sets by how many bytes the file grows ahead of its text, in whole pages. Less costs more
+    /// calls of the system.
+    ///
+    /// ```
+    /// let small = seryugo::JournalFile::new().grow_by(65_536);
+    /// assert_ne!(small, seryugo::JournalFile::new());
+    /// ```
+    #[must_use]
+    pub fn grow_by(mut self, bytes: u64) -> JournalFile {
+        self.segment = bytes.max(1);
+        self
+    }
+
+    /// Opens a switchboard of bytes, as [`Switchboard::open`] does.
+    ///
+    /// ```
+    /// # fn main() -> Result<(), seryugo::Error> {
+    /// # let path = std::env::temp_dir().join(format!("seryugo-doc-{}.bytes", std::process::id()));
+    /// let board = seryugo::JournalFile::new().sync_by_hand().open(&path)?;
+    /// board.sync()?;
+    /// # drop(board);
+    /// # std::fs::remove_file(&path).unwrap();
+    /// # Ok(())
+    /// # }
+    /// ```
+    ///
+    /// # Errors
+    ///
+    /// As [`Switchboard::open`].
+    pub fn open(&self, path: impl AsRef<Path>) -> Result<Switchboard, Error> {
+        self.open_board(path.as_ref())
+    }
+
+    /// Opens a switchboard of numbers, as [`Switchboard::open_numbers`] does.
+    ///
+    /// ```
+    /// # fn main() -> Result<(), seryugo::Error> {
+    /// # let path = std::env::temp_dir().join(format!("seryugo-doc-{}.numbers", std::process::id()));
+    /// let board = seryugo::JournalFile::new().open_numbers(&path)?;
+    /// let mut seat = board.seat()?;
+    /// let ages = seat.mailbox_again(0)?;
+    /// seat.send(ages, 41)?;
+    /// # drop(seat);
+    /// # drop(board);
+    /// # std::fs::remove_file(&path).unwrap();
+    /// # Ok(())
+    /// # }
+    /// ```
+    ///
+    /// # Errors
+    ///
+    /// As [`Switchboard::open`].
+    pub fn open_numbers(&self, path: impl AsRef<Path>) -> Result<Switchboard<Numbers>, Error> {
+        self.open_board(path.as_ref())
+    }
+
+    fn open_board<R: MessageKind>(self, path: &Path) -> Result<Switchboard<R>, Error> {
+        version::check()?;
+        let name = CString::new(path.as_os_str().as_bytes()).map_err(|_| Error::FileFailed {
+            words: "the path has a byte 0".to_string(),
+            errno: EINVAL,
+        })?;
+        let options = FileOptions {
+            sync_milliseconds: self.sync_milliseconds,
+            flags: 0,
+            segment: self.segment,
+        };
+        let (found, opened) = File::open(&name, R::MESSAGES, LIMIT, &options);
+        let (file, room) = opened.map_err(|code| refusal(code, &found))?;
+        Ok(Switchboard::over(room, LIMIT).kept_in(OpenFile {
+            file: Arc::new(file),
+            recovered: Recovered::of(&found, path),
+        }))
+    }
+}
+
+/// Why a file wasn't opened, by the code of the call and what it found.
+fn refusal(code: u32, found: &FileFound) -> Error {
+    match code {
+        code::FAULT => Error::Fault(found.lines.saturating_add(1)),
+        code::UNLAWFUL => Error::Unlawful(found.entries),
+        code::FILE_FAILED => Error::FileFailed {
+            words: found.words(),
+            errno: found.errno,
+        },
+        code => Error::of_code(code),
+    }
+}
+
+/// What was found as a journal's file was opened.
+///
+/// ```
+/// # fn main() -> Result<(), seryugo::Error> {
+/// # let path = std::env::temp_dir().join(format!("seryugo-doc-{}.found", std::process::id()));
+/// let board = seryugo::Switchboard::open(&path)?;
+/// assert!(board.recovered().unwrap().is_new);
+/// board.seat()?.mailbox_again::<String>(0)?;
+/// board.close()?;
+///
+/// let board = seryugo::Switchboard::open(&path)?;
+/// let recovered = board.recovered().unwrap();
+/// assert_eq!((recovered.entries, recovered.lines, recovered.cut_off), (1, 2, 0));
+/// # drop(board);
+/// # std::fs::remove_file(&path).unwrap();
+/// # Ok(())
+/// # }
+/// ```
+#[derive(Clone, Debug, PartialEq, Eq)]
+#[non_exhaustive]
+pub struct Recovered {
+    /// How many entries the journal has.
+    pub entries: u64,
+    /// How many lines they have, with the first ones of pieces and the like.
+    pub lines: u64,
+    /// How many bytes of the file are kept.
+    pub kept: u64,
+    /// How many bytes after these were cut off, apart from zeros at the end. It is the beginning of a
+    /// line that a kill cut short, or what the system had written ahead before the power was lost.
+    pub cut_off: u64,
+    /// The file that has what was cut off, if that is more than a line.
+    pub saved: Option<PathBuf>,
+    /// There was no file.
+    pub is_new: bool,
+}
+
+impl Recovered {
+    fn of(found: &FileFound, path: &Path) -> Recovered {
+        let saved = Some(found.saved()).filter(|name| !name.is_empty());
+        Recovered {
+            entries: found.entries,
+            lines: found.lines,
+            kept: found.kept,
+            cut_off: found.cut_off,
+            saved: saved.map(|name| path.with_file_name(OsStr::from_bytes(name))),
+            is_new: found.is_new,
+        }
+    }
+}
+
+/// The file of a switchboard.
+pub(crate) struct OpenFile {
+    file: Arc<File>,
+    recovered: Recovered,
+}
+
+impl OpenFile {
+    /// Whether this process is a child of that which has the file.
+    #[inline]
+    pub fn is_forked(&self) -> bool {
+        self.file.state() == code::FORKED
+    }
+}
+
+impl Switchboard {
+    /// Opens a switchboard whose journal is kept in the file of this path. If there is no file, this
+    /// makes it. Else it goes on where the journal ends, with the objects and messages that were
+    /// there.
+    ///
+    /// Find the objects by their numbers: [`mailbox_again`](crate::Seat::mailbox_again) and the calls
+    /// after it. Seats, lanes and feeds are new.
+    ///
+    /// ```
+    /// fn main() -> Result<(), seryugo::Error> {
+    /// #   std::env::set_current_dir(std::env::temp_dir()).unwrap();
+    ///     let board = seryugo::Switchboard::open("letters.journal")?;
+    ///     let mut seat = board.seat()?;
+    ///     let letters = seat.mailbox_again::<String>(0)?;
+    ///     seat.send(letters, "Dear Ben")?;
+    ///     println!("{}", seat.recv(letters)?);
+    ///     drop(seat);
+    /// #   std::fs::remove_file("letters.journal").unwrap();
+    ///     board.close()
+    /// }
+    /// ```
+    ///
+    /// # What is kept
+    ///
+    /// - After the end of the program, by a panic or `kill -9` too: each call that returned.
+    /// - After a loss of power: what was synced, and a beginning of the rest. The file is synced each
+    ///   second ([`JournalFile::sync_every`]), and by [`sync`](Switchboard::sync).
+    /// - A message of a [`Lane`](crate::Lane) is kept once it is drained. One of a
+    ///   [`Feed`](crate::Feed) counts as received once it is pumped.
+    ///
+    /// The journal's limit refuses no call, and only the file cuts the journal. So `cut`, `keep` and
+    /// each other call that cuts or takes it fail with [`HasFile`](Error::HasFile).
+    ///
+    /// Another program must not change the file while it is open. If one cuts it, a call may end this
+    /// program by a signal.
+    ///
+    /// # Errors
+    ///
+    /// These leave the file as it was:
+    ///
+    /// - `FileBusy`: another switchboard has the file, of this process or of another.
+    /// - `NoJournal`, `OtherVersion`, `OtherMessages`, `BeginsLater`: the file isn't such a journal.
+    /// - `Fault`, `Unlawful`: the journal was changed.
+    ///
+    /// After `FileFailed` and `NoMemory` what the file had is still there, but its end may be cut
+    /// off, and the file may be new. `Version` as of [`new`](Switchboard::new).
+    pub fn open(path: impl AsRef<Path>) -> Result<Switchboard, Error> {
+        JournalFile::new().open(path)
+    }
+}
+
+impl Switchboard<Numbers> {
+    /// Opens a switchboard of numbers. [`open`](Switchboard::open) says the rest.
+    ///
+    /// ```
+    /// # fn main() -> Result<(), seryugo::Error> {
+    /// # let path = std::env::temp_dir().join(format!("seryugo-doc-{}.sums", std::process::id()));
+    /// let board = seryugo::Switchboard::open_numbers(&path)?;
+    /// let mut seat = board.seat()?;
+    /// let sum = seat.mvar_again(0)?;
+    /// let before = seat.take_poll(sum)?.unwrap_or_default();
+    /// seat.put(sum, before + 1)?;
+    /// # drop(seat);
+    /// # drop(board);
+    /// # std::fs::remove_file(&path).unwrap();
+    /// # Ok(())
+    /// # }
+    /// ```
+    ///
+    /// # Errors
+    ///
+    /// As [`open`](Switchboard::open).
+    pub fn open_numbers(path: impl AsRef<Path>) -> Result<Switchboard<Numbers>, Error> {
+        JournalFile::new().open_numbers(path)
+    }
+}
+
+/// # A journal in a file
+///
+/// [`open`](Switchboard::open) opens one.
+impl<R: MessageKind> Switchboard<R> {
+    fn kept_in(mut self, file: OpenFile) -> Switchboard<R> {
+        self.state_mut().set_file(Some(Arc::clone(&file.file)));
+        self.file = Some(Box::new(file));
+        self
+    }
+
+    /// Returns what was found as the file was opened. `None`: no file keeps the journal.
+    ///
+    /// ```
+    /// assert_eq!(seryugo::Switchboard::new(1_000)?.recovered(), None);
+    /// # Ok::<(), seryugo::Error>(())
+    /// ```
+    #[must_use]
+    pub fn recovered(&self) -> Option<&Recovered> {
+        self.file.as_ref().map(|file| &file.recovered)
+    }
+
+    /// Blocks until all calls that returned are on the disk. Without a file it does nothing.
+    ///
+    /// ```
+    /// # fn main() -> Result<(), seryugo::Error> {
+    /// # let path = std::env::temp_dir().join(format!("seryugo-doc-{}.sync", std::process::id()));
+    /// let board = seryugo::Switchboard::open(&path)?;
+    /// let mut seat = board.seat()?;
+    /// let orders = seat.mailbox_again::<String>(0)?;
+    /// seat.send(orders, "two apples")?;
+    /// board.sync()?;
+    /// println!("your order is on the disk");
+    /// # drop(seat);
+    /// # drop(board);
+    /// # std::fs::remove_file(&path).unwrap();
+    /// # Ok(())
+    /// # }
+    /// ```
+    ///
+    /// # Errors
+    ///
+    /// `FileLost`: a sync has failed, so nobody knows what is on the disk. `Forked`.
+    pub fn sync(&self) -> Result<(), Error> {
+        self.file.as_ref().map_or(Ok(()), |file| done(file.file.sync()))
+    }
+
+    /// Syncs and closes the journal's file. Without a file this is [`keep`](Switchboard::keep), and
+    /// then the switchboard goes.
+    ///
+    /// A switchboard that is dropped closes its file too. If that fails, a line on standard error
+    /// says so. Of an `Arc<Switchboard>` the last owner's drop closes the file.
+    ///
+    /// ```
+    /// # fn main() -> Result<(), seryugo::Error> {
+    /// # let path = std::env::temp_dir().join(format!("seryugo-doc-{}.close", std::process::id()));
+    /// let board = seryugo::Switchboard::open(&path)?;
+    /// board.seat()?.mailbox_again::<String>(0)?;
+    /// board.close()?;
+    /// assert!(std::fs::read_to_string(&path).unwrap().ends_with("mailbox: made 0\n"));
+    /// # std::fs::remove_file(&path).unwrap();
+    /// # Ok(())
+    /// # }
+    /// ```
+    ///
+    /// # Errors
+    ///
+    /// The switchboard is closed in any case. `FileLost`: a sync has failed. `FileFull`: some calls
+    /// aren't in the file. `Forked`. Without a file as [`keep`](Switchboard::keep).
+    pub fn close(mut self) -> Result<(), Error> {
+        match self.file {
+            Some(_) => self.close_file(),
+            None => self.keep(),
         }
     }
 
-    /// How the file ends. It looks each time, since the file's owner may have put a short journal in
-    /// place of the text.
-    fn ending(&mut self, end: u64) -> io::Result<Ending> {
-        match (ending_of(&mut self.file, end), self.left) {
-            // The file is open for writing alone, and ends with what this wrote.
-            (Err(error), Some((left, ending)))
-                if error.kind() != ErrorKind::InvalidData && left == end =>
-            {
-                Ok(ending)
-            }
-            (ending, _) => ending,
+    /// Notes what is pending, and closes the file, if it is open.
+    fn close_file(&mut self) -> Result<(), Error> {
+        let Some(opened) = self.file.take() else {
+            return Ok(());
+        };
+        let state = self.state_mut();
+        let noted = state.note();
+        state.set_file(None);
+        let closed = Arc::into_inner(opened.file).map_or(code::DONE, File::close);
+        done(noted).and(done(closed))
+    }
+
+    /// Whether a lane takes this message: the file may have too little room for its line.
+    #[inline]
+    pub(crate) fn takes(&self, sent: R::Sent<'_>) -> bool {
+        R::length(sent) <= MESSAGE_MOST || self.file.is_none()
+    }
+}
+
+/// Closes the file that keeps the journal. See [`close`](Switchboard::close).
+impl<R: MessageKind> Drop for Switchboard<R> {
+    fn drop(&mut self) {
+        match self.close_file() {
+            // A child of a fork has only a copy.
+            Ok(()) | Err(Error::Forked) => {}
+            Err(error) => eprintln!("seryugo: a switchboard was dropped: {error}"),
         }
     }
+}
 
-    /// Writes a piece, and returns what the next one follows.
-    fn write<R: MessageKind>(&mut self, form: Form, journal: &Journal<R>) -> io::Result<Form> {
-        let next = match form {
-            Form::Plain => journal.write_to(&mut self.file).map(|()| Form::Plain),
-            Form::Sealed(after) => {
-                journal.write_sealed_to(after, &mut self.file).map(|sum| Form::Sealed(Some(sum)))
-            }
-        }?;
-        self.file.sync_data()?;
-        Ok(next)
+#[cfg(test)]
+mod tests {
+    use super::*;
+    use crate::message::carries::Bytes;
+
+    #[test]
+    fn a_period_is_at_least_a_millisecond() {
+        let period = |period| JournalFile::new().sync_every(period).sync_milliseconds;
+        assert_eq!(period(Duration::ZERO), 1);
+        assert_eq!(period(Duration::from_secs(2)), 2_000);
+        assert_eq!(period(Duration::MAX), u64::MAX);
+        assert_eq!(JournalFile::new().sync_by_hand().sync_milliseconds, 0);
     }
-}
 
-fn unfit(why: &str) -> io::Error {
-    io::Error::new(ErrorKind::InvalidData, why)
-}
-
-/// How a file of this length ends, by its last line.
-fn ending_of(file: &mut File, length: u64) -> io::Result<Ending> {
-    if length == 0 {
-        let form = Form::Sealed(None);
-        return Ok(Ending { entries: 0, form });
+    #[test]
+    fn only_a_file_bounds_what_a_lane_takes() {
+        assert!(Switchboard::<Bytes>::new(10).unwrap().takes(&vec![0; 371_001]));
     }
-    file.seek(SeekFrom::Start(length.saturating_sub(LAST_LINE)))?;
-    let mut tail = Vec::new();
-    file.take(LAST_LINE).read_to_end(&mut tail)?;
-    ended(&tail).ok_or_else(|| unfit("the file doesn't end with a piece of a journal"))
-}
-
-/// How a text ends whose last bytes are these.
-fn ended(tail: &[u8]) -> Option<Ending> {
-    let (_, line) = std::str::from_utf8(tail).ok()?.strip_suffix('\n')?.rsplit_once('\n')?;
-    let mut words = line.strip_prefix("end ")?.split(' ');
-    let entries = words.next()?.parse().ok()?;
-    let form = match words.next() {
-        Some(sum) => Form::Sealed(Some(sum.parse().ok()?)),
-        None => Form::Plain,
-    };
-    words.next().is_none().then_some(Ending { entries, form })
 }

@@ -1,12 +1,10 @@
 //! What becomes of a full journal.
 
 use crate::error::Error;
-use crate::journal::file::Appending;
 use crate::journal::Journal;
 use crate::message::carries::{Bytes, MessageKind};
 use crate::raw::{self, done, Handle, Reader, Taking};
 use std::fmt;
-use std::fs::File;
 use std::io;
 use std::mem;
 
@@ -87,50 +85,6 @@ impl<R: MessageKind> WhenFull<R> {
         taker: impl FnMut(Journal<R>) -> Result<(), Journal<R>> + Send + 'static,
     ) -> WhenFull<R> {
         WhenFull::Give(Box::new(taker))
-    }
-
-    /// Appends the entries to a file, and syncs it before the call is made. If that fails, it cuts
-    /// the file to what it had.
-    ///
-    /// An empty file gets pieces with sums, as [`Journal::write_sealed_to`] writes them. A file
-    /// that has such pieces, or pieces without sums, gets more of them. Open it for reading too:
-    /// the last line, which has the last sum, is read before a piece is written. If that isn't the
-    /// end of a piece, nothing is written: cut off first what is torn
-    /// ([`restore_torn`](crate::Switchboard::restore_torn)).
-    ///
-    /// The file's entries must end where the piece begins. Nothing is written if it has an entry
-    /// there, as that of another switchboard. Nor is anything if it lacks entries before, as after
-    /// [`take_journal`](crate::Switchboard::take_journal) or [`cut`](crate::Switchboard::cut). The
-    /// call fails with [`NotKept`](Error::NotKept), and the switchboard keeps the entries. Append
-    /// first what you took. If that is lost, begin a text anew by
-    /// [`compact_with`](crate::Switchboard::compact_with).
-    ///
-    /// It goes on with this file, also if another one gets its name. So
-    /// [`compact_with`](crate::Switchboard::compact_with) may write a short journal in place of the
-    /// file's text, but a crash meanwhile loses the text. To rename a new file to the old one's
-    /// name, use a sink that you can give the new one.
-    ///
-    /// Send no message of 371,000 bytes or more. It may be [`TooLong`](Error::TooLong) to be
-    /// written: then each call from there on fails with [`NotKept`](Error::NotKept). At the end
-    /// call [`keep`](crate::Switchboard::keep): a switchboard that is dropped writes nothing.
-    ///
-    /// ```no_run
-    /// use seryugo::{Switchboard, WhenFull};
-    /// use std::fs::OpenOptions;
-    ///
-    /// # fn main() -> Result<(), Box<dyn std::error::Error>> {
-    /// // A journal that is there already isn't emptied.
-    /// let file = OpenOptions::new().read(true).append(true).create_new(true).open("x.journal")?;
-    /// let board = Switchboard::new(1_000)?.when_full(WhenFull::file(file));
-    /// // Calls, and at the end:
-    /// board.keep()?;
-    /// # Ok(())
-    /// # }
-    /// ```
-    #[must_use]
-    pub fn file(file: File) -> WhenFull<R> {
-        let mut file = Appending::to(file);
-        WhenFull::call(move |journal| file.append(journal))
     }
 }
 

@@ -30,6 +30,9 @@ pub struct ValidPrefix {
     /// `None`, and some bytes are kept, the text has no sums: go on by
     /// [`write_to`](crate::Journal::write_to). If no bytes are kept, choose.
     pub sum: Option<Sum>,
+    /// Whether bytes other than 0 come after the byte 0 that ends the text. No torn write leaves
+    /// them: the text was changed, and to cut it would lose them.
+    pub has_more: bool,
 }
 
 /// The name that [`ValidPrefix`] had before.
@@ -48,15 +51,19 @@ pub(crate) struct Lines {
     open: Vec<u8>,
     /// Whether a byte 0 has come, which ends the text.
     is_over: bool,
+    /// Whether another byte came after it.
+    has_more: bool,
 }
 
 impl Lines {
     pub fn note(&mut self, part: &[u8]) {
-        if self.is_over {
-            return;
-        }
-        let text = part.split(|byte| *byte == 0).next().unwrap_or_default();
-        self.is_over = text.len() < part.len();
+        let ends = |byte: &u8| *byte == 0;
+        let text = match self.is_over {
+            true => &[],
+            false => part.split(ends).next().unwrap_or_default(),
+        };
+        self.is_over |= text.len() < part.len();
+        self.has_more |= !part[text.len()..].iter().all(ends);
         let Some(end) = last_line_end(text) else {
             self.begin(text);
             return;
@@ -104,6 +111,7 @@ impl Lines {
             bytes,
             ending,
             sum,
+            has_more: self.has_more,
         }
     }
 }

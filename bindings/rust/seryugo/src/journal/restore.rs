@@ -111,8 +111,9 @@ impl<R: MessageKind> Switchboard<R> {
     /// Reads a journal whose text may have no end, as after a crash, and returns a switchboard that
     /// goes on from the last whole line.
     ///
-    /// Before you write the next piece, cut the text to the bytes that were kept, and write their
-    /// ending. If the text has sums, write the next piece by
+    /// For a journal in a file use [`open`](Switchboard::open), which does the rest too. Otherwise
+    /// see that [`ValidPrefix::has_more`] is `false`. Then, before you write the next piece, cut the
+    /// text to the bytes that were kept, and write their ending. If the text has sums, write the next piece by
     /// [`Journal::write_sealed_to`](crate::Journal::write_sealed_to) after [`ValidPrefix::sum`]. This
     /// holds of a whole text too. A piece without its end has no sum yet: a change among its lines
     /// that leaves a lawful journal isn't seen.

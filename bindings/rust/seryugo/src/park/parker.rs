@@ -2,6 +2,7 @@
 
 use crate::park::backoff::{pass_by_spinning, LongBackoff, Pass, ShortBackoff};
 use crate::park::yields::pass_by_yielding;
+use std::any::Any;
 use std::mem;
 use std::panic::{self, AssertUnwindSafe};
 use std::sync::atomic::{AtomicBool, AtomicU64, AtomicU8, Ordering};
@@ -31,6 +32,16 @@ pub(crate) enum Woken {
     Task(thread::Result<()>),
     /// Neither: the seat is about to wait, and sees the wake then.
     Awake,
+}
+
+impl Woken {
+    /// The panic of a waker.
+    pub fn panic(self) -> Option<Box<dyn Any + Send>> {
+        match self {
+            Woken::Task(woken) => woken.err(),
+            Woken::Thread | Woken::Awake => None,
+        }
+    }
 }
 
 /// The number of no seat.

@@ -11,6 +11,7 @@ use crate::request::{Asker, Request};
 use crate::seat::owned::Holds;
 use crate::seat::pending::{Answer, PendingCall};
 use crate::seat::Seat;
+use crate::switchboard::call::Line;
 use std::fmt;
 use std::time::{Duration, Instant};
 
@@ -221,7 +222,8 @@ impl<H: Holds<Bytes>> Seat<'_, Bytes, H> {
         let mut bytes = Vec::new();
         asker.write_to(&mut bytes);
         <Bytes as Carries<Q>>::with_sent(question, |piece| bytes.extend_from_slice(piece));
-        done(self.call(Give::Send.on(mailbox), |room, seat| {
+        let line = Line::Message(Bytes::length(&bytes));
+        done(self.call(Give::Send.on(mailbox), line, |room, seat| {
             Bytes::give(Give::Send, room, seat, mailbox, &bytes)
         })?)?;
         Ok(asker)

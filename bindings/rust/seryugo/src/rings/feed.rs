@@ -8,6 +8,7 @@ use crate::message::carries::{Carries, MessageKind};
 use crate::message::names::{Channel, Port};
 use crate::raw::{self, code, written, Handle};
 use crate::seat::owned::Holds;
+use crate::switchboard::call::Line;
 use crate::switchboard::Switchboard;
 use std::fmt;
 use std::marker::PhantomData;
@@ -56,7 +57,7 @@ impl<R: MessageKind, T, H: Holds<R>> Feed<'_, R, T, H> {
             });
             feed.map(|feed| (feed, number))
         };
-        let open = || board.open_feed(channel, |state| state.enter(open));
+        let open = || board.open_feed(channel, |state| state.enter(Line::Short, open));
         let (mut handle, number) =
             board.pass_by(StepKind::OpenFeed.on(channel), open, |(_, number)| *number)?;
         let port = written(|port| raw::seryugo_feed_port(&mut handle, port))?;

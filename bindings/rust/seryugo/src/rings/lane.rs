@@ -5,7 +5,7 @@ use crate::explore::{RerunLane, StepKind};
 use crate::message::carries::{Carries, MessageKind};
 use crate::message::names::Named;
 use crate::message::sent_as::SentAs;
-use crate::raw::{self, done, Handle};
+use crate::raw::{self, code, done, Handle};
 use crate::seat::owned::Holds;
 use crate::switchboard::Switchboard;
 use std::fmt;
@@ -69,7 +69,7 @@ impl<'a, R: MessageKind, T, H: Holds<R>> Lane<'a, R, T, H> {
     /// Opens a lane at a switchboard.
     pub(crate) fn at(board: H, target: impl Named, capacity: usize) -> Result<Self, Error> {
         let target = board.here(target)?;
-        let open = || board.lock().open_lane(target, capacity);
+        let open = || board.locked()?.open_lane(target, capacity);
         let (handle, number) =
             board.pass_by(StepKind::OpenLane.on(target), open, |(_, number)| *number)?;
         let ring = if board.is_explored() {
@@ -128,7 +128,10 @@ impl<'a, R: MessageKind, T, H: Holds<R>> Lane<'a, R, T, H> {
         R: Carries<T>,
     {
         let sent = match &mut self.ring {
-            Ring::Own(lane) => done(R::with_sent(&message, |sent| R::lane_send(lane, sent))),
+            Ring::Own(lane) => done(R::with_sent(&message, |sent| match self.board.takes(sent) {
+                true => R::lane_send(lane, sent),
+                false => code::TOO_LONG,
+            })),
             Ring::Explored(_) => self.send_explored(&message),
             Ring::Rerun(lane) => self.board.lane_sends(lane, R::owned(&message)),
         };

@@ -8,6 +8,8 @@ use crate::message::names::{Channel, IVar, MVar, Mailbox, Named, Port};
 use crate::raw::{self, code, done, done_or, Handle};
 use crate::seat::owned::Holds;
 use crate::seat::Seat;
+use crate::switchboard::call::Line;
+use crate::switchboard::state::State;
 
 /// # Calls that make objects
 impl<R: MessageKind, H: Holds<R>> Seat<'_, R, H> {
@@ -28,7 +30,7 @@ impl<R: MessageKind, H: Holds<R>> Seat<'_, R, H> {
     where
         R: Carries<T>,
     {
-        self.make(StepKind::Mailbox.makes(), |room, seat, name| {
+        self.make(StepKind::Mailbox.makes(), Line::Short, |room, seat, name| {
             raw::seryugo_new_mailbox(room, seat, name)
         })
     }
@@ -50,7 +52,7 @@ impl<R: MessageKind, H: Holds<R>> Seat<'_, R, H> {
     where
         R: Carries<T>,
     {
-        self.make(StepKind::Channel.makes(), |room, seat, name| {
+        self.make(StepKind::Channel.makes(), Line::Short, |room, seat, name| {
             raw::seryugo_new_channel(room, seat, name)
         })
     }
@@ -73,7 +75,7 @@ impl<R: MessageKind, H: Holds<R>> Seat<'_, R, H> {
     /// [The usual ones](crate::Seat#how-a-call-fails).
     pub fn port<T>(&mut self, channel: Channel<T>) -> Result<Port<T>, Error> {
         let channel = self.here(channel)?;
-        self.make(StepKind::Port.on(channel), |room, seat, name| {
+        self.make(StepKind::Port.on(channel), Line::Short, |room, seat, name| {
             raw::seryugo_new_port(room, seat, channel, name)
         })
     }
@@ -99,7 +101,7 @@ impl<R: MessageKind, H: Holds<R>> Seat<'_, R, H> {
     pub fn copy<T>(&mut self, port: Port<T>) -> Result<Option<Port<T>>, Error> {
         let port = self.here(port)?;
         let mut number = 0;
-        let code = self.call(StepKind::Copy.on(port), |room, seat| {
+        let code = self.call(StepKind::Copy.on(port), Line::Short, |room, seat| {
             raw::seryugo_copy_port(room, seat, port, &mut number)
         });
         let is_open = done_or(code?, code::CLOSED)?;
@@ -124,8 +126,9 @@ impl<R: MessageKind, H: Holds<R>> Seat<'_, R, H> {
     /// [The usual ones](crate::Seat#how-a-call-fails).
     pub fn close<T>(&mut self, port: Port<T>) -> Result<bool, Error> {
         let port = self.here(port)?;
-        let code = self
-            .call(StepKind::Close.on(port), |room, seat| raw::seryugo_close_port(room, seat, port));
+        let code = self.call(StepKind::Close.on(port), Line::Short, |room, seat| {
+            raw::seryugo_close_port(room, seat, port)
+        });
         done_or(code?, code::CLOSED).map_err(|error| error.misfit(Misfit::Feed(port)))
     }
 
@@ -147,7 +150,7 @@ impl<R: MessageKind, H: Holds<R>> Seat<'_, R, H> {
     where
         R: Carries<T>,
     {
-        self.make(StepKind::IVar.makes(), |room, seat, name| {
+        self.make(StepKind::IVar.makes(), Line::Short, |room, seat, name| {
             raw::seryugo_new_ivar(room, seat, name)
         })
     }
@@ -171,7 +174,7 @@ impl<R: MessageKind, H: Holds<R>> Seat<'_, R, H> {
     where
         R: Carries<T>,
     {
-        self.make(StepKind::MVar.makes(), |room, seat, name| {
+        self.make(StepKind::MVar.makes(), Line::Short, |room, seat, name| {
             raw::seryugo_new_mvar(room, seat, name)
         })
     }
@@ -194,7 +197,8 @@ impl<R: MessageKind, H: Holds<R>> Seat<'_, R, H> {
         R: Carries<T>,
     {
         let made = R::with_sent(&message, |sent| {
-            self.make(StepKind::MVarInit.makes(), |room, seat, name| {
+            let line = Line::Message(R::length(sent));
+            self.make(StepKind::MVarInit.makes(), line, |room, seat, name| {
                 R::mvar_init(room, seat, sent, name)
             })
         });
@@ -204,10 +208,136 @@ impl<R: MessageKind, H: Holds<R>> Seat<'_, R, H> {
     fn make<N: Named>(
         &mut self,
         step: Step,
+        line: Line,
         call: impl FnOnce(&mut Handle, u64, &mut u64) -> u32,
     ) -> Result<N, Error> {
         let mut number = 0;
-        done(self.call(step, |room, seat| call(room, seat, &mut number))?)?;
+        done(self.call(step, line, |room, seat| call(room, seat, &mut number))?)?;
+        Ok(self.board.name(number))
+    }
+}
+
+/// # Objects that are found again
+///
+/// A program that goes on from a [file](crate::Switchboard::open) finds its objects by their numbers. They
+/// count from 0, in the order in which the objects were made. Each of these calls finds the object
+/// of a number, or makes it if its number is the next one. It does so in one turn under the lock:
+/// threads that call it at the same time get one object.
+///
+/// The journal has no types: name the type that the object had. Make what has a fixed number before
+/// other objects. The first [`request`](Seat::request) of a seat makes a mailbox too.
+impl<R: MessageKind, H: Holds<R>> Seat<'_, R, H> {
+    /// Finds the mailbox of this number, or makes it.
+    ///
+    /// ```
+    /// use seryugo::{Error, Missing};
+    ///
+    /// # let board = seryugo::Switchboard::new(1_000)?;
+    /// # let mut seat = board.seat()?;
+    /// let letters = seat.mailbox_again::<String>(0)?;
+    /// assert_eq!(board.seat()?.mailbox_again(0), Ok(letters));
+    /// assert_eq!(seat.mailbox_again::<u64>(2), Err(Error::NoSuch(Missing::Object(1))));
+    /// assert!(matches!(seat.channel_again::<u64>(0), Err(Error::WrongKind(_))));
+    /// # Ok::<(), seryugo::Error>(())
+    /// ```
+    ///
+    /// # Errors
+    ///
+    /// `NoSuch`: there is no object of the number before. `WrongKind`: the object of this number is
+    /// no mailbox. And [the usual ones](crate::Seat#how-a-call-fails).
+    pub fn mailbox_again<T>(&mut self, number: u64) -> Result<Mailbox<T>, Error>
+    where
+        R: Carries<T>,
+    {
+        self.again(number, StepKind::Mailbox, |room, seat, name| {
+            raw::seryugo_new_mailbox(room, seat, name)
+        })
+    }
+
+    /// Finds the channel of this number, or makes it.
+    ///
+    /// ```
+    /// # let board = seryugo::Switchboard::new(1_000)?;
+    /// # let mut seat = board.seat()?;
+    /// let news = seat.channel_again::<String>(0)?;
+    /// assert_eq!(board.channel(0), Ok(news));
+    /// # Ok::<(), seryugo::Error>(())
+    /// ```
+    ///
+    /// # Errors
+    ///
+    /// As [`mailbox_again`](Seat::mailbox_again).
+    pub fn channel_again<T>(&mut self, number: u64) -> Result<Channel<T>, Error>
+    where
+        R: Carries<T>,
+    {
+        self.again(number, StepKind::Channel, |room, seat, name| {
+            raw::seryugo_new_channel(room, seat, name)
+        })
+    }
+
+    /// Finds the i-variable of this number, or makes an empty one.
+    ///
+    /// ```
+    /// # let board = seryugo::Switchboard::new(1_000)?;
+    /// # let mut seat = board.seat()?;
+    /// let winner = seat.ivar_again::<String>(0)?;
+    /// assert!(seat.put(winner, "Ann")?);
+    /// assert_eq!(board.held(seat.ivar_again::<String>(0)?)?, Some("Ann".to_string()));
+    /// # Ok::<(), seryugo::Error>(())
+    /// ```
+    ///
+    /// # Errors
+    ///
+    /// As [`mailbox_again`](Seat::mailbox_again).
+    pub fn ivar_again<T>(&mut self, number: u64) -> Result<IVar<T>, Error>
+    where
+        R: Carries<T>,
+    {
+        self.again(number, StepKind::IVar, |room, seat, name| {
+            raw::seryugo_new_ivar(room, seat, name)
+        })
+    }
+
+    /// Finds the m-variable of this number, or makes an empty one.
+    ///
+    /// ```
+    /// # let board = seryugo::Switchboard::new(1_000)?;
+    /// # let mut seat = board.seat()?;
+    /// let sum = seat.mvar_again::<u64>(0)?;
+    /// seat.put(sum, 5)?;
+    /// assert_eq!(board.held(seat.mvar_again::<u64>(0)?)?, Some(5));
+    /// # Ok::<(), seryugo::Error>(())
+    /// ```
+    ///
+    /// # Errors
+    ///
+    /// As [`mailbox_again`](Seat::mailbox_again).
+    pub fn mvar_again<T>(&mut self, number: u64) -> Result<MVar<T>, Error>
+    where
+        R: Carries<T>,
+    {
+        self.again(number, StepKind::MVar, |room, seat, name| {
+            raw::seryugo_new_mvar(room, seat, name)
+        })
+    }
+
+    fn again<N: Named>(
+        &mut self,
+        number: u64,
+        step: StepKind,
+        make: impl FnOnce(&mut Handle, u64, &mut u64) -> u32,
+    ) -> Result<N, Error> {
+        let seat = self.ready();
+        let follower = self.board.follower();
+        if follower.is_some_and(|follower| self.board.makes_again(follower, seat, number)) {
+            return self.make(step.makes(), Line::Short, make);
+        }
+        let find = || {
+            let again = |state: &mut State<R>| state.again(seat, number, N::KIND, make);
+            self.board.change(Some(&self.parker), again)
+        };
+        self.board.pass_by(StepKind::LookAtAll.makes(), find, |()| number)?;
         Ok(self.board.name(number))
     }
 }

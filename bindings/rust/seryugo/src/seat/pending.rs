@@ -9,6 +9,7 @@ use crate::message::names::Source;
 use crate::raw::{self, code, Handle};
 use crate::seat::owned::Holds;
 use crate::seat::Seat;
+use crate::switchboard::call::{Ask, Line};
 use std::future::Future;
 use std::pin::Pin;
 use std::task::{Context, Poll, Waker};
@@ -28,6 +29,28 @@ impl<R: MessageKind> PendingCall<'_, R> {
         match self {
             PendingCall::Read(call, object) => call.ask_of(object),
             PendingCall::Swap(variable, _) => StepKind::Swap.on(variable),
+        }
+    }
+
+    /// The messages of its line.
+    #[inline]
+    fn line(self) -> Line {
+        match self {
+            PendingCall::Read(..) => Line::Short,
+            PendingCall::Swap(variable, stored) => Line::Swap {
+                variable,
+                bytes: R::length(stored),
+            },
+        }
+    }
+
+    /// How this seat asks.
+    #[inline]
+    fn of(self, seat: u64, is_again: bool) -> Ask {
+        Ask {
+            seat,
+            is_again,
+            line: self.line(),
         }
     }
 
@@ -131,14 +154,14 @@ impl<'a, R: MessageKind, H: Holds<R>> Seat<'a, R, H> {
         let mut is_again = false;
         let mut is_last = deadline <= Instant::now();
         loop {
-            let ask = |room: &mut Handle| call.ask(room, seat, is_again, &mut received);
+            let ask = call.of(seat, is_again);
+            let call = |room: &mut Handle| call.ask(room, seat, is_again, &mut received);
             // As in `wait_freely`.
             self.is_parked = is_again;
             let code = if is_last {
-                self.board
-                    .change(Some(&self.parker), |state| state.ask_at_last(seat, is_again, ask))
+                self.board.change(Some(&self.parker), |state| state.ask_at_last(ask, call))
             } else {
-                self.board.ask(&self.parker, is_again, ask)
+                self.board.ask(&self.parker, ask, call)
             };
             self.is_parked = false;
             if code != code::PARKED {
@@ -175,12 +198,14 @@ impl<'a, R: MessageKind, H: Holds<R>> Seat<'a, R, H> {
     #[inline]
     fn wait_freely(&mut self, call: PendingCall<'_, R>, to: &mut R::Received) -> u32 {
         let seat = self.number();
-        let mut code = self.board.ask(&self.parker, false, |room| call.ask(room, seat, false, to));
+        let ask = call.of(seat, false);
+        let mut code = self.board.ask(&self.parker, ask, |room| call.ask(room, seat, false, to));
         while code == code::PARKED {
             self.parker.park();
             // If a sink panics in this call, the seat's next one withdraws it, or the seat's end.
             self.is_parked = true;
-            code = self.board.ask(&self.parker, true, |room| call.ask(room, seat, true, to));
+            let again = call.of(seat, true);
+            code = self.board.ask(&self.parker, again, |room| call.ask(room, seat, true, to));
             self.is_parked = false;
         }
         code
@@ -193,7 +218,8 @@ impl<'a, R: MessageKind, H: Holds<R>> Seat<'a, R, H> {
         let conductor = self.board.conductor.as_ref()?;
         let (seat, mut received) = (self.number(), R::nothing());
         let asked = self.board.ask_conducted(conductor, seat, call.step(), is_timed, |state| {
-            state.ask_at_last(seat, false, |room| call.ask(room, seat, false, &mut received))
+            let ask = call.of(seat, false);
+            state.ask_at_last(ask, |room| call.ask(room, seat, false, &mut received))
         });
         asked.transpose().map(|code| Ok((code?, received)))
     }
@@ -213,10 +239,11 @@ impl<R: MessageKind, H: Holds<R>> Waiting<'_, '_, '_, R, H> {
     fn ask(&mut self, is_again: bool) -> Option<Answer<R>> {
         let (seat, call) = (self.seat.number(), self.call);
         let mut received = R::nothing();
+        let ask = call.of(seat, is_again);
         let code = self
             .seat
             .board
-            .ask(&self.seat.parker, is_again, |room| call.ask(room, seat, is_again, &mut received));
+            .ask(&self.seat.parker, ask, |room| call.ask(room, seat, is_again, &mut received));
         self.seat.is_parked = code == code::PARKED;
         (!self.seat.is_parked).then_some(Ok((code, received)))
     }

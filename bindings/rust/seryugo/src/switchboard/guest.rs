@@ -41,7 +41,7 @@ pub type OwnedGuest<R = Bytes> = Guest<'static, R, Arc<Switchboard<R>>>;
 
 impl<R: MessageKind, H: Holds<R>> Guest<'_, R, H> {
     fn at(board: H) -> Result<Self, Error> {
-        board.lock().hold()?;
+        board.locked()?.hold()?;
         Ok(Guest {
             board,
             kind: PhantomData,

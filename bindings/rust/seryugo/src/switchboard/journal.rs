@@ -25,7 +25,7 @@ impl<R: MessageKind> Switchboard<R> {
     ///
     /// `NoMemory`.
     pub fn reserve(&self, entries: usize) -> Result<(), Error> {
-        done(raw::seryugo_reserve(&mut self.lock().handle, entries))
+        done(raw::seryugo_reserve(&mut self.locked()?.handle, entries))
     }
 
     /// Cuts the journal: what it has is dropped, and it has room for as many entries again. Nothing
@@ -48,7 +48,7 @@ impl<R: MessageKind> Switchboard<R> {
     /// `Busy`: a lane or a feed is open. Then nothing is cut.
     pub fn cut(&self) -> Result<(), Error> {
         self.pass_to_look_at_all();
-        self.lock().cut(false)
+        self.locked()?.cut(false)
     }
 
     /// Cuts the journal, and hands over the entries that it had. What was reserved goes with them.
@@ -69,7 +69,7 @@ impl<R: MessageKind> Switchboard<R> {
     /// which nobody takes. Then nothing is cut.
     pub fn take_journal(&self) -> Result<Journal<R>, Error> {
         self.pass_to_look_at_all();
-        self.lock().take_journal(Taking::Cut)
+        self.locked()?.take_journal(Taking::Cut)
     }
 
     /// Cuts the journal as `cut` does, also while lanes and feeds are open, whose rings go on. It
@@ -97,7 +97,7 @@ impl<R: MessageKind> Switchboard<R> {
     /// None that the library of this version returns.
     pub fn cut_open(&self) -> Result<(), Error> {
         self.pass_to_look_at_all();
-        self.lock().cut(true)
+        self.locked()?.cut(true)
     }
 
     /// Cuts the journal as [`cut_open`](Switchboard::cut_open) does, and hands over the entries
@@ -123,7 +123,7 @@ impl<R: MessageKind> Switchboard<R> {
     /// ([`when_full`](Switchboard::when_full)). Then nothing is cut.
     pub fn take_journal_open(&self) -> Result<Journal<R>, Error> {
         self.pass_to_look_at_all();
-        self.lock().take_journal(Taking::CutOpen)
+        self.locked()?.take_journal(Taking::CutOpen)
     }
 
     /// Returns a short journal that leaves what all calls leave: the same objects, with the same
@@ -153,7 +153,7 @@ impl<R: MessageKind> Switchboard<R> {
     /// `NoMemory`.
     pub fn compact(&self) -> Result<Journal<R>, Error> {
         self.pass_to_look_at_all();
-        self.lock().compact()
+        self.locked()?.compact()
     }
 
     /// Returns a short journal as [`compact`](Switchboard::compact) does, and cuts the journal at
@@ -192,7 +192,7 @@ impl<R: MessageKind> Switchboard<R> {
     /// `NoMemory`. Then nothing is cut.
     pub fn compact_and_cut(&self) -> Result<Journal<R>, Error> {
         self.pass_to_look_at_all();
-        self.lock().compact_and_cut()
+        self.locked()?.compact_and_cut()
     }
 
     /// Makes a short journal as [`compact`](Switchboard::compact) does, and hands it to this
@@ -251,7 +251,7 @@ impl<R: MessageKind> Switchboard<R> {
         keep: impl FnOnce(&Journal<R>) -> io::Result<T>,
     ) -> io::Result<T> {
         self.pass_to_look_at_all();
-        self.lock().compact_with(keep)
+        self.locked().map_err(io::Error::other)?.compact_with(keep)
     }
 
     /// The journal's entry at this position, counted from 0 since the switchboard was made. It has
@@ -271,7 +271,7 @@ impl<R: MessageKind> Switchboard<R> {
     /// ```
     pub fn entry(&self, at: u64) -> Option<Entry<R>> {
         self.pass_to_look_at_all();
-        found(R::entry(&mut self.lock().handle, EntrySource::Room, at))
+        found(R::entry(&mut self.looked_at().handle, EntrySource::Room, at))
     }
 
     /// How many calls were accepted since the switchboard was made.
@@ -286,7 +286,7 @@ impl<R: MessageKind> Switchboard<R> {
     /// ```
     pub fn entries(&self) -> u64 {
         self.pass_to_look_at_all();
-        self.lock().count(Reader::Entries)
+        self.looked_at().count(Reader::Entries)
     }
 
     /// How many of them were cut away.
@@ -302,7 +302,7 @@ impl<R: MessageKind> Switchboard<R> {
     /// ```
     pub fn cut_at(&self) -> u64 {
         self.pass_to_look_at_all();
-        self.lock().count(Reader::CutAt)
+        self.looked_at().count(Reader::CutAt)
     }
 
     /// Says what becomes of a full journal. Until you say it, a call fails with `JournalFull` if
@@ -333,8 +333,13 @@ impl<R: MessageKind> Switchboard<R> {
     /// assert_eq!(refused.error, Error::NotKept);
     /// # Ok::<(), seryugo::Error>(())
     /// ```
+    ///
+    /// # Panics
+    ///
+    /// If a [file](Switchboard::open) keeps the journal.
     #[must_use]
     pub fn when_full(mut self, when_full: WhenFull<R>) -> Switchboard<R> {
+        assert!(self.file.is_none(), "a file keeps the journal, and is never full");
         self.state_mut().set_when_full(when_full);
         self
     }
@@ -359,7 +364,7 @@ impl<R: MessageKind> Switchboard<R> {
     /// cut.
     pub fn keep(&self) -> Result<(), Error> {
         self.pass_to_look_at_all();
-        self.lock().keep()
+        self.locked()?.keep()
     }
 
     /// Returns why nobody took the entries of a full journal. Returns it once.
@@ -377,6 +382,6 @@ impl<R: MessageKind> Switchboard<R> {
     /// # Ok::<(), seryugo::Error>(())
     /// ```
     pub fn keeping_error(&self) -> Option<io::Error> {
-        self.lock().keeping_error()
+        self.looked_at().keeping_error()
     }
 }

@@ -1,13 +1,16 @@
 //! How a thread calls under a switchboard's lock, and wakes the next seat that is due.
 
+use crate::error::Error;
 use crate::message::carries::MessageKind;
 use crate::park::backoff;
 use crate::park::parker::{Parker, Woken};
 use crate::park::yields::pass_by_yielding;
 use crate::raw::{code, Handle};
+use crate::switchboard::call::{Answer, Ask};
 use crate::switchboard::lock::Guard;
 use crate::switchboard::state::State;
 use crate::switchboard::Switchboard;
+use std::any::Any;
 use std::mem;
 use std::panic;
 use std::thread;
@@ -23,11 +26,14 @@ impl<R: MessageKind> Switchboard<R> {
     /// Makes a call under the lock, unlocks the room, and then wakes the next seat that is due. If
     /// the call is that of a seat, `by` is the seat's parker.
     #[inline]
-    pub(crate) fn change<T>(
+    pub(crate) fn change<T: Answer>(
         &self,
         by: Option<&Parker>,
         call: impl FnOnce(&mut State<R>) -> T,
     ) -> T {
+        if self.file.is_some() {
+            return self.keep_call(by, |state| state.call(call), |_| ());
+        }
         let panicking = Panicking { board: self, by };
         let mut state = self.lock();
         let answer = state.call(call);
@@ -40,27 +46,81 @@ impl<R: MessageKind> Switchboard<R> {
 
     /// The same for a call that may park the seat, or that of a parked seat again.
     #[inline]
-    pub(crate) fn ask(
-        &self,
-        by: &Parker,
-        is_again: bool,
-        call: impl FnOnce(&mut Handle) -> u32,
-    ) -> u32 {
+    pub(crate) fn ask(&self, by: &Parker, ask: Ask, call: impl FnOnce(&mut Handle) -> u32) -> u32 {
+        if self.file.is_some() {
+            return self.keep_call(
+                Some(by),
+                |state| state.ask_by(by, ask, call),
+                |state| state.withdraw(ask.seat),
+            );
+        }
         let panicking = Panicking {
             board: self,
             by: Some(by),
         };
         let mut state = self.lock();
-        let code = state.ask(is_again, call);
-        by.note_ask(is_again, code == code::PARKED, state.calls());
+        let code = state.ask_by(by, ask, call);
         // A call that parks a free seat makes no seat due. If others were due before, a call that
         // wakes them is on its way.
-        let may_be_due = is_again || code != code::PARKED;
+        let may_be_due = ask.is_again || code != code::PARKED;
         let due = may_be_due.then(|| state.next_due()).flatten();
         drop(state);
         mem::forget(panicking);
         self.wake_at(due, Some(by));
         code
+    }
+
+    /// Makes a call on a switchboard whose journal has a file. Before the lock is free, the file has
+    /// the call's entries. If it hasn't, this undoes the rest, and refuses the call.
+    #[inline(never)]
+    fn keep_call<T: Answer>(
+        &self,
+        by: Option<&Parker>,
+        call: impl FnOnce(&mut State<R>) -> T,
+        undo: impl FnOnce(&mut State<R>),
+    ) -> T {
+        let Ok(mut state) = self.locked() else {
+            return T::refused(code::FORKED);
+        };
+        let mut answer = call(&mut state);
+        let noted = state.note();
+        if noted != code::DONE {
+            undo(&mut state);
+            answer = T::refused(noted);
+        }
+        let (due, lost) = (state.next_due(), state.newly_lost());
+        drop(state);
+        match lost {
+            0 => self.wake_at(due, by),
+            seats => self.wake_all(seats, by),
+        }
+        answer
+    }
+
+    /// Wakes this many seats: those that wait ask again, and their calls fail too.
+    #[cold]
+    fn wake_all(&self, seats: u64, by: Option<&Parker>) {
+        let woken = (0..seats).filter_map(|place| self.parkers.get(place)?.unpark(by).panic());
+        let panicked: Vec<_> = woken.collect();
+        go_on(panicked.into_iter().next());
+    }
+
+    /// The room, for a call that makes no seat due. In a child of a fork another thread of its parent
+    /// may have the lock for ever: there this fails with `Forked`.
+    pub(crate) fn locked(&self) -> Result<Guard<'_, State<R>>, Error> {
+        match &self.file {
+            Some(file) if file.is_forked() => Err(Error::Forked),
+            _ => Ok(self.lock()),
+        }
+    }
+
+    /// The room, for a look that can't fail.
+    ///
+    /// # Panics
+    ///
+    /// In a child of a fork, if a file keeps the journal.
+    pub(crate) fn looked_at(&self) -> Guard<'_, State<R>> {
+        self.locked().unwrap_or_else(|forked| panic!("{forked}"))
     }
 
     /// The room, for a call that makes no seat due. A thread that panicked left it between two
@@ -104,19 +164,22 @@ impl<R: MessageKind> Switchboard<R> {
                 by.note_woken(due, &woken);
             }
             next = matches!(woken, Woken::Task(_)).then(|| self.next_due()).flatten();
-            if let Woken::Task(Err(panic)) = woken {
-                panicked.get_or_insert(panic);
-            }
+            panicked = panicked.or(woken.panic());
         }
-        // A thread that panics already, as it drops a seat, would abort at a second panic.
-        if let Some(panic) = panicked.filter(|_| !thread::panicking()) {
-            panic::resume_unwind(panic);
-        }
+        go_on(panicked);
     }
 
     fn next_due(&self) -> Option<&Parker> {
         let due = self.lock().next_due();
         due.and_then(|place| self.parkers.get(place))
+    }
+}
+
+/// Lets the panic of a waker go on. A thread that panics already, as it drops a seat, would abort at
+/// a second panic.
+fn go_on(panicked: Option<Box<dyn Any + Send>>) {
+    if let Some(panic) = panicked.filter(|_| !thread::panicking()) {
+        panic::resume_unwind(panic);
     }
 }
 

@@ -6,48 +6,25 @@ use crate::journal::full::{
 };
 use crate::journal::Journal;
 use crate::message::carries::MessageKind;
-use crate::raw::{self, code, done, written, Handle, Reader, Taking};
+use crate::message::kind::{Kind, Misfit, Missing};
+use crate::park::parker::Parker;
+use crate::raw::{self, code, done, written, File, Handle, Reader, Taking};
 use crate::request::answers::Answers;
+use crate::switchboard::call::{Answer, Ask, Line};
 use crate::switchboard::expected::Expected;
+use crate::switchboard::moving::OpenLane;
 use std::collections::BTreeMap;
 use std::io::{self, ErrorKind};
-use std::panic::{self, AssertUnwindSafe};
-
-/// A drain or a pump moves at most this many messages: no ring has room for more.
-pub(crate) const MOST_MOVED: u64 = 1024;
-
-/// What a call returns that isn't made, since nobody took the entries of the last full journal.
-pub(crate) trait Unkept {
-    fn unkept() -> Self;
-}
-
-impl Unkept for u32 {
-    fn unkept() -> u32 {
-        code::NOT_KEPT
-    }
-}
-
-impl<T> Unkept for Result<T, Error> {
-    fn unkept() -> Result<T, Error> {
-        Err(Error::NotKept)
-    }
-}
-
-/// A lane that is open.
-pub(crate) struct OpenLane {
-    /// The object to which it sends.
-    pub target: u64,
-    /// How many of its messages have moved.
-    moved: u64,
-}
+use std::sync::Arc;
 
 /// The state under the lock. What each call uses comes first, so that it lies in the lock's cache
 /// line: each line moves from the thread that called before to the one that calls.
 #[repr(C)]
 pub(crate) struct State<R: MessageKind> {
     pub handle: Handle,
-    /// The journal surely has room for this many more. Without a full-journal policy no call asks.
-    spare: u64,
+    /// The journal surely has room for this many more. Without a full-journal policy or a file no
+    /// call asks, and with a file each does.
+    pub(super) spare: u64,
     /// How many seats are parked.
     parked: u64,
     /// How many calls were made that may park a seat or make one due.
@@ -55,7 +32,11 @@ pub(crate) struct State<R: MessageKind> {
     /// How many entries the journal takes between two cuts.
     limit: u64,
     /// The policy for a full journal, and the entries that its sink refused.
-    pending: Option<PendingJournal<R>>,
+    pub(super) pending: Option<PendingJournal<R>>,
+    /// The file that keeps the journal.
+    pub(super) file: Option<Arc<File>>,
+    /// Whether the file is lost, and all who waited were woken.
+    is_lost: bool,
     /// Where the text begins to which the next piece is added.
     start: Start,
     /// The number of the first seat that was made here. Those of a journal from which the
@@ -70,7 +51,7 @@ pub(crate) struct State<R: MessageKind> {
     /// The open lanes, by their numbers.
     pub lanes: BTreeMap<u64, OpenLane>,
     /// How many messages were lost with their lanes.
-    lost: u64,
+    pub(super) lost: u64,
     /// The ports of the open feeds, by the feeds' numbers.
     pub fed: BTreeMap<u64, u64>,
 }
@@ -84,6 +65,8 @@ impl<R: MessageKind> State<R> {
             limit,
             spare: u64::MAX,
             pending: None,
+            file: None,
+            is_lost: false,
             start: Start::default(),
             first_seat: 0,
             seats: 0,
@@ -97,6 +80,35 @@ impl<R: MessageKind> State<R> {
         }
     }
 
+    /// Keeps the journal in a file, which has let this room go on.
+    pub fn set_file(&mut self, file: Option<Arc<File>>) {
+        self.spare = if file.is_some() { 0 } else { u64::MAX };
+        self.file = file;
+    }
+
+    /// Stores what the room has had since the last time in its file.
+    pub fn note(&mut self) -> u32 {
+        self.file.as_ref().map_or(code::DONE, |file| file.note(&mut self.handle))
+    }
+
+    /// Returns how many parkers are to be woken, if the file was lost just now: those of all seats.
+    pub fn newly_lost(&mut self) -> u64 {
+        let is_lost = self.file.as_ref().is_some_and(|file| file.state() == code::FILE_LOST);
+        if self.is_lost || !is_lost {
+            return 0;
+        }
+        self.is_lost = true;
+        self.seats
+    }
+
+    /// Fails if the journal has a file: it is the file's, and nobody else cuts it.
+    fn without_file(&self) -> Result<(), Error> {
+        match self.file {
+            None => Ok(()),
+            Some(_) => Err(Error::HasFile),
+        }
+    }
+
     /// Sets the full-journal policy.
     pub fn set_when_full(&mut self, when_full: WhenFull<R>) {
         let kept = self.pending.take().and_then(PendingJournal::into_kept);
@@ -104,19 +116,30 @@ impl<R: MessageKind> State<R> {
         self.spare = if self.pending.is_some() { 0 } else { u64::MAX };
     }
 
-    /// Reserves an entry, if a policy is set: cuts a full journal first. Returns `false` if its sink
-    /// refuses the entries. The call fails with `NotKept` then.
+    /// Reserves an entry, if a policy is set or a file is there: cuts a full journal first. `Err`:
+    /// the code by which the call fails.
     #[inline]
-    pub fn makes_room(&mut self) -> bool {
+    pub fn makes_room(&mut self, line: Line) -> Result<(), u32> {
         if self.spare == 0 {
-            return self.looks_for_room().is_ok();
+            return self.looks_for_room(line);
         }
         self.spare -= 1;
-        true
+        Ok(())
     }
 
     #[cold]
-    fn looks_for_room(&mut self) -> Result<(), Error> {
+    fn looks_for_room(&mut self, line: Line) -> Result<(), u32> {
+        let Some(file) = &self.file else {
+            return self.cuts_for_room().map_err(|_| code::NOT_KEPT);
+        };
+        let bytes = line.bytes::<R>(&mut self.handle);
+        match file.reserve(&mut self.handle, bytes) {
+            code::DONE => Ok(()),
+            code => Err(code),
+        }
+    }
+
+    fn cuts_for_room(&mut self) -> Result<(), Error> {
         let Some(pending) = &mut self.pending else {
             return Ok(());
         };
@@ -136,13 +159,14 @@ impl<R: MessageKind> State<R> {
     }
 
     /// How many more entries the journal takes.
-    fn spare_now(&mut self) -> u64 {
+    pub(super) fn spare_now(&mut self) -> u64 {
         let (entries, cut) = (self.count(Reader::Entries), self.count(Reader::CutAt));
         self.limit.saturating_sub(entries - cut)
     }
 
     /// Cuts the journal, and does with its entries what is done with those of a full one.
     pub fn keep(&mut self) -> Result<(), Error> {
+        self.without_file()?;
         let is_empty = self.spare_now() == self.limit;
         match &mut self.pending {
             Some(pending) if is_empty => pending.hand_over(),
@@ -154,6 +178,7 @@ impl<R: MessageKind> State<R> {
     /// Cuts the journal, while lanes and feeds may be open if `is_open`, and drops its entries, and
     /// those that nobody took.
     pub fn cut(&mut self, is_open: bool) -> Result<(), Error> {
+        self.without_file()?;
         done(raw::seryugo_cut_by(&mut self.handle, is_open))?;
         if let Some(pending) = &mut self.pending {
             pending.forget();
@@ -164,6 +189,7 @@ impl<R: MessageKind> State<R> {
     /// Cuts the journal, and returns its entries. If some were cut away before and
     /// nobody took them, they go first.
     pub fn take_journal(&mut self, taking: Taking) -> Result<Journal<R>, Error> {
+        self.without_file()?;
         if let Some(pending) = &mut self.pending {
             pending.hand_over()?;
         }
@@ -178,6 +204,7 @@ impl<R: MessageKind> State<R> {
     /// Returns a short journal, and cuts the journal. The short one stands for the entries that
     /// nobody took, too.
     pub fn compact_and_cut(&mut self) -> Result<Journal<R>, Error> {
+        self.without_file()?;
         let (journal, start) = cut_short(&mut self.handle)?;
         self.begin(start);
         Ok(journal)
@@ -189,6 +216,7 @@ impl<R: MessageKind> State<R> {
         &mut self,
         keep: impl FnOnce(&Journal<R>) -> io::Result<T>,
     ) -> io::Result<T> {
+        self.without_file().map_err(uncompacted)?;
         let journal = self.compact().map_err(uncompacted)?;
         let kept = keep(&journal)?;
         let start = cut_behind(&mut self.handle, journal.len() as u64).map_err(uncompacted)?;
@@ -204,14 +232,13 @@ impl<R: MessageKind> State<R> {
         }
     }
 
-    /// Returns why the sink refused entries last. Returns it once.
+    /// Returns why the sink refused entries last, once; or why the file doesn't take them.
     pub fn keeping_error(&mut self) -> Option<io::Error> {
-        self.pending.as_mut().and_then(PendingJournal::error)
-    }
-
-    /// How many messages were lost with their lanes.
-    pub fn lost(&self) -> u64 {
-        self.lost
+        let Some(file) = &self.file else {
+            return self.pending.as_mut().and_then(PendingJournal::error);
+        };
+        let (words, errno) = file.error()?;
+        Some(io::Error::new(io::Error::from_raw_os_error(errno).kind(), words))
     }
 
     /// The place of the next seat among those that were made here, hosts included.
@@ -229,16 +256,6 @@ impl<R: MessageKind> State<R> {
         Ok(number)
     }
 
-    /// Opens a lane to this object, and returns its number.
-    pub fn open_lane(&mut self, target: u64, capacity: usize) -> Result<(Handle, u64), Error> {
-        let mut number = 0;
-        let lane = Handle::opened(|lane| {
-            raw::seryugo_lane_open(&mut self.handle, target, capacity, lane, &mut number)
-        })?;
-        self.lanes.insert(number, OpenLane { target, moved: 0 });
-        Ok((lane, number))
-    }
-
     /// The place of the next seat that is due among those that were made here. Each seat that is
     /// due is given once.
     #[inline]
@@ -252,12 +269,6 @@ impl<R: MessageKind> State<R> {
         (code == code::DONE).then(|| seat.wrapping_sub(self.first_seat))
     }
 
-    /// How many calls were made that may park a seat or make one due.
-    #[inline]
-    pub fn calls(&self) -> u64 {
-        self.calls
-    }
-
     /// Makes a call that may make a seat due.
     #[inline]
     pub fn call<T>(&mut self, call: impl FnOnce(&mut State<R>) -> T) -> T {
@@ -267,44 +278,85 @@ impl<R: MessageKind> State<R> {
 
     /// Makes a call that has an entry in the journal, if it is accepted.
     #[inline]
-    pub fn enter<T: Unkept>(&mut self, call: impl FnOnce(&mut Handle) -> T) -> T {
-        if self.makes_room() {
-            call(&mut self.handle)
-        } else {
-            T::unkept()
+    pub fn enter<T: Answer>(&mut self, line: Line, call: impl FnOnce(&mut Handle) -> T) -> T {
+        match self.makes_room(line) {
+            Ok(()) => call(&mut self.handle),
+            Err(code) => T::refused(code),
+        }
+    }
+
+    /// Finds the object of this number and kind. If there is none, and its number is the next one,
+    /// this seat makes it.
+    pub fn again(
+        &mut self,
+        seat: u64,
+        number: u64,
+        wanted: Kind,
+        make: impl FnOnce(&mut Handle, u64, &mut u64) -> u32,
+    ) -> Result<(), Error> {
+        match self.kind(number)? {
+            Some(is) if is == wanted => return Ok(()),
+            Some(is) => return Err(Error::WrongKind(Misfit::Kind { number, is, wanted })),
+            None => {}
+        }
+        if let Some(before) = number.checked_sub(1) {
+            self.kind(before)?.ok_or(Error::NoSuch(Missing::Object(before)))?;
+        }
+        done(self.enter(Line::Short, |room| make(room, seat, &mut 0)))
+    }
+
+    /// What the object of this number is, if it is there.
+    fn kind(&mut self, number: u64) -> Result<Option<Kind>, Error> {
+        match raw::read(&mut self.handle, Reader::Kind, number) {
+            Err(Error::Unknown(code::NO_SUCH)) => Ok(None),
+            kind => Kind::of(kind?).map(Some),
         }
     }
 
     /// Makes a call that may park its seat, or that of a parked seat again. A parked seat's call
     /// was taken before. So while the journal has room it is made, even if nobody took the entries
-    /// of the last full one.
+    /// of the last full one. A file that has no room refuses it.
     #[inline]
-    pub fn ask(&mut self, is_again: bool, call: impl FnOnce(&mut Handle) -> u32) -> u32 {
-        let has_room = self.makes_room();
-        if !has_room && !is_again {
-            return code::NOT_KEPT;
+    pub fn ask(&mut self, ask: Ask, call: impl FnOnce(&mut Handle) -> u32) -> u32 {
+        let room = self.makes_room(ask.line);
+        if let Err(code) = room {
+            if !ask.is_again || self.file.is_some() {
+                return self.refuse(ask, code);
+            }
         }
         self.calls += 1;
         let code = call(&mut self.handle);
         self.parked =
-            (self.parked + u64::from(code == code::PARKED)).saturating_sub(u64::from(is_again));
+            (self.parked + u64::from(code == code::PARKED)).saturating_sub(u64::from(ask.is_again));
         match code {
-            code::JOURNAL_FULL if !has_room => code::NOT_KEPT,
+            code::JOURNAL_FULL if room.is_err() => code::NOT_KEPT,
             _ => code,
         }
     }
 
+    /// Makes such a call of the seat with this parker.
+    #[inline]
+    pub fn ask_by(&mut self, by: &Parker, ask: Ask, call: impl FnOnce(&mut Handle) -> u32) -> u32 {
+        let code = self.ask(ask, call);
+        by.note_ask(ask.is_again, code == code::PARKED, self.calls);
+        code
+    }
+
+    /// Refuses a call. If its seat was parked, it waits no longer.
+    #[cold]
+    fn refuse(&mut self, ask: Ask, code: u32) -> u32 {
+        if ask.is_again {
+            self.withdraw(ask.seat);
+        }
+        code
+    }
+
     /// Makes a call at the end of a wait. If it parks its seat, this withdraws it before others have
     /// the lock.
-    pub fn ask_at_last(
-        &mut self,
-        seat: u64,
-        is_again: bool,
-        call: impl FnOnce(&mut Handle) -> u32,
-    ) -> u32 {
-        let code = self.ask(is_again, call);
+    pub fn ask_at_last(&mut self, ask: Ask, call: impl FnOnce(&mut Handle) -> u32) -> u32 {
+        let code = self.ask(ask, call);
         if code == code::PARKED {
-            self.withdraw(seat);
+            self.withdraw(ask.seat);
         }
         code
     }
@@ -313,89 +365,6 @@ impl<R: MessageKind> State<R> {
     pub fn withdraw(&mut self, seat: u64) {
         let code = raw::seryugo_withdraw(&mut self.handle, seat);
         self.parked = self.parked.saturating_sub(u64::from(code == code::DONE));
-    }
-
-    /// Moves what is seen of an open lane into the journal, up to the first message that is
-    /// refused.
-    pub fn drain(&mut self, lane: u64) -> Result<u64, Error> {
-        self.move_seen(|state| state.drain_unkept(lane))
-    }
-
-    /// Drains a lane, also while the sink refuses the entries of the last full journal. The next call
-    /// still hands them over first.
-    fn drain_unkept(&mut self, lane: u64) -> Result<u64, Error> {
-        let count = written(|count| raw::seryugo_lane_drain(&mut self.handle, lane, count))?;
-        if let Some(lane) = self.lanes.get_mut(&lane) {
-            lane.moved = lane.moved.saturating_add(count);
-        }
-        Ok(count)
-    }
-
-    /// Receives what a feed is owed, up to the first message that is refused.
-    pub fn pump(&mut self, feed: u64) -> Result<u64, Error> {
-        self.move_seen(|state| {
-            written(|count| raw::seryugo_feed_pump(&mut state.handle, feed, count))
-        })
-    }
-
-    /// Makes a call that moves what it sees. If it stops at a full journal, and room is made there,
-    /// it goes on.
-    fn move_seen(&mut self, call: impl Fn(&mut Self) -> Result<u64, Error>) -> Result<u64, Error> {
-        let mut last = self.move_once(&call)?;
-        let mut moved = last;
-        while last != 0 && moved < MOST_MOVED && self.cuts_now() {
-            // If a message after the first is refused, the call returns how many moved.
-            last = self.move_once(&call).unwrap_or_default();
-            moved += last;
-        }
-        Ok(moved)
-    }
-
-    fn move_once(&mut self, call: impl Fn(&mut Self) -> Result<u64, Error>) -> Result<u64, Error> {
-        if !self.makes_room() {
-            return Err(Error::NotKept);
-        }
-        if self.pending.is_some() {
-            // It has an entry for each message.
-            self.spare = 0;
-        }
-        call(self)
-    }
-
-    /// Whether the journal is full, and the next call cuts it.
-    fn cuts_now(&mut self) -> bool {
-        self.pending.is_some() && self.spare_now() == 0
-    }
-
-    /// Drains a lane until nothing more moves.
-    pub fn drain_all(&mut self, lane: u64) -> Result<(), Error> {
-        while self.drain(lane)? != 0 {}
-        Ok(())
-    }
-
-    /// Closes a lane that has ended, once all of its messages have moved.
-    pub fn close_lane(&mut self, number: u64, lane: &mut Handle) -> Result<(), Error> {
-        self.drain_all(number)?;
-        done(raw::seryugo_lane_close(&mut self.handle, lane))?;
-        self.lanes.remove(&number);
-        Ok(())
-    }
-
-    /// Moves what it can of an open lane on which this many messages were sent, and closes the lane:
-    /// how many are lost.
-    pub fn end_lane(&mut self, lane: u64, sent: u64) -> u64 {
-        // A lane may end as its thread panics, so that no panic of a sink may leave this: the sink
-        // has failed.
-        let drained = panic::catch_unwind(AssertUnwindSafe(|| self.drain_all(lane)));
-        // Messages that are refused are lost.
-        if !matches!(drained, Ok(Ok(()))) {
-            while self.drain_unkept(lane).is_ok_and(|count| count != 0) {}
-        }
-        raw::seryugo_lane_abandon(&mut self.handle, lane);
-        let moved = self.lanes.remove(&lane).map_or(0, |lane| lane.moved);
-        let lost = sent.saturating_sub(moved);
-        self.lost = self.lost.saturating_add(lost);
-        lost
     }
 }
 
@@ -443,7 +412,11 @@ mod tests {
     }
 
     fn receive(state: &mut State<Numbers>, seat: u64, is_again: bool) {
-        state.ask(is_again, |room| Numbers::ask(Read::Recv, room, seat, MAILBOX, is_again, &mut 0));
+        let ask = Ask {
+            is_again,
+            ..Ask::first(seat)
+        };
+        state.ask(ask, |room| Numbers::ask(Read::Recv, room, seat, MAILBOX, is_again, &mut 0));
     }
 
     /// Makes some calls, and wakes each seat that is due.

@@ -8,8 +8,11 @@ mod patience;
 
 pub use patience::PATIENCE;
 use seryugo::{Numbers, Switchboard};
+use std::fs;
 use std::future::Future;
+use std::path::{Path, PathBuf};
 use std::pin::{pin, Pin};
+use std::process::{Command, Output};
 use std::sync::mpsc::{self, RecvTimeoutError};
 use std::sync::Arc;
 use std::task::{Context, Poll, Wake, Waker};
@@ -108,4 +111,46 @@ pub fn answered<F: Future>(mut future: Pin<Box<F>>) -> F::Output {
         Poll::Ready(answer) => answer,
         Poll::Pending => panic!("it waits"),
     }
+}
+
+/// A folder of a test, which is removed in the end.
+pub struct Scratch(pub PathBuf);
+
+impl Scratch {
+    pub fn new(name: &str) -> Scratch {
+        let name = format!("seryugo_test_{}_{name}", std::process::id());
+        let folder = std::env::temp_dir().join(name);
+        let _ = fs::remove_dir_all(&folder);
+        fs::create_dir(&folder).unwrap();
+        Scratch(folder)
+    }
+
+    pub fn path(&self) -> PathBuf {
+        self.0.join("x.journal")
+    }
+
+    /// The journal's text, without the zeros after it.
+    pub fn text(&self) -> String {
+        let bytes = fs::read(self.path()).unwrap();
+        let text = bytes.split(|byte| *byte == 0).next().unwrap();
+        String::from_utf8(text.to_vec()).unwrap()
+    }
+}
+
+impl Drop for Scratch {
+    fn drop(&mut self) {
+        let _ = fs::remove_dir_all(&self.0);
+    }
+}
+
+/// Runs one ignored test of the same file in a process of its own, which a shell prepares.
+pub fn run_apart(test: &str, prepare: &str, path: &Path) -> Output {
+    let this = std::env::current_exe().unwrap();
+    let run = format!("{prepare} exec '{}' --ignored --exact --nocapture {test}", this.display());
+    Command::new("sh").args(["-c", &run]).env("SERYUGO_PATH", path).output().unwrap()
+}
+
+/// The path that `run_apart` was given.
+pub fn path_given() -> PathBuf {
+    std::env::var_os("SERYUGO_PATH").unwrap().into()
 }

@@ -122,3 +122,25 @@ fn values_that_are_shared() {
     assert_eq!((runs(false), runs(true)), (1, 2));
     assert!(before.into_inner() > 2);
 }
+
+/// One of them makes it, and the other finds it.
+#[test]
+fn an_object_that_two_make_again() {
+    let program = |board: &Board| {
+        explore::scope(|threads| {
+            for own in 0..2 {
+                let mut seat = seat(board);
+                threads.spawn(move || {
+                    let mailbox = seat.mailbox_again(0).unwrap();
+                    seat.send(mailbox, own).unwrap();
+                });
+            }
+        });
+        let mailbox = board.mailbox(0).unwrap();
+        assert_eq!((board.owed(mailbox), board.entries()), (Ok(2), 3));
+    };
+    let found = explore(Strategy::every(), 100, program);
+    assert!(found.is_clean() && found.is_whole() && found.beside().is_none(), "{found}");
+    let plainly = explore(Strategy::every_plainly(), 100, program);
+    assert!(plainly.is_clean() && plainly.is_whole(), "{plainly}");
+}

@@ -243,3 +243,23 @@ fn polls<T>(future: impl std::future::Future<Output = T>) -> bool {
     let mut context = std::task::Context::from_waker(std::task::Waker::noop());
     std::pin::pin!(future).poll(&mut context).is_ready()
 }
+
+/// One thread has the entry that makes an object, and each other one finds it.
+#[test]
+fn objects_that_threads_make_again() {
+    let reran = is_followed(|board| {
+        let seats = [seat(board), seat(board), seat(board)];
+        thread::scope(|threads| {
+            for mut seat in seats {
+                threads.spawn(move || {
+                    for number in 0..20 {
+                        let mailbox = seat.mailbox_again(number).unwrap();
+                        seat.send(mailbox, number).unwrap();
+                    }
+                });
+            }
+        });
+        assert!(seat(board).mailbox_again(40).is_err());
+    });
+    assert!(reran.stops().is_empty(), "{reran}");
+}

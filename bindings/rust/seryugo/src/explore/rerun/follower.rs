@@ -11,7 +11,7 @@ use super::waits::{Caller, Still, Waits};
 use super::AtEnd;
 use crate::error::Error;
 use crate::explore::End;
-use crate::journal::entry::{Call, Who};
+use crate::journal::entry::{Call, Reply, Who};
 use crate::message::carries::MessageKind;
 use std::collections::BTreeMap;
 use std::hint;
@@ -283,6 +283,12 @@ impl<R: MessageKind> Follower<R> {
     pub fn next_call_of(&self, seat: u64) -> Option<&Call<R::Message>> {
         let next = self.maker(Who::Seat(seat))?.next()?;
         Some(&self.plan.entries[next].entry.call)
+    }
+
+    /// Whether the seat's next entry makes the object of this number.
+    pub fn makes_next(&self, seat: u64, number: u64) -> bool {
+        let next = self.maker(Who::Seat(seat)).and_then(Maker::next);
+        next.is_some_and(|next| self.plan.entries[next].entry.reply == Reply::Made(number))
     }
 
     /// Asks until this returns something. `None`: it waited in vain.

@@ -186,7 +186,7 @@ impl<R: MessageKind> Switchboard<R> {
             return 0;
         }
         follower.lanes().remove(&lane.number);
-        let lost = self.change(None, |state| state.end_lane(lane.number, sent));
+        let lost = self.end_lane(lane.number, sent);
         follower.leaves(lane.who());
         lost
     }

@@ -4,9 +4,8 @@ use super::line::entry_of;
 use super::RerunError;
 use crate::explore::history::Sum;
 use crate::explore::step::Step;
-use crate::journal::checker::{CheckError, Checker};
+use crate::journal::checker::{self, CheckError, Checker};
 use crate::journal::entry::{Entry, Who};
-use crate::journal::header;
 use crate::message::carries::MessageKind;
 use std::collections::HashMap;
 use std::hash::BuildHasherDefault;
@@ -117,7 +116,7 @@ fn is_entry(line: &str) -> bool {
 /// Refuses a text of another type of messages, and one that begins after a cut.
 fn refuse_others<R: MessageKind>(text: &[u8]) -> Result<(), RerunError> {
     let mut lines = text.split(|byte| *byte == b'\n');
-    let refused = header::refused::<R>(lines.next().unwrap_or_default());
+    let refused = checker::refused::<R>(lines.next().unwrap_or_default());
     if let Some(CheckError::OtherMessages) = refused {
         return Err(RerunError::OtherMessages);
     }

@@ -1,0 +1,79 @@
+//! What a call under a switchboard's lock is given, and returns.
+
+use crate::error::Error;
+use crate::message::carries::MessageKind;
+use crate::raw::{code, Handle};
+
+/// What a call under the lock returns.
+pub(crate) trait Answer {
+    /// The answer of a call that wasn't made or isn't kept, by this code.
+    fn refused(code: u32) -> Self;
+}
+
+impl Answer for () {
+    fn refused(_: u32) {}
+}
+
+impl Answer for u32 {
+    fn refused(code: u32) -> u32 {
+        code
+    }
+}
+
+impl<T> Answer for Result<T, Error> {
+    fn refused(code: u32) -> Result<T, Error> {
+        Err(Error::of_code(code))
+    }
+}
+
+impl<A: Answer, B: Default> Answer for (A, B) {
+    fn refused(code: u32) -> (A, B) {
+        (A::refused(code), B::default())
+    }
+}
+
+/// The messages of a call's line, which a file has to have room for.
+#[derive(Clone, Copy)]
+pub(crate) enum Line {
+    /// None, or one that an earlier line had.
+    Short,
+    /// A message of this many bytes.
+    Message(u64),
+    /// The message of a swap, and the one that the variable holds.
+    Swap { variable: u64, bytes: u64 },
+}
+
+impl Line {
+    pub fn bytes<R: MessageKind>(self, room: &mut Handle) -> u64 {
+        match self {
+            Line::Short => 0,
+            Line::Message(bytes) => bytes,
+            Line::Swap { variable, bytes } => {
+                let mut held = R::nothing();
+                match R::held(room, variable, &mut held) {
+                    code::DONE => bytes.saturating_add(R::received_length(&held)),
+                    _ => bytes,
+                }
+            }
+        }
+    }
+}
+
+/// A call that may park its seat, or that of a parked seat again.
+#[derive(Clone, Copy)]
+pub(crate) struct Ask {
+    pub seat: u64,
+    pub is_again: bool,
+    pub line: Line,
+}
+
+impl Ask {
+    /// The first ask of a seat, whose line is short.
+    pub fn first(seat: u64) -> Ask {
+        Ask {
+            seat,
+            is_again: false,
+            line: Line::Short,
+        }
+    }
+}

@@ -1,0 +1,182 @@
+//! Journals whose file takes no more: a full disk, a file that others cut, a child of a fork, and a
+//! process that is killed.
+
+mod common;
+
+use common::{asking, path_given, poll_once, run_apart, without_a_hang, Scratch};
+use seryugo::{Error, JournalFile, Numbers, Switchboard};
+use std::fs;
+use std::io::{self, ErrorKind};
+use std::os::unix::process::CommandExt;
+use std::process::Command;
+use std::sync::atomic::{AtomicBool, Ordering};
+use std::sync::Arc;
+use std::task::Poll;
+use std::thread;
+
+/// A file that may grow no further refuses calls by name, and has all others.
+#[test]
+fn a_full_disk_refuses_calls_and_loses_none() {
+    let scratch = Scratch::new("full");
+    let other = run_apart("fills_a_file", "ulimit -f 500 &&", &scratch.path());
+    assert!(other.status.success(), "{other:?}");
+    let said = String::from_utf8(other.stdout).unwrap();
+    let sent: u64 =
+        said.lines().find_map(|line| line.strip_prefix("sent ")).unwrap().parse().unwrap();
+    let board = Switchboard::open_numbers(scratch.path()).unwrap();
+    assert_eq!(board.owed(board.mailbox(0).unwrap()), Ok(sent));
+    assert!(sent > 1_000);
+}
+
+#[test]
+#[ignore = "another test runs it in its own process"]
+fn fills_a_file() {
+    let options = JournalFile::new().grow_by(4096);
+    let board = options.open_numbers(path_given()).unwrap();
+    let (mut seat, mut waits) = (board.seat().unwrap(), board.seat().unwrap());
+    let (mailbox, other) = (seat.mailbox_again(0).unwrap(), seat.mailbox_again(1).unwrap());
+    let mut asked = asking(waits.recv_async(other));
+    let refused = loop {
+        if let Err(refused) = seat.send(mailbox, 7) {
+            break refused.error;
+        }
+    };
+    assert_eq!(refused, Error::FileFull);
+    let sent = board.sent(mailbox).unwrap();
+    assert_eq!(board.keeping_error().unwrap().kind(), ErrorKind::FileTooLarge);
+    assert_eq!(seat.recv_poll(mailbox), Err(Error::FileFull));
+    let mut lane = board.lane(mailbox, 8).unwrap();
+    lane.send(8).unwrap();
+    assert_eq!(lane.drain(), Err(Error::FileFull));
+    drop(lane);
+    assert_eq!((board.lost(), board.sent(mailbox)), (1, Ok(sent)));
+    assert!(poll_once(asked.as_mut()).is_pending());
+    drop(asked);
+    drop((seat, waits));
+    board.close().unwrap();
+    println!("\nsent {sent}");
+}
+
+/// Cuts the file as no program may while it is open, and has the switchboard see it.
+fn lose(scratch: &Scratch, board: &Switchboard) {
+    fs::File::options().write(true).open(scratch.path()).unwrap().set_len(0).unwrap();
+    assert_eq!(board.sync(), Err(Error::FileLost));
+}
+
+#[test]
+fn a_file_that_is_lost_refuses_calls_and_wakes_all_who_wait() {
+    without_a_hang(|| {
+        let scratch = Scratch::new("lost");
+        let board = JournalFile::new().sync_by_hand().open(scratch.path()).unwrap();
+        let [mut seat, mut waits, mut future] = [(); 3].map(|()| board.seat().unwrap());
+        let mailbox = seat.mailbox_again::<u64>(0).unwrap();
+        let mut asked = asking(future.recv_async(mailbox));
+        thread::scope(|scope| {
+            let waiter = scope.spawn(move || waits.recv(mailbox));
+            common::let_them_wait();
+            lose(&scratch, &board);
+            assert_eq!(seat.send(mailbox, 5).unwrap_err().error, Error::FileLost);
+            assert_eq!(waiter.join().unwrap(), Err(Error::FileLost));
+        });
+        assert_eq!(poll_once(asked.as_mut()), Poll::Ready(Err(Error::FileLost)));
+        drop(asked);
+        let why = board.keeping_error().unwrap().to_string();
+        assert_eq!(why, "the file was cut by others");
+        assert_eq!(seat.recv_poll(mailbox), Err(Error::FileLost));
+        assert_eq!(board.lane(mailbox, 8).unwrap().drain(), Err(Error::FileLost));
+        drop((seat, future));
+        assert_eq!(board.close(), Err(Error::FileLost));
+    });
+}
+
+/// A seat's calls, and others, as a child of a fork makes them. `Ok`: each fails by name.
+fn refused_in_a_child(board: &Arc<Switchboard<Numbers>>) -> io::Result<()> {
+    let mut seat = board.seat_owned().unwrap();
+    let mailbox = seat.mailbox_again(0).unwrap();
+    let child = board.clone();
+    let run = move || {
+        let refused = [
+            seat.send(mailbox, 5).map_err(Error::from).err(),
+            seat.recv(mailbox).err(),
+            seat.mailbox_again(1).err(),
+            child.lane(mailbox, 8).err(),
+            child.drain(0).err(),
+            child.owed(mailbox).err(),
+            child.seat().err(),
+            child.hold().err(),
+            child.sync().err(),
+        ];
+        match refused.iter().all(|error| *error == Some(Error::Forked)) {
+            true => Ok(()),
+            false => Err(io::Error::from_raw_os_error(1)),
+        }
+    };
+    let mut command = Command::new("true");
+    // SAFETY: glibc lets a child of a process with threads allocate memory, and the calls take no
+    // other lock.
+    unsafe { command.pre_exec(run) };
+    let ended = command.status()?;
+    assert!(ended.success() && board.sync().is_ok());
+    Ok(())
+}
+
+/// Another thread has the lock most of the time.
+#[test]
+fn a_child_of_a_fork_is_refused_and_its_parent_goes_on() {
+    without_a_hang(|| {
+        let scratch = Scratch::new("fork");
+        let board = Arc::new(Switchboard::open_numbers(scratch.path()).unwrap());
+        let mut busy = board.seat_owned().unwrap();
+        let mailbox = busy.mailbox_again(0).unwrap();
+        let ends = Arc::new(AtomicBool::new(false));
+        let sends = ends.clone();
+        let sender = thread::spawn(move || {
+            let mut sent = 0;
+            while !sends.load(Ordering::Relaxed) {
+                busy.send(mailbox, sent).unwrap();
+                sent += 1;
+            }
+            sent
+        });
+        for _ in 0..20 {
+            refused_in_a_child(&board).unwrap();
+        }
+        ends.store(true, Ordering::Relaxed);
+        let sent = sender.join().unwrap();
+        drop(board);
+        let board = Switchboard::open_numbers(scratch.path()).unwrap();
+        assert_eq!(board.owed(board.mailbox(0).unwrap()), Ok(sent));
+    });
+}
+
+/// A process that is killed loses nothing of what returned.
+#[test]
+fn a_kill_loses_no_call_that_returned() {
+    let scratch = Scratch::new("kill");
+    for run in 1..=3 {
+        let other = run_apart("kills_itself", "", &scratch.path());
+        assert!(!other.status.success());
+        let said = String::from_utf8_lossy(&other.stdout).into_owned();
+        assert!(said.contains("sent 300"), "{said}");
+        let text = scratch.text();
+        let sends = text.lines().filter(|line| line.contains(" send 0 ")).count();
+        assert_eq!(sends, 300 * run);
+    }
+    let board = Switchboard::open(scratch.path()).unwrap();
+    assert_eq!(board.owed(board.mailbox::<u64>(0).unwrap()), Ok(900));
+}
+
+#[test]
+#[ignore = "another test runs it in its own process"]
+fn kills_itself() {
+    let board = JournalFile::new().grow_by(4096).open(path_given()).unwrap();
+    let mut seat = board.seat().unwrap();
+    let mailbox = seat.mailbox_again::<u64>(0).unwrap();
+    for number in 0..300 {
+        seat.send(mailbox, number).unwrap();
+    }
+    println!("\nsent 300");
+    let own = std::process::id().to_string();
+    Command::new("kill").args(["-9", &own]).status().unwrap();
+    unreachable!("the process was killed");
+}
