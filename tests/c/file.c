@@ -41,7 +41,7 @@ static void refuse_texts(void)
     REFUSES(OTHER_VERSION, "journal 77\nhello\n");
     REFUSES(OTHER_MESSAGES, "journal 2\n");
     REFUSES(OTHER_MESSAGES, "journal 4\n");
-    REFUSES(OTHER_MESSAGES, "journal 2");
+    REFUSES(NO_JOURNAL, "journal 2");
     refuse("journal 1\n", 10, SERYUGO_BYTES, SERYUGO_OTHER_MESSAGES, __LINE__);
     REFUSES(BEGINS_LATER, "journal 1\nfrom 4\nseat 0 mailbox: made 4\n");
     REFUSES(FAULT, "journal 1\nseat 0 mailbox: made 0\nseat 0 mail: done\n");
