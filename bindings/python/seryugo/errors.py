@@ -245,7 +245,7 @@ class Forked(SeryugoError):
     words = "a process that was forked can't use the switchboard of its parent"
 
 
-_KINDS = (
+_KINDS: Tuple[Type[SeryugoError], ...] = (
     Closed,
     Gone,
     Busy,

@@ -361,10 +361,12 @@ class Kills(InFolder):
                 self.assertGreaterEqual(board.entries, count)
 
     def test_nothing_that_returned_is_lost_or_doubled(self):
-        told = self.folder / "told"
-        told.touch()
         chosen = random.Random()
         for name in range(int(os.environ.get("SERYUGO_KILLS", "4"))):
+            if name % 10 == 0:
+                # Else a long run would read longer and longer files.
+                self.path, told = str(self.folder / f"{name}.journal"), self.folder / f"{name}.told"
+                told.touch()
             # Each second one is killed while it opens the file, or soon after.
             wanted = chosen.choice([0, 1] if name % 2 else [500, 2_000, 5_000])
             self.killed(str(name), told, wanted)
