@@ -57,7 +57,7 @@ impl<R: MessageKind, T, H: Holds<R>> Feed<'_, R, T, H> {
             });
             feed.map(|feed| (feed, number))
         };
-        let open = || board.open_feed(channel, |state| state.enter(Line::Short, open));
+        let open = || board.open_feed(channel, |state| state.enter(Line::SHORT, open));
         let (mut handle, number) =
             board.pass_by(StepKind::OpenFeed.on(channel), open, |(_, number)| *number)?;
         let port = written(|port| raw::seryugo_feed_port(&mut handle, port))?;
