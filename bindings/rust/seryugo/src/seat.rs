@@ -73,6 +73,7 @@ use std::marker::PhantomData;
 /// - `JournalFull`: the journal has no room for the call's entry. `NotKept`: nobody took the entries of
 ///   the last full journal.
 /// - `NoMemory`.
+/// - If a [file](Switchboard::open) keeps the journal: `FileFull`, `TooLong`, `FileLost`, `Forked`.
 ///
 /// If a sink panics ([`WhenFull`](crate::WhenFull)), so does the call that found the journal full.
 pub struct Seat<'a, R: MessageKind = Bytes, H: Holds<R> = &'a Switchboard<R>> {
