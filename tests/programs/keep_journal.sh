@@ -2,8 +2,9 @@
 # A process that keeps its journal, killed at random moments: `sh tests/programs/keep_journal.sh ROOMS CHECK WORD..`, with the
 # archive of cml_c, and the command that checks a journal. KILLS says how often, or it is 10. The program is
 # examples/programs/keep_journal, in Rust. Each run goes on from the file that the runs before left. After each kill the file has
-# each call that a line of the program has told, and each message once, in order; and the check accepts it. A second process beside
-# one that runs is refused. Then a journal is rerun, also in a debugger. The last line is `N passed, M failed`.
+# each call that a line of the program has told, and each message once, in order; and the check accepts it. After twenty kills a
+# new file begins. A second process beside one that runs is refused. Then a journal is rerun, also in a debugger. The last line is
+# `N passed, M failed`.
 LC_ALL=C
 export LC_ALL
 top=$(cd "$(dirname "$0")/../.." && pwd) || exit 1
@@ -80,6 +81,13 @@ is_accepted() {
     [ $? -eq 2 ] && grep -q '^journal: open after line [0-9]*$' "$work/verdict"
 }
 
+# begin: from here on the runs have a new file. A long journal takes long to check.
+begin() {
+    returned=$((returned + $(wc -l < "$work/returned")))
+    rm -f "$journal"
+    : > "$work/returned"
+}
+
 # killed WHEN WORD..: one run, which is killed some time after this holds.
 killed() {
     when=$1
@@ -107,7 +115,8 @@ refuses_a_second() {
     await goes_on
     run "$folder" 0
     stopped
-    [ "$status" -eq 137 ] && [ ! -s "$work/out" ] && [ "$(cat "$work/err")" = "keep_journal: $journal: another switchboard has the journal's file" ]
+    [ "$status" -eq 137 ] && [ ! -s "$work/out" ] &&
+        [ "$(cat "$work/err")" = "keep_journal: $journal: another switchboard has the journal's file" ]
 }
 
 # ends MESSAGES: one run that ends by itself.
@@ -144,6 +153,7 @@ if [ "$failed" -gt 0 ]; then
     exit
 fi
 kills=0
+returned=0
 while [ $kills -lt "${KILLS:-10}" ]; do
     case $((kills % 5)) in
         0) killed is_started "$@" ;;
@@ -151,12 +161,14 @@ while [ $kills -lt "${KILLS:-10}" ]; do
         *) killed has_told "$@" ;;
     esac
     kills=$((kills + 1))
+    [ $((kills % 20)) -ne 0 ] || begin
 done
 check 'a second process is refused' refuses_a_second
 check 'a run that ends' ends 100
 check 'a run of no messages' ends 0
-echo "killed $kills times; $(wc -l < "$work/returned") calls had returned, of $(grep -c : "$work/text") that the journal has"
-check 'calls were told' [ "$(wc -l < "$work/returned")" -gt 500 ]
+begin
+echo "killed $kills times; $returned calls had returned"
+check 'calls were told' [ "$returned" -gt 500 ]
 check 'the last journal is accepted' is_accepted "$@"
 check 'a journal is rerun' reruns
 if has gdb 'a rerun in a debugger'; then check 'a rerun in a debugger' reruns_in_a_debugger; fi

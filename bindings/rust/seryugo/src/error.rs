@@ -7,7 +7,7 @@ use crate::version::Version;
 use std::any;
 use std::fmt;
 
-/// Why a call failed. A call that failed changed nothing, with three exceptions:
+/// Why a call failed. A call that failed changed nothing, with some exceptions:
 ///
 /// - [`Lane::close`](crate::Lane::close) has ended the lane, and may have moved some of its
 ///   messages.
@@ -15,6 +15,7 @@ use std::fmt;
 ///   are in the error.
 /// - [`Seat::request`](crate::Seat::request) may have sent its question, which
 ///   [`RequestError::was_sent`](crate::RequestError::was_sent) says.
+/// - A call that fails with [`FileLost`](Error::FileLost) may be in the journal's file.
 ///
 /// A `drain` or a `pump` that failed moved nothing. If a message after the first is refused, it
 /// returns how many moved.
@@ -111,7 +112,8 @@ pub enum Error {
     /// the call is there. [`Switchboard::keeping_error`](crate::Switchboard::keeping_error) says why.
     /// Each later call fails so, and all who wait are woken.
     FileLost,
-    /// The process is a child of a fork: the journal's file is its parent's.
+    /// The process is a child of a fork: the journal's file is its parent's. What returns no `Error`,
+    /// as [`Switchboard::entries`](crate::Switchboard::entries), panics there.
     Forked,
     /// A [file](crate::Switchboard::open) keeps the journal, and alone cuts it.
     HasFile,

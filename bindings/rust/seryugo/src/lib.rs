@@ -78,6 +78,33 @@
 //! - [`Error::is_retryable`] says whether the same call may succeed later.
 //! - [`Seat`] has a table of how each call waits.
 //!
+//! # A journal in a file
+//!
+//! [`Switchboard::open`] keeps the journal in a file: each call that returned survives the end of
+//! the program, even by `kill -9`. The next program goes on from there. It finds an object by its
+//! number, or makes it ([`mailbox_again`](Seat::mailbox_again)):
+//!
+//! ```
+//! # fn main() -> Result<(), seryugo::Error> {
+//! # let path = std::env::temp_dir().join(format!("seryugo-doc-{}.first", std::process::id()));
+//! let board = seryugo::Switchboard::open(&path)?;
+//! let mut seat = board.seat()?;
+//! let letters = seat.mailbox_again::<String>(0)?;
+//! seat.send(letters, "Dear Ben")?;
+//! drop(seat);
+//! board.close()?;
+//!
+//! let board = seryugo::Switchboard::open(&path)?;
+//! let mut seat = board.seat()?;
+//! let letters = seat.mailbox_again::<String>(0)?;
+//! assert_eq!(seat.recv(letters)?, "Dear Ben");
+//! # drop(seat);
+//! # drop(board);
+//! # std::fs::remove_file(&path).unwrap();
+//! # Ok(())
+//! # }
+//! ```
+//!
 //! # Questions and answers
 //!
 //! A client asks by [`seat.request`](Seat::request), and a server answers each [`Request`] once:

@@ -318,7 +318,7 @@ impl<A: Message> Asker<A> {
             bytes.push(1);
             <Bytes as Carries<A>>::with_sent(answer, |piece| bytes.extend_from_slice(piece));
         }
-        let (mailbox, line) = (self.mailbox, Line::Message(Bytes::length(&bytes)));
+        let (mailbox, line) = (self.mailbox, Line::of(Bytes::length(&bytes)));
         let code = seat.call(Give::Send.on(mailbox), line, |room, seat| {
             Bytes::give(Give::Send, room, seat, mailbox, &bytes)
         });

@@ -73,6 +73,7 @@ use std::marker::PhantomData;
 /// - `JournalFull`: the journal has no room for the call's entry. `NotKept`: nobody took the entries of
 ///   the last full journal.
 /// - `NoMemory`.
+/// - If a [file](Switchboard::open) keeps the journal: `FileFull`, `TooLong`, `FileLost`, `Forked`.
 ///
 /// If a sink panics ([`WhenFull`](crate::WhenFull)), so does the call that found the journal full.
 pub struct Seat<'a, R: MessageKind = Bytes, H: Holds<R> = &'a Switchboard<R>> {
@@ -150,7 +151,7 @@ impl<R: MessageKind, H: Holds<R>> Seat<'_, R, H> {
     {
         let sent = self.here(mailbox).and_then(|mailbox| {
             let code = R::with_sent(&message, |sent| {
-                let line = Line::Message(R::length(sent));
+                let line = Line::of(R::length(sent));
                 self.call(Give::Send.on(mailbox), line, move |room, seat| {
                     R::give(Give::Send, room, seat, mailbox, sent)
                 })
@@ -187,7 +188,7 @@ impl<R: MessageKind, H: Holds<R>> Seat<'_, R, H> {
     {
         let sent = self.here(channel).and_then(|channel| {
             let code = R::with_sent(&message, |sent| {
-                let line = Line::Message(R::length(sent));
+                let line = Line::of(R::length(sent));
                 self.call(Give::Multicast.on(channel), line, move |room, seat| {
                     R::give(Give::Multicast, room, seat, channel, sent)
                 })
@@ -255,7 +256,7 @@ impl<R: MessageKind, H: Holds<R>> Seat<'_, R, H> {
     {
         let put = self.here(variable).and_then(|variable| {
             let code = R::with_sent(&message, |sent| {
-                let line = Line::Message(R::length(sent));
+                let line = Line::of(R::length(sent));
                 self.call(Give::Put.on(variable), line, move |room, seat| {
                     R::give(Give::Put, room, seat, variable, sent)
                 })
@@ -335,7 +336,7 @@ impl<R: MessageKind, H: Holds<R>> Seat<'_, R, H> {
         R: Carries<T>,
     {
         let mut found = R::nothing();
-        match self.call(step, Line::Short, |room, seat| call(room, seat, &mut found))? {
+        match self.call(step, Line::SHORT, |room, seat| call(room, seat, &mut found))? {
             code::NOTHING => Ok(None),
             code => received::<R, T>(code, &found).map(Some),
         }
@@ -355,7 +356,7 @@ impl<R: MessageKind, H: Holds<R>> Seat<'_, R, H> {
         if let Some(conductor) = &self.board.conductor {
             return self.board.call_conducted(conductor, &self.parker, seat, step, call);
         }
-        Ok(self.board.change(Some(&self.parker), |state| state.enter(line, call)))
+        Ok(self.board.change(Some(&self.parker), move |state| state.enter(line, call)))
     }
 
     /// The seat's number, once it may call: a future that was forgotten left it waiting, or a call

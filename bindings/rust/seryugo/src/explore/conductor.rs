@@ -47,7 +47,7 @@ impl<R: MessageKind> Switchboard<R> {
                 follower.enter(Caller::of_seat(seat, step), WaitKind::Made)?
             }
         };
-        let call = |state: &mut State<R>| state.enter(Line::Short, call);
+        let call = |state: &mut State<R>| state.enter(Line::SHORT, call);
         match entering {
             None => Ok(self.change(Some(by), call)),
             Some(entering) => self.make_again(entering, call),

@@ -212,7 +212,11 @@ impl<T> Source for Mailbox<T> {
 
     #[inline]
     fn received(message: Option<T>) -> Result<T, Error> {
-        message.ok_or(Error::Unknown(code::CLOSED))
+        match message {
+            Some(message) => Ok(message),
+            // It is made only here: it would have to be dropped elsewhere.
+            None => Err(Error::Unknown(code::CLOSED)),
+        }
     }
 
     #[inline]

@@ -222,7 +222,7 @@ impl<H: Holds<Bytes>> Seat<'_, Bytes, H> {
         let mut bytes = Vec::new();
         asker.write_to(&mut bytes);
         <Bytes as Carries<Q>>::with_sent(question, |piece| bytes.extend_from_slice(piece));
-        let line = Line::Message(Bytes::length(&bytes));
+        let line = Line::of(Bytes::length(&bytes));
         done(self.call(Give::Send.on(mailbox), line, |room, seat| {
             Bytes::give(Give::Send, room, seat, mailbox, &bytes)
         })?)?;

@@ -16,6 +16,9 @@ use std::marker::PhantomData;
 /// A feed of what is multicast on a channel, from which one thread takes without the lock what was
 /// pumped. It may go to another thread, and two can't share it. It ends when it is dropped.
 ///
+/// If a [file](Switchboard::open) keeps the journal, a message counts as received once it is pumped:
+/// after the end of the process no feed and no port has it again.
+///
 /// ```
 /// use seryugo::{Error, Switchboard};
 ///
@@ -57,7 +60,7 @@ impl<R: MessageKind, T, H: Holds<R>> Feed<'_, R, T, H> {
             });
             feed.map(|feed| (feed, number))
         };
-        let open = || board.open_feed(channel, |state| state.enter(Line::Short, open));
+        let open = || board.open_feed(channel, |state| state.enter(Line::SHORT, open));
         let (mut handle, number) =
             board.pass_by(StepKind::OpenFeed.on(channel), open, |(_, number)| *number)?;
         let port = written(|port| raw::seryugo_feed_port(&mut handle, port))?;
@@ -121,7 +124,8 @@ impl<R: MessageKind, T, H: Holds<R>> Feed<'_, R, T, H> {
     ///
     /// # Errors
     ///
-    /// `JournalFull`, `NotKept` and `NoMemory`: nothing was received.
+    /// `JournalFull`, `NotKept` and `NoMemory`: nothing was received. [`FileFull`](Error::FileFull),
+    /// `FileLost` and `Forked`, if a file keeps the journal.
     pub fn pump(&mut self) -> Result<u64, Error> {
         let pump = || self.board.pump(self.number);
         self.board.pass_by(StepKind::Pump.on(self.number), pump, |count| *count)

@@ -17,7 +17,8 @@ use std::sync::Arc;
 ///
 /// It may go to another thread, and two can't share it. If it is dropped, it moves its messages
 /// into the journal and is closed. Those for which the journal has no room are lost:
-/// [`Switchboard::lost`] counts them.
+/// [`Switchboard::lost`] counts them. If a [file](Switchboard::open) keeps the journal, a message is
+/// kept once it is drained: one that is still in the ring goes with the process.
 ///
 /// ```
 /// use seryugo::{Error, Switchboard};
@@ -121,7 +122,7 @@ impl<'a, R: MessageKind, T, H: Holds<R>> Lane<'a, R, T, H> {
     /// # Errors
     ///
     /// [`SendError`] hands the message back. `Full`: the lane has no free slot until it is drained.
-    /// `NoMemory` and `OutOfBounds`: as of [`Seat::send`](crate::Seat::send).
+    /// `NoMemory`, `OutOfBounds` and `TooLong`: as of [`Seat::send`](crate::Seat::send).
     #[inline]
     pub fn send<M: SentAs<T>>(&mut self, message: M) -> Result<(), SendError<M>>
     where
@@ -167,7 +168,8 @@ impl<'a, R: MessageKind, T, H: Holds<R>> Lane<'a, R, T, H> {
     ///
     /// # Errors
     ///
-    /// `JournalFull`, `NotKept` and `NoMemory`: no message has moved.
+    /// `JournalFull`, `NotKept` and `NoMemory`: no message has moved. [`FileFull`](Error::FileFull),
+    /// `FileLost` and `Forked`, if a file keeps the journal.
     pub fn drain(&mut self) -> Result<u64, Error> {
         match &self.ring {
             Ring::Own(_) | Ring::Explored(_) => self.board.drain(self.number),

@@ -30,7 +30,7 @@ impl<R: MessageKind, H: Holds<R>> Seat<'_, R, H> {
     where
         R: Carries<T>,
     {
-        self.make(StepKind::Mailbox.makes(), Line::Short, |room, seat, name| {
+        self.make(StepKind::Mailbox.makes(), Line::SHORT, |room, seat, name| {
             raw::seryugo_new_mailbox(room, seat, name)
         })
     }
@@ -52,7 +52,7 @@ impl<R: MessageKind, H: Holds<R>> Seat<'_, R, H> {
     where
         R: Carries<T>,
     {
-        self.make(StepKind::Channel.makes(), Line::Short, |room, seat, name| {
+        self.make(StepKind::Channel.makes(), Line::SHORT, |room, seat, name| {
             raw::seryugo_new_channel(room, seat, name)
         })
     }
@@ -75,7 +75,7 @@ impl<R: MessageKind, H: Holds<R>> Seat<'_, R, H> {
     /// [The usual ones](crate::Seat#how-a-call-fails).
     pub fn port<T>(&mut self, channel: Channel<T>) -> Result<Port<T>, Error> {
         let channel = self.here(channel)?;
-        self.make(StepKind::Port.on(channel), Line::Short, |room, seat, name| {
+        self.make(StepKind::Port.on(channel), Line::SHORT, |room, seat, name| {
             raw::seryugo_new_port(room, seat, channel, name)
         })
     }
@@ -101,7 +101,7 @@ impl<R: MessageKind, H: Holds<R>> Seat<'_, R, H> {
     pub fn copy<T>(&mut self, port: Port<T>) -> Result<Option<Port<T>>, Error> {
         let port = self.here(port)?;
         let mut number = 0;
-        let code = self.call(StepKind::Copy.on(port), Line::Short, |room, seat| {
+        let code = self.call(StepKind::Copy.on(port), Line::SHORT, |room, seat| {
             raw::seryugo_copy_port(room, seat, port, &mut number)
         });
         let is_open = done_or(code?, code::CLOSED)?;
@@ -126,7 +126,7 @@ impl<R: MessageKind, H: Holds<R>> Seat<'_, R, H> {
     /// [The usual ones](crate::Seat#how-a-call-fails).
     pub fn close<T>(&mut self, port: Port<T>) -> Result<bool, Error> {
         let port = self.here(port)?;
-        let code = self.call(StepKind::Close.on(port), Line::Short, |room, seat| {
+        let code = self.call(StepKind::Close.on(port), Line::SHORT, |room, seat| {
             raw::seryugo_close_port(room, seat, port)
         });
         done_or(code?, code::CLOSED).map_err(|error| error.misfit(Misfit::Feed(port)))
@@ -150,7 +150,7 @@ impl<R: MessageKind, H: Holds<R>> Seat<'_, R, H> {
     where
         R: Carries<T>,
     {
-        self.make(StepKind::IVar.makes(), Line::Short, |room, seat, name| {
+        self.make(StepKind::IVar.makes(), Line::SHORT, |room, seat, name| {
             raw::seryugo_new_ivar(room, seat, name)
         })
     }
@@ -174,7 +174,7 @@ impl<R: MessageKind, H: Holds<R>> Seat<'_, R, H> {
     where
         R: Carries<T>,
     {
-        self.make(StepKind::MVar.makes(), Line::Short, |room, seat, name| {
+        self.make(StepKind::MVar.makes(), Line::SHORT, |room, seat, name| {
             raw::seryugo_new_mvar(room, seat, name)
         })
     }
@@ -197,7 +197,7 @@ impl<R: MessageKind, H: Holds<R>> Seat<'_, R, H> {
         R: Carries<T>,
     {
         let made = R::with_sent(&message, |sent| {
-            let line = Line::Message(R::length(sent));
+            let line = Line::of(R::length(sent));
             self.make(StepKind::MVarInit.makes(), line, |room, seat, name| {
                 R::mvar_init(room, seat, sent, name)
             })
@@ -331,7 +331,7 @@ impl<R: MessageKind, H: Holds<R>> Seat<'_, R, H> {
         let seat = self.ready();
         let follower = self.board.follower();
         if follower.is_some_and(|follower| self.board.makes_again(follower, seat, number)) {
-            return self.make(step.makes(), Line::Short, make);
+            return self.make(step.makes(), Line::SHORT, make);
         }
         let find = || {
             let again = |state: &mut State<R>| state.again(seat, number, N::KIND, make);

@@ -58,7 +58,8 @@ pub type OwnedFeed<R, T> = Feed<'static, R, T, Arc<Switchboard<R>>>;
 /// # Seats, lanes and feeds that go anywhere
 ///
 /// They have a share of the switchboard, and may be dropped in any order with it. The switchboard
-/// goes with the last of them. It hands nothing over then: call [`keep`](Switchboard::keep) before.
+/// goes with the last of them. It closes its [file](Switchboard::open) then, and hands nothing over
+/// to a sink: call [`keep`](Switchboard::keep) before.
 /// A sink of the switchboard that has one of them keeps the switchboard for ever.
 impl<R: MessageKind> Switchboard<R> {
     /// A new seat as [`seat`](Switchboard::seat) makes it, that goes anywhere.

@@ -36,11 +36,8 @@ impl<R: MessageKind> PendingCall<'_, R> {
     #[inline]
     fn line(self) -> Line {
         match self {
-            PendingCall::Read(..) => Line::Short,
-            PendingCall::Swap(variable, stored) => Line::Swap {
-                variable,
-                bytes: R::length(stored),
-            },
+            PendingCall::Read(..) => Line::SHORT,
+            PendingCall::Swap(variable, stored) => Line::of_swap(R::length(stored), variable),
         }
     }
 

@@ -32,29 +32,43 @@ impl<A: Answer, B: Default> Answer for (A, B) {
     }
 }
 
-/// The messages of a call's line, which a file has to have room for.
+/// The messages of a call's line, for which a file has to have room. It goes through registers.
 #[derive(Clone, Copy)]
-pub(crate) enum Line {
-    /// None, or one that an earlier line had.
-    Short,
-    /// A message of this many bytes.
-    Message(u64),
-    /// The message of a swap, and the one that the variable holds.
-    Swap { variable: u64, bytes: u64 },
+pub(crate) struct Line {
+    /// How many bytes the call's own message has.
+    bytes: u64,
+    /// The variable whose message the line has too, or `NONE`.
+    variable: u64,
 }
 
+/// The number of no object.
+const NONE: u64 = u64::MAX;
+
 impl Line {
+    /// No message, or one that an earlier line had.
+    pub const SHORT: Line = Line::of(0);
+
+    /// A message of this many bytes.
+    pub const fn of(bytes: u64) -> Line {
+        Line {
+            bytes,
+            variable: NONE,
+        }
+    }
+
+    /// The message of a swap, and the one that the variable holds.
+    pub const fn of_swap(bytes: u64, variable: u64) -> Line {
+        Line { bytes, variable }
+    }
+
     pub fn bytes<R: MessageKind>(self, room: &mut Handle) -> u64 {
-        match self {
-            Line::Short => 0,
-            Line::Message(bytes) => bytes,
-            Line::Swap { variable, bytes } => {
-                let mut held = R::nothing();
-                match R::held(room, variable, &mut held) {
-                    code::DONE => bytes.saturating_add(R::received_length(&held)),
-                    _ => bytes,
-                }
-            }
+        if self.variable == NONE {
+            return self.bytes;
+        }
+        let mut held = R::nothing();
+        match R::held(room, self.variable, &mut held) {
+            code::DONE => self.bytes.saturating_add(R::received_length(&held)),
+            _ => self.bytes,
         }
     }
 }
@@ -73,7 +87,7 @@ impl Ask {
         Ask {
             seat,
             is_again: false,
-            line: Line::Short,
+            line: Line::SHORT,
         }
     }
 }

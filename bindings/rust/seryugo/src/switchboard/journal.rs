@@ -45,7 +45,8 @@ impl<R: MessageKind> Switchboard<R> {
     ///
     /// # Errors
     ///
-    /// `Busy`: a lane or a feed is open. Then nothing is cut.
+    /// `Busy`: a lane or a feed is open. `HasFile`: a [file](Switchboard::open) keeps the journal.
+    /// Then nothing is cut.
     pub fn cut(&self) -> Result<(), Error> {
         self.pass_to_look_at_all();
         self.locked()?.cut(false)
@@ -66,7 +67,7 @@ impl<R: MessageKind> Switchboard<R> {
     /// # Errors
     ///
     /// `Busy`: a lane or a feed is open. `NoMemory`. `NotKept`: the switchboard has older entries,
-    /// which nobody takes. Then nothing is cut.
+    /// which nobody takes. `HasFile`. Then nothing is cut.
     pub fn take_journal(&self) -> Result<Journal<R>, Error> {
         self.pass_to_look_at_all();
         self.locked()?.take_journal(Taking::Cut)
@@ -94,7 +95,7 @@ impl<R: MessageKind> Switchboard<R> {
     ///
     /// # Errors
     ///
-    /// None that the library of this version returns.
+    /// `HasFile`: a [file](Switchboard::open) keeps the journal.
     pub fn cut_open(&self) -> Result<(), Error> {
         self.pass_to_look_at_all();
         self.locked()?.cut(true)
@@ -120,7 +121,7 @@ impl<R: MessageKind> Switchboard<R> {
     /// # Errors
     ///
     /// `NoMemory`. `NotKept`: the switchboard has older entries, which nobody takes
-    /// ([`when_full`](Switchboard::when_full)). Then nothing is cut.
+    /// ([`when_full`](Switchboard::when_full)). `HasFile`. Then nothing is cut.
     pub fn take_journal_open(&self) -> Result<Journal<R>, Error> {
         self.pass_to_look_at_all();
         self.locked()?.take_journal(Taking::CutOpen)
@@ -189,7 +190,7 @@ impl<R: MessageKind> Switchboard<R> {
     ///
     /// # Errors
     ///
-    /// `NoMemory`. Then nothing is cut.
+    /// `NoMemory`, and `HasFile`. Then nothing is cut.
     pub fn compact_and_cut(&self) -> Result<Journal<R>, Error> {
         self.pass_to_look_at_all();
         self.locked()?.compact_and_cut()
@@ -244,8 +245,8 @@ impl<R: MessageKind> Switchboard<R> {
     ///
     /// # Errors
     ///
-    /// What the function fails with, and then nothing is cut; and `OutOfMemory`, before the
-    /// function was called.
+    /// What the function fails with, and then nothing is cut; and `OutOfMemory` or
+    /// [`HasFile`](Error::HasFile), before the function was called.
     pub fn compact_with<T>(
         &self,
         keep: impl FnOnce(&Journal<R>) -> io::Result<T>,
@@ -254,7 +255,8 @@ impl<R: MessageKind> Switchboard<R> {
         self.locked().map_err(io::Error::other)?.compact_with(keep)
     }
 
-    /// The journal's entry at this position, counted from 0 since the switchboard was made. It has
+    /// The journal's entry at this position, counted from 0 since the switchboard was made. A file
+    /// cuts it away soon. It has
     /// copies of the messages. If there is no memory for them, the program aborts, as if a `Vec`
     /// found none.
     ///
@@ -361,13 +363,15 @@ impl<R: MessageKind> Switchboard<R> {
     /// # Errors
     ///
     /// `NotKept`: nobody took the entries, and the switchboard keeps them. `NoMemory`: nothing is
-    /// cut.
+    /// cut. `HasFile`: a [file](Switchboard::open) keeps each entry.
     pub fn keep(&self) -> Result<(), Error> {
         self.pass_to_look_at_all();
         self.locked()?.keep()
     }
 
-    /// Returns why nobody took the entries of a full journal. Returns it once.
+    /// Returns why nobody took the entries of a full journal. Returns it once. If a
+    /// [file](Switchboard::open) keeps the journal, returns why calls fail with `FileFull` or
+    /// `FileLost`.
     ///
     /// ```
     /// use seryugo::{Error, Switchboard, WhenFull};

@@ -31,12 +31,17 @@ impl<R: MessageKind> Switchboard<R> {
         by: Option<&Parker>,
         call: impl FnOnce(&mut State<R>) -> T,
     ) -> T {
-        if self.file.is_some() {
-            return self.keep_call(by, |state| state.call(call), |_| ());
-        }
+        // It is dropped after the lock.
         let panicking = Panicking { board: self, by };
-        let mut state = self.lock();
+        let Some(mut state) = self.lock_for_call() else {
+            mem::forget(panicking);
+            return T::refused(code::FORKED);
+        };
         let answer = state.call(call);
+        if state.has_file() {
+            mem::forget(panicking);
+            return self.keep_call(state, by, answer, None);
+        }
         let due = state.next_due();
         drop(state);
         mem::forget(panicking);
@@ -47,19 +52,19 @@ impl<R: MessageKind> Switchboard<R> {
     /// The same for a call that may park the seat, or that of a parked seat again.
     #[inline]
     pub(crate) fn ask(&self, by: &Parker, ask: Ask, call: impl FnOnce(&mut Handle) -> u32) -> u32 {
-        if self.file.is_some() {
-            return self.keep_call(
-                Some(by),
-                |state| state.ask_by(by, ask, call),
-                |state| state.withdraw(ask.seat),
-            );
-        }
         let panicking = Panicking {
             board: self,
             by: Some(by),
         };
-        let mut state = self.lock();
+        let Some(mut state) = self.lock_for_call() else {
+            mem::forget(panicking);
+            return code::FORKED;
+        };
         let code = state.ask_by(by, ask, call);
+        if state.has_file() {
+            mem::forget(panicking);
+            return self.keep_call(state, Some(by), code, Some(ask.seat));
+        }
         // A call that parks a free seat makes no seat due. If others were due before, a call that
         // wakes them is on its way.
         let may_be_due = ask.is_again || code != code::PARKED;
@@ -70,24 +75,28 @@ impl<R: MessageKind> Switchboard<R> {
         code
     }
 
-    /// Makes a call on a switchboard whose journal has a file. Before the lock is free, the file has
-    /// the call's entries. If it hasn't, this undoes the rest, and refuses the call.
-    #[inline(never)]
+    /// Ends a call on a switchboard whose journal has a file. Before the lock is free, the file has
+    /// the call's entries. If it hasn't, this refuses the call, and the seat of this number waits no
+    /// longer.
+    #[cold]
     fn keep_call<T: Answer>(
         &self,
+        mut state: Guard<'_, State<R>>,
         by: Option<&Parker>,
-        call: impl FnOnce(&mut State<R>) -> T,
-        undo: impl FnOnce(&mut State<R>),
+        answer: T,
+        seat: Option<u64>,
     ) -> T {
-        let Ok(mut state) = self.locked() else {
-            return T::refused(code::FORKED);
+        let answer = match state.note() {
+            code::DONE => answer,
+            // The threads that wait are the parent's.
+            code::FORKED => return T::refused(code::FORKED),
+            refusal => {
+                if let Some(seat) = seat {
+                    state.withdraw(seat);
+                }
+                T::refused(refusal)
+            }
         };
-        let mut answer = call(&mut state);
-        let noted = state.note();
-        if noted != code::DONE {
-            undo(&mut state);
-            answer = T::refused(noted);
-        }
         let (due, lost) = (state.next_due(), state.newly_lost());
         drop(state);
         match lost {
@@ -105,12 +114,11 @@ impl<R: MessageKind> Switchboard<R> {
         go_on(panicked.into_iter().next());
     }
 
-    /// The room, for a call that makes no seat due. In a child of a fork another thread of its parent
-    /// may have the lock for ever: there this fails with `Forked`.
+    /// The room, for a look or a call that makes no seat due. `Forked` in a child of a fork.
     pub(crate) fn locked(&self) -> Result<Guard<'_, State<R>>, Error> {
-        match &self.file {
-            Some(file) if file.is_forked() => Err(Error::Forked),
-            _ => Ok(self.lock()),
+        match self.is_forked() {
+            true => Err(Error::Forked),
+            false => Ok(self.lock()),
         }
     }
 
@@ -123,11 +131,28 @@ impl<R: MessageKind> Switchboard<R> {
         self.locked().unwrap_or_else(|forked| panic!("{forked}"))
     }
 
-    /// The room, for a call that makes no seat due. A thread that panicked left it between two
-    /// calls, where it is whole.
+    /// The room, where no child of a fork comes. A thread that panicked left it between two calls,
+    /// where it is whole.
     #[inline]
     pub(crate) fn lock(&self) -> Guard<'_, State<R>> {
         self.try_lock().unwrap_or_else(|| self.lock_late())
+    }
+
+    /// The same for any call. `None`: this is a child of a fork, and another thread of its parent had
+    /// the lock, maybe for ever. A child that finds it free is refused by the file.
+    #[inline]
+    fn lock_for_call(&self) -> Option<Guard<'_, State<R>>> {
+        match self.try_lock() {
+            None if self.is_forked() => None,
+            None => Some(self.lock_late()),
+            taken => taken,
+        }
+    }
+
+    /// Whether a file keeps the journal, and this process is a child of that which opened it.
+    #[cold]
+    fn is_forked(&self) -> bool {
+        self.file.as_ref().is_some_and(|file| file.is_forked())
     }
 
     /// The same, if no thread has the lock.

@@ -71,7 +71,7 @@ impl<R: MessageKind> State<R> {
     }
 
     fn move_once(&mut self, call: impl Fn(&mut Self) -> Result<u64, Error>) -> Result<u64, Error> {
-        self.makes_room(Line::Short).map_err(Error::of_code)?;
+        self.makes_room(Line::SHORT).map_err(Error::of_code)?;
         if self.pending.is_some() {
             // It has an entry for each message.
             self.spare = 0;

@@ -29,12 +29,12 @@ pub(crate) struct State<R: MessageKind> {
     parked: u64,
     /// How many calls were made that may park a seat or make one due.
     calls: u64,
+    /// The file that keeps the journal.
+    pub(super) file: Option<Arc<File>>,
     /// How many entries the journal takes between two cuts.
     limit: u64,
     /// The policy for a full journal, and the entries that its sink refused.
     pub(super) pending: Option<PendingJournal<R>>,
-    /// The file that keeps the journal.
-    pub(super) file: Option<Arc<File>>,
     /// Whether the file is lost, and all who waited were woken.
     is_lost: bool,
     /// Where the text begins to which the next piece is added.
@@ -84,6 +84,11 @@ impl<R: MessageKind> State<R> {
     pub fn set_file(&mut self, file: Option<Arc<File>>) {
         self.spare = if file.is_some() { 0 } else { u64::MAX };
         self.file = file;
+    }
+
+    #[inline]
+    pub fn has_file(&self) -> bool {
+        self.file.is_some()
     }
 
     /// Stores what the room has had since the last time in its file.
@@ -302,7 +307,7 @@ impl<R: MessageKind> State<R> {
         if let Some(before) = number.checked_sub(1) {
             self.kind(before)?.ok_or(Error::NoSuch(Missing::Object(before)))?;
         }
-        done(self.enter(Line::Short, |room| make(room, seat, &mut 0)))
+        done(self.enter(Line::SHORT, |room| make(room, seat, &mut 0)))
     }
 
     /// What the object of this number is, if it is there.
@@ -321,7 +326,7 @@ impl<R: MessageKind> State<R> {
         let room = self.makes_room(ask.line);
         if let Err(code) = room {
             if !ask.is_again || self.file.is_some() {
-                return self.refuse(ask, code);
+                return self.refuse(ask.seat, ask.is_again, code);
             }
         }
         self.calls += 1;
@@ -344,9 +349,9 @@ impl<R: MessageKind> State<R> {
 
     /// Refuses a call. If its seat was parked, it waits no longer.
     #[cold]
-    fn refuse(&mut self, ask: Ask, code: u32) -> u32 {
-        if ask.is_again {
-            self.withdraw(ask.seat);
+    fn refuse(&mut self, seat: u64, is_again: bool, code: u32) -> u32 {
+        if is_again {
+            self.withdraw(seat);
         }
         code
     }
