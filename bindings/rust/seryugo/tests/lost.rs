@@ -57,6 +57,39 @@ fn fills_a_file() {
     println!("\nsent {sent}");
 }
 
+/// A drain moves more than the file has room for. Nobody sees that before it is kept.
+#[test]
+fn long_messages_of_a_lane_meet_a_full_disk() {
+    let scratch = Scratch::new("lane");
+    let other = run_apart("fills_a_file_by_a_lane", "ulimit -S -f 3000 &&", &scratch.path());
+    assert!(other.status.success(), "{other:?}");
+    let board = Switchboard::open(scratch.path()).unwrap();
+    assert_eq!(board.owed(board.mailbox::<Vec<u8>>(0).unwrap()), Ok(3));
+}
+
+#[test]
+#[ignore = "another test runs it in its own process"]
+fn fills_a_file_by_a_lane() {
+    let board = JournalFile::new().grow_by(4096).open(path_given()).unwrap();
+    let mut seat = board.seat().unwrap();
+    let mailbox = seat.mailbox_again::<Vec<u8>>(0).unwrap();
+    let mut lane = board.lane(mailbox, 8).unwrap();
+    for _ in 0..3 {
+        lane.send(vec![0xFF; 371_000]).unwrap();
+    }
+    let unclosed = lane.close().unwrap_err();
+    assert_eq!((unclosed.error(), seat.recv(mailbox)), (Error::FileFull, Err(Error::FileFull)));
+    let unclosed = unclosed.close().unwrap_err();
+    assert_eq!(unclosed.error(), Error::FileFull);
+    let own = std::process::id().to_string();
+    let grows = Command::new("prlimit").args(["--pid", &own, "--fsize=unlimited"]).status();
+    assert!(grows.unwrap().success());
+    unclosed.close().unwrap();
+    assert_eq!(board.lost(), 0);
+    drop(seat);
+    board.close().unwrap();
+}
+
 /// Cuts the file as no program may while it is open, and has the switchboard see it.
 fn lose(scratch: &Scratch, board: &Switchboard) {
     fs::File::options().write(true).open(scratch.path()).unwrap().set_len(0).unwrap();

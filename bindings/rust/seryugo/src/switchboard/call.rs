@@ -5,28 +5,28 @@ use crate::message::carries::MessageKind;
 use crate::raw::{code, Handle};
 
 /// What a call under the lock returns.
-pub(crate) trait Answer {
+pub(crate) trait Outcome {
     /// The answer of a call that wasn't made or isn't kept, by this code.
     fn refused(code: u32) -> Self;
 }
 
-impl Answer for () {
+impl Outcome for () {
     fn refused(_: u32) {}
 }
 
-impl Answer for u32 {
+impl Outcome for u32 {
     fn refused(code: u32) -> u32 {
         code
     }
 }
 
-impl<T> Answer for Result<T, Error> {
+impl<T> Outcome for Result<T, Error> {
     fn refused(code: u32) -> Result<T, Error> {
         Err(Error::of_code(code))
     }
 }
 
-impl<A: Answer, B: Default> Answer for (A, B) {
+impl<A: Outcome, B: Default> Outcome for (A, B) {
     fn refused(code: u32) -> (A, B) {
         (A::refused(code), B::default())
     }

@@ -6,7 +6,7 @@ use crate::park::backoff;
 use crate::park::parker::{Parker, Woken};
 use crate::park::yields::pass_by_yielding;
 use crate::raw::{code, Handle};
-use crate::switchboard::call::{Answer, Ask};
+use crate::switchboard::call::{Ask, Outcome};
 use crate::switchboard::lock::Guard;
 use crate::switchboard::state::State;
 use crate::switchboard::Switchboard;
@@ -26,7 +26,7 @@ impl<R: MessageKind> Switchboard<R> {
     /// Makes a call under the lock, unlocks the room, and then wakes the next seat that is due. If
     /// the call is that of a seat, `by` is the seat's parker.
     #[inline]
-    pub(crate) fn change<T: Answer>(
+    pub(crate) fn change<T: Outcome>(
         &self,
         by: Option<&Parker>,
         call: impl FnOnce(&mut State<R>) -> T,
@@ -79,7 +79,7 @@ impl<R: MessageKind> Switchboard<R> {
     /// the call's entries. If it hasn't, this refuses the call, and the seat of this number waits no
     /// longer.
     #[cold]
-    fn keep_call<T: Answer>(
+    fn keep_call<T: Outcome>(
         &self,
         mut state: Guard<'_, State<R>>,
         by: Option<&Parker>,

@@ -90,8 +90,12 @@ impl<R: MessageKind> State<R> {
         Ok(())
     }
 
-    /// Closes a lane that has ended, once all of its messages have moved.
+    /// Closes a lane that has ended, once all of its messages have moved. It may be closed already,
+    /// if a file had no room for its messages.
     pub fn close_lane(&mut self, number: u64, lane: &mut Handle) -> Result<(), Error> {
+        if !self.lanes.contains_key(&number) {
+            return Ok(());
+        }
         self.drain_all(number)?;
         done(raw::seryugo_lane_close(&mut self.handle, lane))?;
         self.lanes.remove(&number);
@@ -101,6 +105,9 @@ impl<R: MessageKind> State<R> {
     /// Moves what it can of an open lane on which this many messages were sent, and closes the lane:
     /// how many are lost.
     pub fn end_lane(&mut self, lane: u64, sent: u64) -> u64 {
+        if !self.lanes.contains_key(&lane) {
+            return 0;
+        }
         // A lane may end as its thread panics, so that no panic of a sink may leave this: the sink
         // has failed.
         let drained = panic::catch_unwind(AssertUnwindSafe(|| self.drain_all(lane)));

@@ -10,7 +10,7 @@ use crate::message::kind::{Kind, Misfit, Missing};
 use crate::park::parker::Parker;
 use crate::raw::{self, code, done, written, File, Handle, Reader, Taking};
 use crate::request::answers::Answers;
-use crate::switchboard::call::{Answer, Ask, Line};
+use crate::switchboard::call::{Ask, Line, Outcome};
 use crate::switchboard::expected::Expected;
 use crate::switchboard::moving::OpenLane;
 use std::collections::BTreeMap;
@@ -283,7 +283,7 @@ impl<R: MessageKind> State<R> {
 
     /// Makes a call that has an entry in the journal, if it is accepted.
     #[inline]
-    pub fn enter<T: Answer>(&mut self, line: Line, call: impl FnOnce(&mut Handle) -> T) -> T {
+    pub fn enter<T: Outcome>(&mut self, line: Line, call: impl FnOnce(&mut Handle) -> T) -> T {
         match self.makes_room(line) {
             Ok(()) => call(&mut self.handle),
             Err(code) => T::refused(code),
