@@ -84,8 +84,9 @@ fn in_a_file(path: &Path) -> Ended {
     let letters = seat.mailbox_again::<String>(0)?;
     let runs = seat.mvar_again::<u64>(1)?;
     seat.send(letters, "Dear Ben")?;
-    let before = seat.take_poll(runs)?.unwrap_or_default();
-    seat.put(runs, before + 1)?;
+    seat.put(runs, 0)?;
+    let before = seat.get(runs)?;
+    seat.swap(runs, before + 1)?;
     board.sync()?;
     Ok(())
 }

@@ -302,8 +302,9 @@ impl Switchboard<Numbers> {
     /// let board = seryugo::Switchboard::open_numbers(&path)?;
     /// let mut seat = board.seat()?;
     /// let sum = seat.mvar_again(0)?;
-    /// let before = seat.take_poll(sum)?.unwrap_or_default();
-    /// seat.put(sum, before + 1)?;
+    /// seat.put(sum, 0)?; // It does nothing to a full variable.
+    /// let before = seat.get(sum)?;
+    /// seat.swap(sum, before + 1)?;
     /// # drop(seat);
     /// # drop(board);
     /// # std::fs::remove_file(&path).unwrap();
