@@ -221,7 +221,8 @@ static void try_faults(void)
 {
     HAS_FAULT(SHORT, "journal 1\nseat\n");
     HAS_FAULT(UNKNOWN_WORD, "journal 1\nseat 0 listen: done\n");
-    HAS_FAULT(BAD_NUMBER, "journal 1\nseat 0 send 0 05: done\n");
+    HAS_FAULT(BAD_NUMBER, "journal 1\nseat 0 send 00 5: done\n");
+    HAS_FAULT(BAD_MESSAGE, "journal 1\nseat 0 send 0 05: done\n");
     HAS_FAULT(WRONG_REPLY, "journal 1\nseat 0 send 0 5: none\n");
     HAS_FAULT(BAD_BYTES, "journal 1\nseat 0\t\n");
     HAS_FAULT(NO_HEADER, "{}\n");
