@@ -46,8 +46,10 @@ build() {
 }
 
 # apart ARCHIVE: what a send and a receive go through, as far as it isn't part of the exports. An export knows which call it makes. A
-# function that it calls takes that call out of memory, and looks at its kind again.
-apart() { nm "$1" 2> /dev/null | grep -E '::(call_turn|Room::call|perform|take_first|put|receive)(::<|$)'; }
+# function that it calls takes that call out of memory, and looks at its kind again. A line of an entry is put too, after the call.
+apart() {
+    nm "$1" 2> /dev/null | grep -v '::putting::' | grep -E '::(call_turn|Room::call|perform|take_first|put|receive)(::<|$)'
+}
 
 names=$(sed -n 's/^\([a-z_]*\) staticlib:.*/\1/p' crates.txt)
 for name in $names; do
