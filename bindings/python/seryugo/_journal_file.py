@@ -39,7 +39,7 @@ os.register_at_fork(after_in_child=_after_fork)
 class Recovered(NamedTuple):
     """What opening a journal's file found.
 
-    It read this many `entries` and `lines`, and kept the first `kept` bytes. Behind them it cut
+    It read this many `entries` and `lines`, and kept the first `kept` bytes. After these it cut
     off `cut_off` bytes, such as a line whose call never returned, and zeros. If these were more
     than a line has, the file of the path `saved` has them. `is_new`: there was no file.
     """
@@ -62,11 +62,11 @@ class FileKeeper(Keeper):
         self._handle = room.handle
         self._room_lock = room.lock
         self._at = c_void_p()
-        # Whoever takes the file out of this closes it.
+        # The thread that takes the file out of this closes it.
         self._unclosed = {"file": self._at}
         # Set under the room's lock: then no call uses the file.
         self._is_closed = False
-        # Held by whoever syncs or closes the file. Only then the room's lock may be taken.
+        # A thread that syncs or closes the file holds this. Only then the room's lock may be taken.
         self._lock = new_lock()
         # How many syncs have begun, and the last of them that went well.
         self._begun = self._synced = 0

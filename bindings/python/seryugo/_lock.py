@@ -31,7 +31,7 @@ def is_collector() -> bool:
 
 
 class Refusing:
-    """A lock that nobody gets: whoever would take it gets this error."""
+    """A lock that no thread gets: to take it fails with this error."""
 
     def __init__(self, error: Type[Exception]) -> None:
         self._error = error

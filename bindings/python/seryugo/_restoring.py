@@ -54,7 +54,7 @@ class Lines:
         self._is_over = False
 
     def note(self, part: bytes) -> bool:
-        """Note the next part. Return whether all bytes behind a byte 0 are zeros too."""
+        """Note the next part. Return whether all bytes after a byte 0 are zeros too."""
         zero = 0 if self._is_over else part.find(b"\0")
         stop = zero if zero >= 0 else len(part)
         if not self._is_over:

@@ -143,7 +143,7 @@ impl Drop for Scratch {
     }
 }
 
-/// Runs one ignored test of the same file in a process of its own, which a shell prepares.
+/// Runs one ignored test of the same file in another process, which a shell prepares.
 pub fn run_apart(test: &str, prepare: &str, path: &Path) -> Output {
     let this = std::env::current_exe().unwrap();
     let run = format!("{prepare} exec '{}' --ignored --exact --nocapture {test}", this.display());
