@@ -1,4 +1,4 @@
--- A store, its file, and whoever looks on: every schedule of calls, failures, kills and losses of power.
+-- A store, its file, and a reader: every schedule of calls, failures, kills and losses of power.
 use Rattle.std.specs.Prelude.{◌≡◌, ℕ, ◌+◌, ◌≤◌, Bool, true, false, if◌then◌else◌, List, [], ◌∷◌, ◌++◌, length, take}
 use Rattle.cml_store.specs.declared.stage.Stage.{Stage}
 use Rattle.cml_store.specs.declared.step.Step.{Step}
@@ -16,9 +16,9 @@ pub record World : Type 0 where
   pub stored : ℕ
   pub synced : ℕ
 
--- What may happen next. As a step ends, whoever reads the file gets `seen`, and the next good sync would leave `next`. The system may
+-- What may happen next. As a step ends, a reader of the file gets `seen`, and the next good sync would leave `next`. The system may
 -- fail to write, and forget; whether it has is known only from a sync. The process may be killed, or power lost, and the file is
--- opened: whoever opens it reads `c`.
+-- opened: its opener reads `c`.
 pub data Event : Type 0 where
   Accepts : (piece : List ℕ) → Event
   BeginsStore : (closing : Bool) → Event
@@ -193,7 +193,7 @@ module _ (whole front : List ℕ → Bool) (limit growth : ℕ) where
   abbrev pub opened : List ℕ → State
   opened c = if front (printed c) then opened_at limit (length (recovered whole c)) (length c) else refused
 
-  -- whoever opens a file after a kill need not hear that the system has failed to write
+  -- a process that opens a file after a kill need not hear that the system has failed to write
   abbrev pub after : World → Event → World
   after w (Accepts piece) = accepts_at (is_open w.store.stage) piece w
   after w (BeginsStore closing) = begins_store w.store.stage closing growth w
@@ -210,7 +210,7 @@ module _ (whole front : List ℕ → Bool) (limit growth : ℕ) where
         stored = w.synced;
       }
 
-  -- a kill may leave this for whoever reads the file: what the system has, with the step under way in part
+  -- a kill may leave this for a reader of the file: what the system has, with the step under way in part
   abbrev pub MayRead : World → List ℕ → Type 0
   MayRead w c = LeftOf w.disk.seen (calls_of w.text (storing_of w.store)) c
 

@@ -166,8 +166,8 @@ impl Store {
         Step::Nothing
     }
 
-    /// Begins to grow an open file to this length, if it is shorter and no step on its bytes is under way. So there is room before
-    /// bytes are accepted, as whoever stores into mapped memory needs it.
+    /// Begins to grow an open file to this length, if it is shorter and no step on its bytes is under way. Mapped memory needs this
+    /// room before bytes are accepted.
     pub fn begin_growth(&mut self, to: u64) -> Step
         ensures state { self.new ≡ growth_begun to self.old }
         ensures step { result ≡ growth_asked to self.old }
