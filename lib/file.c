@@ -14,6 +14,9 @@
 #define CUT_ENTRIES 256
 #define CUT_BYTES 65536
 
+/* So many bytes after the last line are fetched for the next ones. */
+#define AHEAD 256
+
 /* Lines of a call have no more bytes than this in a room of numbers, even if it drains a full lane. */
 #define NUMBERS_MARGIN ((uint64_t)128 << 10)
 #define BYTES_MARGIN ((uint64_t)SERYUGO_LINE_MOST + 65536)
@@ -227,6 +230,8 @@ static uint32_t store_lines(struct seryugo_file *file, const struct seryugo *roo
 
     size = file->is_mapped || size < file->margin ? size : (size_t)file->margin;
     code = seryugo_entries_text(room, file->next, to, size, &count, &length);
+    /* The next lines' memory was last written by the helper's processor. */
+    __builtin_prefetch(to + length + AHEAD, 1);
     if (!file->is_mapped && (code == SERYUGO_DONE || code == SERYUGO_FULL) && write_lines(file, length) != SERYUGO_DONE) {
         return SERYUGO_FILE_LOST;
     }

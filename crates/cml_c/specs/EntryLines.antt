@@ -3,7 +3,7 @@ use Rattle.std.specs.Prelude.{ℕ, ◌≡◌, ◌+◌, ◌-◌, ◌<◌, ◌≤�
 use Rattle.std.specs.Fmt.{decimal}
 use Rattle.std.specs.List.{flat_map}
 use Rattle.cml_board.specs.{Entry, entries_in}
-use Rattle.cml_journal.specs.{AreShort, IsShort, bytes_text, line_of, text_of, with_line_end}
+use Rattle.cml_journal.specs.{AreShort, bytes_text, line_of, with_line_end}
 use Rattle.cml_journal.specs.Feeding.{most}
 use Rattle.cml_room.specs.{RoomShown}
 use Rattle.cml_c.specs.declared.code.Code.{Code}
@@ -18,10 +18,11 @@ use Rattle.cml_c.specs.Codes.{number}
 use Rattle.cml_c.specs.Entries.{IsJournal}
 use Rattle.cml_c.specs.Handles.{OnRoom}
 
--- A text is written so that it ends at this place, and begins at that one. What is after it stays; or it had no room.
-abbrev pub MayPut : List ℕ → ℕ → List ℕ → List ℕ → Option ℕ → Type 0
-MayPut text end old new (Some start) = (start ≤ end) × (drop start new ≡ text ++ drop end old)
-MayPut text end old new None = ⊤
+-- A text lies at a place of the buffer, and ends at that one. What is before and after it stays.
+pub record Puts (text : List ℕ) (at : ℕ) (old new : List ℕ) (end : ℕ) : Type 0 where
+  pub long : end ≡ at + length text
+  pub within : end ≤ length old
+  pub written : new ≡ take at old ++ text ++ drop end old
 
 -- why a line isn't added after so many bytes of a buffer of this size: it doesn't fit, or no reading takes it
 abbrev pub IsRefused : List ℕ → (at size : ℕ) → Stop → Type 0

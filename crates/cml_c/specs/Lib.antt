@@ -49,7 +49,7 @@ pub use Readers.{written_found, written_held}
 pub use Entries.{Finds, FindsAt, FindsBytes, FindsBytesAt, FindsBytesIn, FindsIn, IsAt, entry_sources}
 pub use Entries.{IsShown, call_kind, call_object, call_of, count_of, flat, given_by}
 pub use Entries.{maker_of, or_zero, reply_kind, reply_message, reply_name, reply_of}
-pub use EntryLines.{AddsLines, IsRefused, IsStopped, MayPut, WritesLines, WritesLinesOf, lines_of, told_stop, whole_line}
+pub use EntryLines.{AddsLines, IsRefused, IsStopped, Puts, WritesLines, WritesLinesOf, lines_of, told_stop, whole_line}
 pub use Journals.{CutsBy, CutsOpen, TakesBy, TakesJournal, TakesJournalOpen, TakesOn, takings}
 pub use Checkers.{FeedsEntry, FeedsFrom, FeedsIn, FeedsJournal, FeedsParts, FeedsTaken, TellsVerdict, call_at, entry_in, entry_of}
 pub use Checkers.{entry_with, or_empty, parts_of, replies, told_verdict, who_in}

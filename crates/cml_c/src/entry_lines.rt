@@ -3,21 +3,18 @@ ghost use Rattle.std.specs.Prelude.{◌≡◌, ◌≤◌, ◌+◌, ◌++◌, len
 ghost use Rattle.std.specs.Fmt.{decimal};
 ghost use Rattle.cml_journal.specs.{IsShort, bytes_text};
 ghost use Rattle.cml_journal.specs.Feeding.{most};
-ghost use Rattle.cml_c.specs.{AddsLines, IsRefused, IsStopped, MayPut, WritesLines, WritesLinesOf, number, told_stop, whole_line};
+ghost use Rattle.cml_c.specs.{AddsLines, IsRefused, IsStopped, WritesLines, WritesLinesOf, number, told_stop, whole_line};
 
 use crate::code::Code;
 use crate::handle::Handle;
 use crate::owned::{Owned, Resource, RoomOf};
-use crate::putting::{Put, put_byte, put_entry};
-use cml_board::{Entry, Reply};
+use crate::putting::{Put, most_of, put_line};
+use cml_board::Entry;
 use cml_journal::write_entry;
 use std::alloc::{AllocError, Global};
 
 /// No reading takes a line of more bytes, without its line end.
 const MOST: usize = 1_114_112;
-
-/// A line has no more bytes than this and than its messages.
-const BARE: usize = 128;
 
 /// Why no more lines were added.
 #[derive(Clone, Copy)]
@@ -63,26 +60,10 @@ pub extern "C" fn seryugo_entries_text(
 {
     match room.as_mut() {
         Owned::Numbers(Resource::Room(room)) => {
-            write_lines(
-                alloc,
-                &mut [0; BARE],
-                &mut room.room,
-                from,
-                buffer,
-                count,
-                size,
-            )
+            write_lines(alloc, &mut room.room, from, buffer, count, size)
         }
         Owned::Bytes(Resource::Room(room)) => {
-            write_lines(
-                alloc,
-                &mut [0; 1_024],
-                &mut room.room,
-                from,
-                buffer,
-                count,
-                size,
-            )
+            write_lines(alloc, &mut room.room, from, buffer, count, size)
         }
         _ => Code::WrongHandle.number(),
     }
@@ -90,7 +71,6 @@ pub extern "C" fn seryugo_entries_text(
 
 fn write_lines<M: Put>(
     alloc: Global,
-    scratch: &mut [u8],
     room: &mut RoomOf<M>,
     from: u64,
     buffer: &mut [u8],
@@ -105,7 +85,7 @@ fn write_lines<M: Put>(
         *size = 0;
         return Code::NoSuch.number();
     };
-    let added = add_lines(alloc, scratch, entries_from(board.journal(), place), buffer);
+    let added = add_lines(alloc, entries_from(board.journal(), place), buffer);
     *count = added.count as u64;
     *size = added.length as u64;
     code_of_stop(added.stop).number()
@@ -130,18 +110,13 @@ fn code_of_stop(stop: Option<Stop>) -> Code
 }
 
 /// Adds the lines of entries, as many as fit.
-fn add_lines<M: Put>(
-    alloc: Global,
-    scratch: &mut [u8],
-    entries: &[Entry<M>],
-    buffer: &mut [u8],
-) -> Added
+fn add_lines<M: Put>(alloc: Global, entries: &[Entry<M>], buffer: &mut [u8]) -> Added
     ensures { AddsLines M.text entries.now buffer.old buffer.new result }
 {
     let mut count = 0;
     let mut length = 0;
     for entry in entries {
-        match add_line(alloc, scratch, entry, buffer, length) {
+        match add_line(alloc, entry, buffer, length) {
             Ok(end) => length = end,
             Err(stop) => {
                 return Added {
@@ -160,10 +135,9 @@ fn add_lines<M: Put>(
     }
 }
 
-/// Adds an entry's line after these bytes of the buffer. It is made before, so that a line that doesn't fit leaves nothing.
+/// Adds an entry's line after these bytes of the buffer. A line that may not fit is made apart, so that it leaves nothing there.
 fn add_line<M: Put>(
     alloc: Global,
-    scratch: &mut [u8],
     entry: &Entry<M>,
     buffer: &mut [u8],
     at: usize,
@@ -175,45 +149,15 @@ fn add_line<M: Put>(
     ensures short { OnOk result (IsShort M.text entry.now) }
     ensures stop { IfErr result (IsStopped M.text entry.now at (length buffer.old)) }
 {
-    match put_line(scratch, entry) {
-        Some(start) => copy_line(&scratch[start..], buffer, at),
-        None => add_long_line(alloc, entry, buffer, at),
+    match most_of(entry) {
+        Some(most) if most <= MOST && most <= buffer.len() - at => Ok(put_line(buffer, at, entry)),
+        _ => add_long_line(alloc, entry, buffer, at),
     }
 }
 
-/// Adds a line that is longer than the scratch memory.
+/// Adds a line that may be too long, or may not fit.
+#[inline(never)]
 fn add_long_line<M: Put>(
-    alloc: Global,
-    entry: &Entry<M>,
-    buffer: &mut [u8],
-    at: usize,
-) -> Result<usize, Stop>
-    requires { at ≤ length buffer.old }
-    ensures end { IfOk result (λ end. (end ≡ at + length (whole_line M.text entry.now)) × (end ≤ length buffer.old)) }
-    ensures written { IfOk result (λ end. buffer.new ≡ take at buffer.old ++ whole_line M.text entry.now ++ drop end buffer.old) }
-    ensures same { OnErr result (buffer.new ≡ buffer.old) }
-    ensures short { OnOk result (IsShort M.text entry.now) }
-    ensures stop { IfErr result (IsStopped M.text entry.now at (length buffer.old)) }
-{
-    let mut scratch = Vec::from_elem(alloc, 0, most_of(entry).min(MOST + 1))?;
-    match put_line(&mut scratch, entry) {
-        Some(start) => copy_line(&scratch[start..], buffer, at),
-        None => add_longest_line(alloc, entry, buffer, at),
-    }
-}
-
-/// How many bytes the line has at most.
-fn most_of<M: Put>(entry: &Entry<M>) -> usize {
-    let sent = entry.call.message().map_or(0, |message| message.most());
-    let got = match &entry.reply {
-        Reply::Got(message) => message.most(),
-        _ => 0,
-    };
-    sent.saturating_add(got).saturating_add(BARE)
-}
-
-/// Adds a line that may be too long to be read.
-fn add_longest_line<M: Put>(
     alloc: Global,
     entry: &Entry<M>,
     buffer: &mut [u8],
@@ -230,14 +174,6 @@ fn add_longest_line<M: Put>(
     write_entry(&mut line, entry)?;
     line.push_str("\n")?;
     copy_line(line.as_bytes(), buffer, at)
-}
-
-/// Writes an entry's line at the end of the scratch memory.
-fn put_line<M: Put>(scratch: &mut [u8], entry: &Entry<M>) -> Option<usize>
-    ensures { MayPut (whole_line M.text entry.now) (length scratch.old) scratch.old scratch.new result }
-{
-    let end = put_byte(scratch, scratch.len(), b'\n')?;
-    put_entry(scratch, end, entry)
 }
 
 /// Copies a line after these bytes of the buffer.
