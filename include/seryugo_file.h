@@ -50,9 +50,11 @@ struct seryugo_file_options {
     uint32_t flags;
     /* By how many bytes the file grows. 0 is 4 MiB. Tests use less. */
     uint64_t segment;
+    /* A file that has so many bytes is exchanged for a short one, if it has more than four times the bytes of that. 0 is never. */
+    uint64_t short_from;
 };
 
-/* What opening found. If it failed, the cause. */
+/* What opening found, before it exchanged the file. If it failed, the cause. */
 struct seryugo_file_found {
     /* Entries and lines that were read. A fault is on the line after these, and an unlawful entry is at the position of these. */
     uint64_t entries;
@@ -62,7 +64,9 @@ struct seryugo_file_found {
     uint64_t cut_off;
     /* There was no file. */
     bool is_new;
-    /* The cause as errno, or 0. */
+    /* The file was exchanged for a short one. */
+    bool is_shortened;
+    /* The cause as errno, or 0. If the file was opened: why it wasn't exchanged. */
     int error;
     /* In the same folder, the name of the file that has what was cut off, or nothing. So much is saved only of more than a
      * line's length. */
@@ -76,6 +80,19 @@ struct seryugo_file_found {
  * recovers the room: objects, and what waits in them, are those after the last whole line. `messages` are SERYUGO_NUMBERS or
  * SERYUGO_BYTES, and `limit` is the room's. *found is always written, unless it is null. The room is yours: close the file
  * first, and then the room.
+ *
+ * A file with sums, or with more than one piece without an end, is exchanged for a short one. So is one that has `short_from`
+ * bytes. The new file has what seryugo_compact leaves, without its last line. Objects keep their numbers, and
+ * seats get those that they would have got. Positions, and counts of what was sent and received, begin anew. What was before
+ * goes, with its sums: copy the file first, if you want that.
+ *
+ * - The new file is made beside, as `path` with `.new`. Once it is locked, synced and read again, it gets the name. After a kill
+ *   or a loss of power the name leads to the old file or to the new one, and that is whole. Of a link the target is exchanged.
+ * - The new file has the mode and the owner of the old one. If it can't have them, or the old one has two names or an access
+ *   list, there is no exchange.
+ * - If there is none, the new file is removed, *found says why, and the old one is gone on with, after an end by a new piece.
+ *   Opening fails with SERYUGO_FILE_FAILED if others have exchanged the file, or if the folder isn't synced then.
+ * - A file with `.new` that has other bytes than the new one would get stays, and there is no exchange.
  *
  * These refusals leave the file as it was. SERYUGO_FILE_BUSY, SERYUGO_NO_JOURNAL, SERYUGO_OTHER_VERSION,
  * SERYUGO_OTHER_MESSAGES and SERYUGO_BEGINS_LATER: as they say. SERYUGO_FAULT, SERYUGO_UNLAWFUL: the journal was changed.

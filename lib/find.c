@@ -104,20 +104,27 @@ static uint32_t again(struct seryugo_opening *opening)
     return SERYUGO_NOTHING;
 }
 
-static int open_at(int folder, const char *name, int flags)
+int seryugo_open_at(int folder, const char *name, int flags, mode_t mode)
 {
     int descriptor;
 
     do {
-        descriptor = openat(folder, name, flags | O_RDWR | O_CLOEXEC | O_NOFOLLOW | O_NONBLOCK | O_NOCTTY, 0666);
+        descriptor = openat(folder, name, flags | O_RDWR | O_CLOEXEC | O_NOFOLLOW | O_NONBLOCK | O_NOCTTY, mode);
     } while (descriptor < 0 && errno == EINTR);
     return descriptor;
 }
 
-/* Locks the file, and sees that it still has the name: it may have been exchanged before it was locked. */
-static uint32_t lock(struct seryugo_opening *opening, const char *name)
+bool seryugo_leads_to(const struct seryugo_opening *opening, const char *name, const struct stat *mine)
 {
-    struct stat there, mine;
+    struct stat there;
+
+    return fstatat(opening->folder, name, &there, AT_SYMLINK_NOFOLLOW) == 0 && there.st_ino == mine->st_ino
+           && there.st_dev == mine->st_dev;
+}
+
+uint32_t seryugo_lock_file(struct seryugo_opening *opening, const char *name)
+{
+    struct stat mine;
     int failure;
 
     do {
@@ -130,8 +137,7 @@ static uint32_t lock(struct seryugo_opening *opening, const char *name)
     if (fstat(opening->descriptor, &mine) != 0) {
         return fails(opening, "fstat");
     }
-    if (fstatat(opening->folder, name, &there, AT_SYMLINK_NOFOLLOW) != 0 || there.st_ino != mine.st_ino
-        || there.st_dev != mine.st_dev) {
+    if (!seryugo_leads_to(opening, name, &mine)) {
         return again(opening);
     }
     opening->length = (uint64_t)mine.st_size;
@@ -139,7 +145,7 @@ static uint32_t lock(struct seryugo_opening *opening, const char *name)
 }
 
 /* Opens the file of a name, if it is one. A pipe or a device isn't opened: that alone may do something. */
-static uint32_t open_named(struct seryugo_opening *opening, const char *name)
+uint32_t seryugo_open_named(struct seryugo_opening *opening, const char *name)
 {
     struct stat there;
 
@@ -150,14 +156,14 @@ static uint32_t open_named(struct seryugo_opening *opening, const char *name)
         return seryugo_refuse(opening, SERYUGO_NO_JOURNAL, S_ISDIR(there.st_mode) ? "a folder" : "no ordinary file",
                               S_ISDIR(there.st_mode) ? EISDIR : 0);
     }
-    opening->descriptor = open_at(opening->folder, name, 0);
+    opening->descriptor = seryugo_open_at(opening->folder, name, 0, 0);
     if (opening->descriptor < 0) {
         return errno == ENOENT ? again(opening) : fails(opening, "open the file");
     }
     if (fstat(opening->descriptor, &there) != 0 || !S_ISREG(there.st_mode)) {
         return seryugo_refuse(opening, SERYUGO_NO_JOURNAL, "no ordinary file", 0);
     }
-    return lock(opening, name);
+    return seryugo_lock_file(opening, name);
 }
 
 /* ---- a new file ---- */
@@ -168,7 +174,7 @@ static uint32_t take_leftover(struct seryugo_opening *opening, const char *besid
 {
     char bytes[HEADER_LENGTH + 1];
     size_t length = 0;
-    uint32_t code = open_named(opening, beside);
+    uint32_t code = seryugo_open_named(opening, beside);
 
     if (code != SERYUGO_DONE) {
         return code;
@@ -204,11 +210,11 @@ static uint32_t create(struct seryugo_opening *opening)
     int error;
 
     snprintf(beside, sizeof beside, "%s.new", opening->name);
-    opening->descriptor = open_at(opening->folder, beside, O_CREAT | O_EXCL);
+    opening->descriptor = seryugo_open_at(opening->folder, beside, O_CREAT | O_EXCL, 0666);
     if (opening->descriptor < 0 && errno != EEXIST) {
         return fails(opening, "make a new file");
     }
-    code = opening->descriptor < 0 ? take_leftover(opening, beside) : lock(opening, beside);
+    code = opening->descriptor < 0 ? take_leftover(opening, beside) : seryugo_lock_file(opening, beside);
     if (code != SERYUGO_DONE) {
         return code;
     }
@@ -233,7 +239,7 @@ uint32_t seryugo_find_file(struct seryugo_opening *opening)
 
     for (int tries = 0; tries < 100 && code == SERYUGO_NOTHING; tries++) {
         opening->found->is_new = false;
-        code = open_named(opening, opening->name);
+        code = seryugo_open_named(opening, opening->name);
         if (code == SERYUGO_NOTHING) {
             code = create(opening);
         }

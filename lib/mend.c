@@ -1,4 +1,4 @@
-/* A journal's file, part 5: a file that was judged is gone on with, by the steps of the machine. */
+/* A journal's file, part 6: a file that was judged is gone on with, by the steps of the machine. */
 #ifndef _GNU_SOURCE
 #define _GNU_SOURCE
 #endif
@@ -11,7 +11,7 @@
  * step reaches so far. */
 static int write_again(struct seryugo_opening *opening, const struct seryugo_step *step)
 {
-    uint64_t kept = opening->found->kept;
+    uint64_t kept = opening->kept;
     size_t length = 0;
 
     for (uint64_t at = step->from; at < kept; at += length) {
@@ -43,7 +43,7 @@ static int do_step(struct seryugo_opening *opening, const struct seryugo_step *s
         } while (failure != 0 && errno == EINTR);
         break;
     case SERYUGO_STEP_GROW:
-        failure = seryugo_allocate(opening->descriptor, opening->found->kept, step->to);
+        failure = seryugo_allocate(opening->descriptor, opening->kept, step->to);
         /* Where room can't be had ahead, pwrite(2) makes it. */
         return failure == EOPNOTSUPP || failure == ENOSYS ? 0 : failure;
     case SERYUGO_STEP_STORE:
@@ -98,7 +98,7 @@ static uint32_t add_more(struct seryugo_opening *opening, struct seryugo *store)
     struct seryugo_step step = {SERYUGO_STEP_NOTHING, 0, 0};
     uint32_t code = SERYUGO_DONE;
 
-    (void)seryugo_store_begin(store, SERYUGO_WORK_ROOM, opening->found->kept + opening->more_length, &step);
+    (void)seryugo_store_begin(store, SERYUGO_WORK_ROOM, opening->kept + opening->more_length, &step);
     if (step.kind != SERYUGO_STEP_NOTHING) {
         code = do_as_asked(opening, store, &step, false);
     }
@@ -111,7 +111,7 @@ static uint32_t add_more(struct seryugo_opening *opening, struct seryugo *store)
 /* Cuts, writes again, syncs, and syncs the folder. Only then the file is open, and lines are added. */
 uint32_t seryugo_mend(struct seryugo_opening *opening, struct seryugo *store)
 {
-    uint32_t code = seryugo_store_open(opening->found->kept, opening->length, store);
+    uint32_t code = seryugo_store_open(opening->kept, opening->length, store);
 
     if (code != SERYUGO_DONE) {
         return seryugo_refuse(opening, code, "no memory", 0);

@@ -89,11 +89,11 @@ static uint32_t read_text(struct seryugo_opening *opening)
 }
 
 /* Where the last byte other than 0 is, plus one. */
-static uint32_t find_end(struct seryugo_opening *opening, uint64_t *end)
+static uint32_t find_end(struct seryugo_opening *opening)
 {
     size_t length = 0;
 
-    *end = opening->text;
+    opening->end = opening->text;
     for (uint64_t at = opening->text; at < opening->length; at += length) {
         int error = seryugo_read_at(opening->descriptor, opening->chunk, SERYUGO_CHUNK, at, &length);
 
@@ -102,7 +102,7 @@ static uint32_t find_end(struct seryugo_opening *opening, uint64_t *end)
         }
         for (size_t i = length; i > 0; i--) {
             if (opening->chunk[i - 1] != 0) {
-                *end = at + i;
+                opening->end = at + i;
                 break;
             }
         }
@@ -112,9 +112,9 @@ static uint32_t find_end(struct seryugo_opening *opening, uint64_t *end)
 
 /* A file of zeros alone is no journal. A new one has its header on the disk before it has its name. An empty file may become
  * one, and so may what a crash left of the header in it. */
-static bool is_blank(const struct seryugo_opening *opening, uint64_t end)
+static bool is_blank(const struct seryugo_opening *opening)
 {
-    return opening->text == 0 && (end != 0 || opening->length > HEADER_LENGTH);
+    return opening->text == 0 && (opening->end != 0 || opening->length > HEADER_LENGTH);
 }
 
 /* ---- what follows ---- */
@@ -137,9 +137,8 @@ static int last_line(struct seryugo_opening *opening, char *line, size_t size)
     return error;
 }
 
-/* What is written behind the kept text. An open piece is gone on with as it is, and what has an end by a new piece of the same
- * version: so nothing of the past is lost, or copied. A sealed piece names the sum of the one before, which that one's last
- * line has. */
+/* What is written behind the kept text, if the file isn't exchanged. An open piece is gone on with as it is, and what has an end by
+ * a new piece of the same version. A sealed piece names the sum of the one before, which that one's last line has. */
 static uint32_t prepare_more(struct seryugo_opening *opening)
 {
     struct seryugo_file_found *found = opening->found;
@@ -152,6 +151,10 @@ static uint32_t prepare_more(struct seryugo_opening *opening)
     if (error != 0) {
         return seryugo_fail(opening, "read the file", error);
     }
+    if (header[HEADER_LENGTH - 1] == '\n') {
+        /* Only headers and ends are lines and no entries. */
+        opening->is_old = strcmp(header, seryugo_header(opening->messages)) != 0 || found->lines > found->entries + 1;
+    }
     if (found->kept == 0) {
         found->kept = header[HEADER_LENGTH - 1] == '\n' ? HEADER_LENGTH : 0;
         strcpy(opening->more, found->kept == 0 ? seryugo_header(opening->messages) : "");
@@ -163,6 +166,8 @@ static uint32_t prepare_more(struct seryugo_opening *opening)
         }
     }
     opening->more_length = strlen(opening->more);
+    opening->kept = found->kept;
+    opening->next = found->entries;
     return SERYUGO_DONE;
 }
 
@@ -186,7 +191,7 @@ static int copy_to(struct seryugo_opening *opening, int other, uint64_t from, ui
 }
 
 /* Saves what is cut off in a file that didn't exist, on the disk before the cut. */
-static uint32_t save(struct seryugo_opening *opening, uint64_t end)
+static uint32_t save(struct seryugo_opening *opening)
 {
     struct seryugo_file_found *found = opening->found;
     int other = -1, error;
@@ -202,7 +207,7 @@ static uint32_t save(struct seryugo_opening *opening, uint64_t end)
             break;
         }
     }
-    error = other < 0 ? errno : copy_to(opening, other, found->kept, end);
+    error = other < 0 ? errno : copy_to(opening, other, found->kept, opening->end);
     if (error == 0 && fstat(opening->descriptor, &mine) == 0) {
         (void)fchmod(other, mine.st_mode & 07777);
     }
@@ -232,8 +237,7 @@ static bool may_be_mapped(const struct seryugo_opening *opening, const struct se
     return (uint64_t)system.f_type == EXT4_MAGIC || (uint64_t)system.f_type == XFS_MAGIC;
 }
 
-/* Reads and judges the text, and makes a room of it. The file is as it was. */
-static uint32_t restore(struct seryugo_opening *opening, uint64_t *end)
+uint32_t seryugo_judge(struct seryugo_opening *opening)
 {
     uint32_t code;
 
@@ -245,13 +249,13 @@ static uint32_t restore(struct seryugo_opening *opening, uint64_t *end)
     opening->has_reading = true;
     code = read_text(opening);
     if (code == SERYUGO_DONE) {
-        code = find_end(opening, end);
+        code = find_end(opening);
     }
     if (code != SERYUGO_DONE) {
         return code;
     }
     code = seryugo_reading_end(&opening->reading);
-    if (is_blank(opening, *end) || (code != SERYUGO_DONE && code != SERYUGO_TEXT_OPEN && code != SERYUGO_TORN)) {
+    if (is_blank(opening) || (code != SERYUGO_DONE && code != SERYUGO_TEXT_OPEN && code != SERYUGO_TORN)) {
         return refuse_text(opening, SERYUGO_NO_JOURNAL);
     }
     count(opening);
@@ -279,7 +283,7 @@ static uint32_t start(struct seryugo_opening *opening, const struct seryugo_file
     made->store = *store;
     made->stored = seryugo_mark_of(store, SERYUGO_MARK_STORED);
     made->bound = made->stored;
-    made->next = opening->found->entries;
+    made->next = opening->next;
     made->cut_next = made->next;
     made->cut_stored = made->stored;
     made->segment = (segment + SERYUGO_PAGE - 1) / SERYUGO_PAGE * SERYUGO_PAGE;
@@ -300,22 +304,25 @@ static uint32_t start(struct seryugo_opening *opening, const struct seryugo_file
 
 static uint32_t open_all(struct seryugo_opening *opening, const struct seryugo_file_options *options, struct seryugo_file **file)
 {
+    struct seryugo_file_found *found = opening->found;
     struct seryugo store;
-    uint64_t end = 0;
     uint32_t code = seryugo_find_folder(opening);
 
     if (code == SERYUGO_DONE) {
         code = seryugo_find_file(opening);
     }
     if (code == SERYUGO_DONE) {
-        code = restore(opening, &end);
+        code = seryugo_judge(opening);
     }
     if (code != SERYUGO_DONE) {
         return code;
     }
-    opening->found->cut_off = end < opening->found->kept ? 0 : end - opening->found->kept;
-    if (opening->found->cut_off > SERYUGO_LINE_MOST) {
-        code = save(opening, end);
+    found->cut_off = opening->end < found->kept ? 0 : opening->end - found->kept;
+    if (found->cut_off > SERYUGO_LINE_MOST) {
+        code = save(opening);
+    }
+    if (code == SERYUGO_DONE) {
+        code = seryugo_shorten_file(opening, options->short_from);
     }
     if (code == SERYUGO_DONE) {
         code = seryugo_mend(opening, &store);
@@ -323,8 +330,7 @@ static uint32_t open_all(struct seryugo_opening *opening, const struct seryugo_f
     return code == SERYUGO_DONE ? start(opening, options, &store, file) : code;
 }
 
-/* Frees what an opening has. What it gave away it doesn't have any more. */
-static void free_opening(struct seryugo_opening *opening)
+void seryugo_free_opening(struct seryugo_opening *opening)
 {
     if (opening->has_reading) {
         seryugo_close(opening->reading);
@@ -344,7 +350,7 @@ static void free_opening(struct seryugo_opening *opening)
 uint32_t seryugo_file_open(const char *path, uint32_t messages, uint64_t limit, const struct seryugo_file_options *options,
                            struct seryugo *room, struct seryugo_file_found *found, struct seryugo_file **file)
 {
-    static const struct seryugo_file_options each_second = {1000, 0, 0};
+    static const struct seryugo_file_options each_second = {.sync_milliseconds = 1000};
     struct seryugo_file_found unwanted;
     struct seryugo_opening opening;
     int state = 0;
@@ -368,7 +374,7 @@ uint32_t seryugo_file_open(const char *path, uint32_t messages, uint64_t limit, 
         opening.has_room = false;
         opening.descriptor = -1;
     }
-    free_opening(&opening);
+    seryugo_free_opening(&opening);
     pthread_setcancelstate(state, &state);
     return code;
 }

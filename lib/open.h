@@ -1,8 +1,11 @@
-/* What the parts of an opening share: find.c finds or makes the file, open.c reads it, mend.c goes on with it. */
+/* What the parts of an opening share: find.c finds or makes the file, open.c reads it, shorten.c may exchange it, and mend.c goes
+ * on with it. */
 #ifndef SERYUGO_LIB_OPEN_H
 #define SERYUGO_LIB_OPEN_H
 
 #include "file.h"
+
+#include <sys/stat.h>
 
 /* So many bytes are read at once. */
 #define SERYUGO_CHUNK ((size_t)256 << 10)
@@ -17,9 +20,15 @@ struct seryugo_opening {
     int folder;
     int descriptor;
     char name[256];
-    /* How many bytes the file has, and its text up to the first byte 0. */
+    /* How many bytes the file has, how many up to its first byte 0, and how many up to its last other byte. */
     uint64_t length;
     uint64_t text;
+    uint64_t end;
+    /* How many bytes are kept, and the position of the next entry. */
+    uint64_t kept;
+    uint64_t next;
+    /* The text isn't one piece without an end, of the version of new files. */
+    bool is_old;
     /* What is read, and then the room that was made of it. */
     struct seryugo reading;
     bool has_reading;
@@ -37,6 +46,16 @@ SERYUGO_HIDDEN uint32_t seryugo_refuse(struct seryugo_opening *opening, uint32_t
 /* The same of a call that the system refused. */
 SERYUGO_HIDDEN uint32_t seryugo_fail(struct seryugo_opening *opening, const char *words, int error);
 
+/* Reads and judges the file, and makes a room of it. The file is as it was. */
+SERYUGO_HIDDEN uint32_t seryugo_judge(struct seryugo_opening *opening);
+
+/* Exchanges the file for a short one, if it is old, or if it has `short_from` bytes and that makes it much shorter. If that
+ * can't be done, *found says why, and the opening is as it was. It fails only if others have exchanged the file. */
+SERYUGO_HIDDEN uint32_t seryugo_shorten_file(struct seryugo_opening *opening, uint64_t short_from);
+
+/* Frees what an opening has. What it gave away it doesn't have any more. */
+SERYUGO_HIDDEN void seryugo_free_opening(struct seryugo_opening *opening);
+
 /* Cuts the file, writes it again and syncs it, as the machine says, which it opens. */
 SERYUGO_HIDDEN uint32_t seryugo_mend(struct seryugo_opening *opening, struct seryugo *store);
 
@@ -48,5 +67,17 @@ SERYUGO_HIDDEN uint32_t seryugo_find_folder(struct seryugo_opening *opening);
 
 /* Opens and locks the file, or makes one. */
 SERYUGO_HIDDEN uint32_t seryugo_find_file(struct seryugo_opening *opening);
+
+/* Opens a file of this name in a folder, but follows no link. Returns its descriptor, or -1. */
+SERYUGO_HIDDEN int seryugo_open_at(int folder, const char *name, int flags, mode_t mode);
+
+/* Opens and locks the file of a name. SERYUGO_NOTHING: there is none, or it was exchanged meanwhile. */
+SERYUGO_HIDDEN uint32_t seryugo_open_named(struct seryugo_opening *opening, const char *name);
+
+/* Locks the file, and sees that it still has the name: it may have been exchanged before it was locked. */
+SERYUGO_HIDDEN uint32_t seryugo_lock_file(struct seryugo_opening *opening, const char *name);
+
+/* Whether a name leads to the file of this state. */
+SERYUGO_HIDDEN bool seryugo_leads_to(const struct seryugo_opening *opening, const char *name, const struct stat *mine);
 
 #endif

@@ -1,12 +1,14 @@
-/* Fails, shortens or interrupts calls of the system: a library for LD_PRELOAD. FAULT=CALL:AT:KIND[:all] with a call below,
- * which of its calls is met, from 1, and `fail`, `full`, `short` or `eintr`; with `all`, each later one too, apart from
- * interrupted ones. Only files whose names have "journal" in them are met: write is met as pwrite. */
+/* Fails, shortens or interrupts calls of the system, or kills the program before them: a library for LD_PRELOAD.
+ * FAULT=CALL:AT:KIND[:all] with a call below, which of its calls is met, from 1, and `fail`, `full`, `short`, `eintr` or `kill`; with
+ * `all`, each later one too, apart from interrupted ones. Only files whose names have "journal" in them are met: write is met as
+ * pwrite. */
 #ifndef _GNU_SOURCE
 #define _GNU_SOURCE
 #endif
 #include <dlfcn.h>
 #include <errno.h>
 #include <fcntl.h>
+#include <signal.h>
 #include <stdarg.h>
 #include <stdatomic.h>
 #include <stdio.h>
@@ -66,7 +68,7 @@ static int cause(void)
     return strcmp(kind, "full") == 0 ? ENOSPC : EIO;
 }
 
-/* Says that the fault was met: the script counts these. */
+/* Says that the fault was met: the script counts these. Of a kill the program ends here. */
 static void say(void)
 {
     static const char words[] = "fault met\n";
@@ -74,16 +76,22 @@ static void say(void)
     if (write(STDERR_FILENO, words, sizeof words - 1) < 0) {
         return;
     }
+    if (strcmp(kind, "kill") == 0) {
+        kill(getpid(), SIGKILL);
+    }
 }
 
 #define REAL(type, name, ...) ((type)dlsym(RTLD_NEXT, name))(__VA_ARGS__)
 
 typedef ssize_t writer(int, const void *, size_t, off_t);
 
-/* A short write does a part. A failed one may have done a part, too. */
+/* A short write does a part. A failed one may have done a part, too, and one that was killed. */
 ssize_t pwrite(int descriptor, const void *from, size_t size, off_t at)
 {
     if (is_journal(descriptor) && meets("pwrite")) {
+        if (strcmp(kind, "kill") == 0) {
+            (void)REAL(writer *, "pwrite", descriptor, from, size / 2, at);
+        }
         say();
         if (strcmp(kind, "short") == 0 && size > 1) {
             return REAL(writer *, "pwrite", descriptor, from, size / 2, at);
@@ -97,29 +105,36 @@ ssize_t pwrite(int descriptor, const void *from, size_t size, off_t at)
     return REAL(writer *, "pwrite", descriptor, from, size, at);
 }
 
-/* A sync that fails hasn't synced. */
-#define SYNC(name)                                                    \
-    int name(int descriptor)                                          \
+/* Defines a call that does nothing where it fails: with its name, its types and its parameters. */
+#define FAILING(name, types, parameters, ...)                         \
+    int name parameters                                               \
     {                                                                 \
         if (meets(#name)) {                                           \
             say();                                                    \
             errno = cause();                                          \
             return -1;                                                \
         }                                                             \
-        return REAL(int (*)(int), #name, descriptor);                 \
+        return REAL(int (*) types, #name, __VA_ARGS__);               \
     }
 
-SYNC(fsync)
-SYNC(fdatasync)
+FAILING(fsync, (int), (int descriptor), descriptor)
+FAILING(fdatasync, (int), (int descriptor), descriptor)
+FAILING(ftruncate, (int, off_t), (int descriptor, off_t length), descriptor, length)
+FAILING(fchmod, (int, mode_t), (int descriptor, mode_t mode), descriptor, mode)
+FAILING(flock, (int, int), (int descriptor, int operation), descriptor, operation)
+FAILING(unlinkat, (int, const char *, int), (int folder, const char *name, int flags), folder, name, flags)
+FAILING(renameat, (int, const char *, int, const char *), (int folder, const char *old, int other, const char *name),
+        folder, old, other, name)
 
-int ftruncate(int descriptor, off_t length)
+/* A file that can't be read again. */
+ssize_t pread(int descriptor, void *to, size_t size, off_t at)
 {
-    if (meets("ftruncate")) {
+    if (is_journal(descriptor) && meets("pread")) {
         say();
         errno = cause();
         return -1;
     }
-    return REAL(int (*)(int, off_t), "ftruncate", descriptor, length);
+    return REAL(ssize_t (*)(int, void *, size_t, off_t), "pread", descriptor, to, size, at);
 }
 
 /* A growth that fails may have grown a part. */

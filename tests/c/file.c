@@ -155,18 +155,22 @@ static uint64_t entries_in(size_t length)
     return count;
 }
 
-/* The text ends at each byte in turn, also with zeros and with garbage behind these. */
+/* The text ends at each byte in turn, also with zeros, and with garbage behind these. */
 static void recover_each_place(void)
 {
     char bytes[sizeof whole + 5000];
 
     for (size_t length = 0; length < sizeof whole; length++) {
-        for (int tail = 0; tail < 3; tail++) {
-            size_t all = tail == 0 ? length : length + 4999;
+        for (int tail = 0; tail < 4; tail++) {
+            size_t all = tail == 0 || tail == 3 ? length : length + 4999;
 
             /* Syncs take long, so most places are tried plain. */
-            if (tail != 0 && length % 5 != 1) {
+            if (tail != 0 && tail != 3 && length % 5 != 1) {
                 continue;
+            }
+            /* The last time the file can't be exchanged. */
+            if (tail == 3) {
+                put("torn.new", "precious", 8);
             }
             memset(bytes, 0, sizeof bytes);
             memcpy(bytes, whole, length);
@@ -182,13 +186,14 @@ static void recover_each_place(void)
             if (length % 5 < 2) {
                 go_on("torn", __LINE__);
             }
+            unlink("torn.new");
         }
     }
     unlink("torn");
 }
 
-/* More than a line's length is saved beside. */
-static void save_what_is_cut_off(void)
+/* More than a line's length is saved beside, also if the file is exchanged. */
+static void save_what_is_cut_off(bool is_exchanged)
 {
     size_t length = sizeof whole - 1, far = 1114112 + 10;
 
@@ -197,7 +202,11 @@ static void save_what_is_cut_off(void)
     content[length + far] = 'x';
     put("torn", content, length + far + 5000);
     put("torn.cut-1", "precious", 8);
+    if (!is_exchanged) {
+        put("torn.new", "precious", 8);
+    }
     RETURNS(DONE, open_numbers("torn"));
+    IS(is_exchanged, found.is_shortened);
     IS(far + 1, found.cut_off);
     has_a_clean_end("torn", __LINE__);
     IS(0, (uint64_t)strcmp(found.saved, "torn.cut-2"));
@@ -205,13 +214,14 @@ static void save_what_is_cut_off(void)
     BEGINS("torn.cut-1", "precious");
     IS(far + 1, get("torn.cut-2"));
     HAS(content[far] == 'x' && content[0] == 0 && content[far - 1] == 0);
-    IS(length, get("torn"));
+    HAS(is_exchanged ? get("torn") < length : get("torn") == length);
     unlink("torn");
+    unlink("torn.new");
     unlink("torn.cut-1");
     unlink("torn.cut-2");
 }
 
-/* A journal whose last piece has its end, plain or sealed, and a sealed one that is open. */
+/* A journal whose last piece has its end, plain or sealed, and a sealed one that is open. They can't be exchanged. */
 static void go_on_after_an_end(void)
 {
     static const char plain[] = "journal 1\nseat 0 mailbox: made 0\nend 1\n";
@@ -219,6 +229,7 @@ static void go_on_after_an_end(void)
     static const char sealed[] = "journal 3\nseat 0 mailbox: made 0\nseat 1 send 0 5: done\n"
                                  "end 2 1b2989a040b7f442f39d194b93ae01cb1209205f96808f609e2e7f01432a2f2d\n";
 
+    put("ended.new", "precious", 8);
     put("ended", plain, sizeof plain - 1);
     go_on("ended", __LINE__);
     BEGINS("ended", "journal 1\nseat 0 mailbox: made 0\nend 1\njournal 1\nfrom 1\nseat 1 send 0 77: done\n");
@@ -235,6 +246,8 @@ static void go_on_after_an_end(void)
     put("ended", sealed, 40);
     go_on("ended", __LINE__);
     BEGINS("ended", "journal 3\nseat 0 mailbox: made 0\nseat 1 send 0 77: done\n");
+    BEGINS("ended.new", "precious");
+    unlink("ended.new");
     unlink("ended");
 }
 
@@ -250,7 +263,8 @@ int main(int many, char **words)
     if (many == 2) {
         recover_each_place();
     }
-    save_what_is_cut_off();
+    save_what_is_cut_off(false);
+    save_what_is_cut_off(true);
     go_on_after_an_end();
     unlink("refused");
     rmdir("folder");

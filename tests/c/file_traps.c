@@ -178,7 +178,7 @@ static void keep_lanes(void)
     struct seryugo_switchboard board;
     struct seryugo_seat seat;
     struct seryugo lane;
-    struct seryugo_file_options options = {0, 0, 4096};
+    struct seryugo_file_options options = {.segment = 4096};
     uint64_t number, moved, all = 0;
 
     RETURNS(DONE, seryugo_switchboard_open_file("lanes", SERYUGO_NUMBERS, &options, &found, &board));
@@ -261,7 +261,7 @@ static void keep_long_messages(uint32_t flags)
     static const size_t lengths[] = {0, 1, 7, 8, 9, 78, 79, 5000, 100000, SERYUGO_FILE_MESSAGE_MOST};
     struct seryugo_switchboard board;
     struct seryugo_seat seat;
-    struct seryugo_file_options options = {0, flags, 4096};
+    struct seryugo_file_options options = {.flags = flags, .segment = 4096};
     struct seryugo_bytes message;
     uint64_t variable;
 

@@ -1,4 +1,4 @@
-/* What file.c and file_traps.c share: one room, whose journal is in a file, and files of other kinds. */
+/* What file.c, file_traps.c and shortened.c share: one room, whose journal is in a file, and files of other kinds. */
 #ifndef FILED_H
 #define FILED_H
 
@@ -20,6 +20,7 @@ static struct seryugo room;
 static struct seryugo_file *file;
 static struct seryugo_file_found found;
 static bool has_room;
+static uint64_t short_from;
 static char content[4 << 20];
 
 static void free_all(void)
@@ -89,7 +90,7 @@ static inline void has_a_clean_end(const char *path, int line)
 
 static uint32_t open_as(const char *path, uint32_t messages, uint32_t flags)
 {
-    struct seryugo_file_options options = {0, flags, 4096};
+    struct seryugo_file_options options = {.flags = flags, .segment = 4096, .short_from = short_from};
     uint32_t code = seryugo_file_open(path, messages, 1000, &options, &room, &found, &file);
 
     has_room = code == SERYUGO_DONE;
@@ -124,11 +125,11 @@ static uint64_t new_seat(void)
 /* Opens, sends one message, and closes. */
 static inline void go_on(const char *path, int line)
 {
-    uint64_t seat, name = 0, before = found.entries;
+    uint64_t seat, name = 0, before = 0;
     uint32_t code = open_numbers(path);
 
     returns(code, SERYUGO_DONE, line);
-    before = found.entries;
+    RETURNS(DONE, seryugo_entries(&room, &before));
     seat = new_seat();
     if (seryugo_kind(&room, 0, &name) != SERYUGO_DONE) {
         RETURNS(DONE, seryugo_new_mailbox(&room, seat, &name));

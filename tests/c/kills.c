@@ -121,7 +121,7 @@ static uint32_t work_all(void)
 
 int main(int many, char **words)
 {
-    struct seryugo_file_options options = {20, 0, 0};
+    struct seryugo_file_options options = {.sync_milliseconds = 20};
     struct seryugo_file_found found;
     const char *told;
     uint32_t code;
