@@ -37,11 +37,14 @@ os.register_at_fork(after_in_child=_after_fork)
 
 
 class Recovered(NamedTuple):
-    """What opening a journal's file found.
+    """What opening a journal's file found, before it exchanged the file for a short one.
 
     It read this many `entries` and `lines`, and kept the first `kept` bytes. After these it cut
     off `cut_off` bytes, such as a line whose call never returned, and zeros. If these were more
     than a line has, the file of the path `saved` has them. `is_new`: there was no file.
+
+    `is_shortened`: the file was exchanged for a short one. If it should have been, and wasn't,
+    `not_shortened` says why in words: the old file is gone on with.
     """
 
     entries: int
@@ -50,6 +53,8 @@ class Recovered(NamedTuple):
     cut_off: int
     saved: Optional[str]
     is_new: bool
+    is_shortened: bool
+    not_shortened: Optional[str]
 
 
 class FileKeeper(Keeper):
@@ -90,7 +95,14 @@ class FileKeeper(Keeper):
         if saved:
             saved = os.path.join(os.path.dirname(os.path.realpath(self.path)), saved)
         return Recovered(
-            found.entries, found.lines, found.kept, found.cut_off, saved or None, found.is_new
+            found.entries,
+            found.lines,
+            found.kept,
+            found.cut_off,
+            saved or None,
+            found.is_new,
+            found.is_shortened,
+            found.words.decode(errors="replace") or None,
         )
 
     def made(self, room: Room, call: Callable[..., int], arguments: Tuple[Any, ...]) -> int:

@@ -67,7 +67,12 @@ class Bytes(Structure):
 class FileOptions(Structure):
     """How a journal's file is kept."""
 
-    _fields_ = [("sync_milliseconds", c_uint64), ("flags", c_uint32), ("segment", c_uint64)]
+    _fields_ = [
+        ("sync_milliseconds", c_uint64),
+        ("flags", c_uint32),
+        ("segment", c_uint64),
+        ("short_from", c_uint64),
+    ]
 
 
 class FileFound(Structure):
@@ -79,6 +84,7 @@ class FileFound(Structure):
         ("kept", c_uint64),
         ("cut_off", c_uint64),
         ("is_new", c_bool),
+        ("is_shortened", c_bool),
         ("error", c_int),
         ("saved", c_char * 256),
         ("words", c_char * 256),

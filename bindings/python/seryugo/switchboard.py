@@ -417,7 +417,11 @@ def _bounded(limit: int) -> int:
 
 
 def open(
-    path: Path, limit: int = 65_536, *, sync_every: Optional[float] = 1.0
+    path: Path,
+    limit: int = 65_536,
+    *,
+    sync_every: Optional[float] = 1.0,
+    short_from: int = 0,
 ) -> Switchboard:
     """Open a switchboard whose journal is kept in a file: each call that returned survives a kill.
 
@@ -429,13 +433,27 @@ def open(
     it each `sync_every` seconds. With `None` it is synced by `sync` and `close`, and where 32 MiB
     aren't synced yet. A call waits for the disk only where 64 MiB aren't.
 
+    A file with sums, or with more than one piece without an end, is exchanged for a short one:
+    what is left of it, as `compact` returns. So is a file of `short_from` bytes or more, if that
+    has more than four times the bytes of the short one; with 0 none is. Positions of entries, and
+    counts of what was sent and received, begin anew. If that can't be done, `recovered` says why.
+
     These leave the file as it was: `FileBusy`, `NoJournal`, `OtherVersion`, `OtherMessages`,
     `BeginsLater`, and `Fault` or `Unlawful` if the journal was changed. So does `OutOfBounds`. If
     it fails with `FileFailed` or `NoMemory`, all entries are still there.
 
     A call on it may fail with `FileFull`, `FileLost` or `TooLong`. A child of a fork can make none.
     """
-    return Switchboard._open(path, limit, library.FileOptions(_milliseconds(sync_every), 0, 0))
+    options = library.FileOptions(_milliseconds(sync_every), 0, 0, _length(short_from))
+    return Switchboard._open(path, limit, options)
+
+
+def _length(short_from: int) -> int:
+    """Return from how many bytes on a file is exchanged, as the library takes it."""
+    short_from = operator.index(short_from)
+    if short_from < 0:
+        raise ValueError(f"a file has 0 bytes or more, and not {short_from}")
+    return min(short_from, MOST)
 
 
 def _milliseconds(seconds: Optional[float]) -> int:

@@ -107,22 +107,64 @@ class Opened(InFolder):
             self.assertEqual((ended.stdout, ended.stderr), ("Dear Ben\n", ""))
             self.assertEqual(text_of(self.path).count(b"\n"), entries + 1)
 
-    def test_pieces_are_gone_on_with(self):
-        """Of a text with sums, or without, as older versions wrote into files."""
+    def put_piece(self, is_sealed):
+        """Write a file with sums, or without, as older versions wrote. Return its text."""
+        board = seryugo.Switchboard()
+        with board.seat() as seat:
+            seat.send(seat.mailbox(str), "hello")
+        journal = board.take_journal()
+        text = journal.sealed_text(None)[0] if is_sealed else journal.text()
+        Path(self.path).write_bytes(text)
+        return text
+
+    def test_pieces_become_short(self):
         for is_sealed in False, True:
-            board = seryugo.Switchboard()
-            with board.seat() as seat:
-                seat.send(seat.mailbox(str), "hello")
-            journal = board.take_journal()
-            text = journal.sealed_text(None)[0] if is_sealed else journal.text()
-            Path(self.path).write_bytes(text)
+            text = self.put_piece(is_sealed)
+            with seryugo.open(self.path) as board, board.seat() as seat:
+                found = board.recovered
+                self.assertEqual((found.entries, found.kept), (2, len(text)))
+                self.assertEqual((found.is_shortened, found.not_shortened), (True, None))
+                self.assertEqual(seat.recv(seat.mailbox_again(0, str)), "hello")
+            self.assertTrue(text_of(self.path).startswith(b"journal 2\nseat 0 mailbox: made 0\n"))
+            self.assertEqual(text_of(self.path).count(b"\n"), 4)
+            with seryugo.open(self.path) as board:
+                self.assertFalse(board.recovered.is_shortened)
+                self.assertEqual(board.entries, 3)
+            self.assertEqual(os.listdir(self.folder), ["letters.journal"])
+
+    def test_a_long_file_becomes_short(self):
+        lengths = []
+        for count in range(9):
+            with seryugo.open(self.path, short_from=1_000) as board, board.seat() as seat:
+                letters = seat.mailbox_again(0, int)
+                self.assertEqual(len(letters), count)
+                lengths.append((board.recovered.is_shortened, board.recovered.kept))
+                seat.send(letters, 0)
+                for number in range(10):
+                    seat.send(letters, number)
+                    seat.recv(letters)
+        self.assertEqual([kept >= 1_000 for _, kept in lengths], [was for was, _ in lengths])
+        self.assertGreater(sum(was for was, _ in lengths), 1)
+        self.assertRaises(ValueError, seryugo.open, self.path, short_from=-1)
+        self.assertRaises(TypeError, seryugo.open, self.path, short_from=1.5)
+        with seryugo.open(self.path, short_from=2**70) as board:
+            self.assertFalse(board.recovered.is_shortened)
+
+    def test_pieces_are_gone_on_with(self):
+        """Of a text with sums, or without, if another file keeps it from being exchanged."""
+        precious = self.folder / "letters.journal.new"
+        precious.write_bytes(b"precious")
+        for is_sealed in False, True:
+            text = self.put_piece(is_sealed)
             for entries in 2, 3:
                 with seryugo.open(self.path) as board, board.seat() as seat:
                     self.assertEqual(board.recovered.entries, entries)
+                    self.assertIn("in the way", board.recovered.not_shortened)
                     seat.mailbox_again(entries - 1, int)
             self.assertTrue(text_of(self.path).startswith(text))
             board = seryugo.Switchboard.restore([text_of(self.path)], is_torn_fine=True)
             self.assertEqual((board.entries, board.restored_from.sum is None), (4, not is_sealed))
+        self.assertEqual(precious.read_bytes(), b"precious")
 
     def test_each_call_is_kept_as_it_returns(self):
         board = self.opened()

@@ -159,6 +159,8 @@ pub struct FileOptions {
     pub flags: u32,
     /// By how many bytes the file grows. 0: as the library chooses.
     pub segment: u64,
+    /// From how many bytes on a long file is exchanged for a short one. 0: never.
+    pub short_from: u64,
 }
 
 const WORDS: usize = 256;
@@ -171,6 +173,7 @@ pub struct FileFound {
     pub kept: u64,
     pub cut_off: u64,
     pub is_new: bool,
+    pub is_shortened: bool,
     /// The cause as `errno`, or 0.
     pub errno: c_int,
     saved: [u8; WORDS],
@@ -185,6 +188,7 @@ impl FileFound {
             kept: 0,
             cut_off: 0,
             is_new: false,
+            is_shortened: false,
             errno: 0,
             saved: [0; WORDS],
             words: [0; WORDS],
@@ -196,7 +200,7 @@ impl FileFound {
         before_zero(&self.saved)
     }
 
-    /// The cause in words, or nothing.
+    /// The cause in words, or nothing. Of an open file: why it wasn't exchanged.
     pub fn words(&self) -> String {
         String::from_utf8_lossy(before_zero(&self.words)).into_owned()
     }

@@ -195,6 +195,93 @@ fn a_line_that_a_kill_cut_short_is_cut_off() {
     assert_eq!(scratch.text(), whole);
 }
 
+/// A journal of three objects, as text with sums or without, from a switchboard without a file.
+fn ended(is_sealed: bool) -> Vec<u8> {
+    let board = Switchboard::new(100).unwrap();
+    let mut seat = board.seat().unwrap();
+    let letters = seat.mailbox::<String>().unwrap();
+    let names = seat.channel::<String>().unwrap();
+    let runs = seat.mvar_init(7_u64).unwrap();
+    for letter in ["Dear Ann", "Dear Ben"] {
+        seat.send(letters, letter).unwrap();
+        seat.multicast(names, letter).unwrap();
+        assert_eq!(seat.swap(runs, 7), Ok(7));
+    }
+    assert_eq!(seat.recv(letters).unwrap(), "Dear Ann");
+    drop(seat);
+    let (journal, mut text) = (board.take_journal().unwrap(), Vec::new());
+    if is_sealed {
+        journal.write_sealed_to(None, &mut text).unwrap();
+    } else {
+        journal.write_to(&mut text).unwrap();
+    }
+    text
+}
+
+#[test]
+fn an_old_file_is_exchanged_for_a_short_one() {
+    let scratch = Scratch::new("old");
+    for is_sealed in [false, true] {
+        let text = ended(is_sealed);
+        fs::write(scratch.path(), &text).unwrap();
+        let board = Switchboard::open(scratch.path()).unwrap();
+        let found = board.recovered().unwrap().clone();
+        assert_eq!((found.is_shortened, found.not_shortened), (true, None));
+        assert_eq!((found.entries, found.kept), (10, text.len() as u64));
+        let mut seat = board.seat().unwrap();
+        let letters = seat.mailbox_again::<String>(0).unwrap();
+        let names = seat.channel_again::<String>(1).unwrap();
+        let runs = seat.mvar_again::<u64>(2).unwrap();
+        assert_eq!((board.entries(), board.owed(letters), board.sent(names)), (5, Ok(1), Ok(0)));
+        assert_eq!((seat.recv(letters).unwrap(), seat.get(runs)), ("Dear Ben".to_string(), Ok(7)));
+        drop(seat);
+        board.close().unwrap();
+        assert_eq!(scratch.text().lines().count(), 8);
+        assert!(scratch.text().starts_with("journal 2\nseat 0 mailbox: made 0\n"));
+        assert_eq!(fs::read_dir(&scratch.0).unwrap().count(), 1, "nothing lies beside it");
+    }
+}
+
+#[test]
+fn a_file_that_is_in_the_way_keeps_the_old_one_as_it_is() {
+    let scratch = Scratch::new("way");
+    let text = ended(false);
+    fs::write(scratch.path(), &text).unwrap();
+    fs::write(scratch.0.join("x.journal.new"), "precious").unwrap();
+    let board = Switchboard::open(scratch.path()).unwrap();
+    let found = board.recovered().unwrap();
+    let why = found.not_shortened.as_deref().unwrap();
+    assert!(!found.is_shortened && why.contains("in the way"), "{why}");
+    assert_eq!((found.entries, board.entries()), (10, 10));
+    board.close().unwrap();
+    let after = [&text[..], b"journal 2\nfrom 10\n"].concat();
+    assert_eq!(fs::read(scratch.path()).unwrap(), after);
+    assert_eq!(fs::read(scratch.0.join("x.journal.new")).unwrap(), b"precious");
+}
+
+#[test]
+fn a_program_that_starts_again_and_again_keeps_a_short_file() {
+    let scratch = Scratch::new("short");
+    let options = JournalFile::new().sync_by_hand().short_from(3_000);
+    let (mut shortened, mut waiting) = (0, 0);
+    for _ in 0..20 {
+        let board = options.open(scratch.path()).unwrap();
+        shortened += u32::from(board.recovered().unwrap().is_shortened);
+        let mut seat = board.seat().unwrap();
+        let orders = seat.mailbox_again::<Order>(0).unwrap();
+        assert_eq!(board.owed(orders), Ok(waiting));
+        for number in 0..20 {
+            seat.send(orders, order(number)).unwrap();
+            assert!(number % 20 == 0 || seat.recv(orders).is_ok());
+        }
+        waiting += 1;
+        drop(seat);
+        board.close().unwrap();
+        assert!(fs::metadata(scratch.path()).unwrap().len() < 10_000);
+    }
+    assert!(shortened > 2, "{shortened}");
+}
+
 #[test]
 fn a_file_has_one_switchboard_at_a_time() {
     let scratch = Scratch::new("busy");

@@ -39,6 +39,7 @@ const EINVAL: i32 = 22;
 pub struct JournalFile {
     sync_milliseconds: u64,
     segment: u64,
+    short_from: u64,
 }
 
 impl Default for JournalFile {
@@ -48,7 +49,7 @@ impl Default for JournalFile {
 }
 
 impl JournalFile {
-    /// The defaults: the file is synced each second, and grows by 4 MiB.
+    /// The defaults: the file is synced each second, grows by 4 MiB, and stays as long as it is.
     ///
     /// ```
     /// assert_eq!(seryugo::JournalFile::new(), seryugo::JournalFile::default());
@@ -58,6 +59,7 @@ impl JournalFile {
         JournalFile {
             sync_milliseconds: 1_000,
             segment: 0,
+            short_from: 0,
         }
     }
 
@@ -99,6 +101,34 @@ impl JournalFile {
     #[must_use]
     pub fn grow_by(mut self, bytes: u64) -> JournalFile {
         self.segment = bytes.max(1);
+        self
+    }
+
+    /// Has a file of this many bytes or more exchanged for a short one as it is opened, if it has more
+    /// than four times the bytes of that. So a program that is started again and again keeps a short
+    /// file. [`Switchboard::open`] says what the short one has. 0 is never.
+    ///
+    /// ```
+    /// # fn main() -> Result<(), seryugo::Error> {
+    /// # let path = std::env::temp_dir().join(format!("seryugo-doc-{}.short", std::process::id()));
+    /// let options = seryugo::JournalFile::new().short_from(1_000);
+    /// for _ in 0..9 {
+    ///     let board = options.open(&path)?;
+    ///     let mut seat = board.seat()?;
+    ///     let letters = seat.mailbox_again::<String>(0)?;
+    ///     for _ in 0..9 {
+    ///         seat.send(letters, "Dear Ben")?;
+    ///         seat.recv(letters)?;
+    ///     }
+    /// }
+    /// assert!(std::fs::metadata(&path).unwrap().len() < 2_000);
+    /// # std::fs::remove_file(&path).unwrap();
+    /// # Ok(())
+    /// # }
+    /// ```
+    #[must_use]
+    pub fn short_from(mut self, bytes: u64) -> JournalFile {
+        self.short_from = bytes;
         self
     }
 
@@ -155,6 +185,7 @@ impl JournalFile {
             sync_milliseconds: self.sync_milliseconds,
             flags: 0,
             segment: self.segment,
+            short_from: self.short_from,
         };
         let (found, opened) = File::open(&name, R::MESSAGES, LIMIT, &options);
         let (file, room) = opened.map_err(|code| refusal(code, &found))?;
@@ -178,7 +209,7 @@ fn refusal(code: u32, found: &FileFound) -> Error {
     }
 }
 
-/// What was found as a journal's file was opened.
+/// What was found as a journal's file was opened, before it was exchanged for a short one.
 ///
 /// ```
 /// # fn main() -> Result<(), seryugo::Error> {
@@ -212,11 +243,16 @@ pub struct Recovered {
     pub saved: Option<PathBuf>,
     /// There was no file.
     pub is_new: bool,
+    /// The file was exchanged for a short one.
+    pub is_shortened: bool,
+    /// Why it wasn't, if it should have been. The old file is gone on with.
+    pub not_shortened: Option<String>,
 }
 
 impl Recovered {
     fn of(found: &FileFound, path: &Path) -> Recovered {
         let saved = Some(found.saved()).filter(|name| !name.is_empty());
+        let not_shortened = Some(found.words()).filter(|words| !words.is_empty());
         Recovered {
             entries: found.entries,
             lines: found.lines,
@@ -224,6 +260,8 @@ impl Recovered {
             cut_off: found.cut_off,
             saved: saved.map(|name| path.with_file_name(OsStr::from_bytes(name))),
             is_new: found.is_new,
+            is_shortened: found.is_shortened,
+            not_shortened,
         }
     }
 }
@@ -271,6 +309,12 @@ impl Switchboard {
     ///   second ([`JournalFile::sync_every`]), and by [`sync`](Switchboard::sync).
     /// - A message of a [`Lane`](crate::Lane) is kept once it is drained. One of a
     ///   [`Feed`](crate::Feed) counts as received once it is pumped.
+    ///
+    /// A file with sums, or with more than one piece without an end, is exchanged for a short one:
+    /// what is left of it, as [`compact`](Switchboard::compact) writes. So is a long one, if you ask
+    /// for that by [`JournalFile::short_from`]. Objects keep their numbers. Positions of entries, and
+    /// counts of what was sent and received, begin anew. A kill leaves the old file or the new one
+    /// whole. If that can't be done, the old file is gone on with, and [`Recovered`] says why.
     ///
     /// The journal's limit refuses no call, and only the file cuts the journal. So `cut`, `keep` and
     /// each other call that cuts or takes it fail with [`HasFile`](Error::HasFile).
