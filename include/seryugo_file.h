@@ -50,7 +50,7 @@ struct seryugo_file_options {
     uint32_t flags;
     /* By how many bytes the file grows. 0 is 4 MiB. Tests use less. */
     uint64_t segment;
-    /* A file that has so many bytes is exchanged for a short one, if it has more than four times the bytes of that. 0 is never. */
+    /* Opening exchanges a file of so many bytes for a short one, if that is much shorter. 0 is never. */
     uint64_t short_from;
 };
 
@@ -81,25 +81,24 @@ struct seryugo_file_found {
  * SERYUGO_BYTES, and `limit` is the room's. *found is always written, unless it is null. The room is yours: close the file
  * first, and then the room.
  *
- * A file with sums, or with more than one piece without an end, is exchanged for a short one. So is one that has `short_from`
- * bytes. The new file has what seryugo_compact leaves, without its last line. Objects keep their numbers, and
- * seats get those that they would have got. Positions, and counts of what was sent and received, begin anew. What was before
- * goes, with its sums: copy the file first, if you want that.
+ * Opening exchanges a file that has sums or a line `end` for a short one. It does so too with a file of `short_from` bytes, if
+ * that has more than four times the bytes of the short one. The short one has what seryugo_compact leaves, and no line `end`.
+ * Objects keep their numbers, and seats get those that they would have got. Positions, and counts of what was sent and received,
+ * begin anew. What was before goes, with its sums: copy the file first, if you want that.
  *
- * - The new file is made beside, as `path` with `.new`. Once it is locked, synced and read again, it gets the name. After a kill
- *   or a loss of power the name leads to the old file or to the new one, and that is whole. Of a link the target is exchanged.
+ * - Opening makes the new file beside, with `.new` after the name. It locks, syncs and reads that file before it gives it the
+ *   name. After a kill the name leads to the old file or to the new one, and that is whole. Of a link it exchanges the target.
  * - The new file has the mode and the owner of the old one. If it can't have them, or the old one has two names or an access
- *   list, there is no exchange.
- * - If there is none, the new file is removed, *found says why, and the old one is gone on with, after an end by a new piece.
- *   Opening fails with SERYUGO_FILE_FAILED if others have exchanged the file, or if the folder isn't synced then.
- * - A file with `.new` that has other bytes than the new one would get stays, and there is no exchange.
+ *   list, there is no exchange. Nor is there if a file with `.new` has other bytes than the new one would get: that file stays.
+ * - If it can't exchange the file, opening removes the new one, and says why in *found. It goes on with the old one, after a line
+ *   `end` by a new piece. It fails with SERYUGO_FILE_FAILED if others have exchanged the file, or if it can't sync the folder.
  *
  * These refusals leave the file as it was. SERYUGO_FILE_BUSY, SERYUGO_NO_JOURNAL, SERYUGO_OTHER_VERSION,
  * SERYUGO_OTHER_MESSAGES and SERYUGO_BEGINS_LATER: as they say. SERYUGO_FAULT, SERYUGO_UNLAWFUL: the journal was changed.
  * SERYUGO_OUT_OF_BOUNDS: the limit isn't from 1 to 2^32, or there are no such messages.
  *
  * SERYUGO_FILE_FAILED or SERYUGO_NO_MEMORY: what the file had is still there, but its end may be cut off, and the file may be
- * new.
+ * new or exchanged.
  */
 uint32_t seryugo_file_open(const char *path, uint32_t messages, uint64_t limit, const struct seryugo_file_options *options,
                            struct seryugo *room, struct seryugo_file_found *found, struct seryugo_file **file);

@@ -27,7 +27,7 @@ struct seryugo_opening {
     /* How many bytes are kept, and the position of the next entry. */
     uint64_t kept;
     uint64_t next;
-    /* The text isn't one piece without an end, of the version of new files. */
+    /* The text has a line `end`, or isn't of the version of new files. */
     bool is_old;
     /* What is read, and then the room that was made of it. */
     struct seryugo reading;

@@ -111,17 +111,17 @@ static uint32_t make(const struct seryugo_opening *opening, struct shorter *made
 {
     struct seryugo_opening *fresh = &made->fresh;
     uint32_t code;
+    bool is_new;
 
     fresh->descriptor = seryugo_open_at(fresh->folder, made->beside, O_CREAT | O_EXCL, 0600);
-    if (fresh->descriptor < 0 && errno != EEXIST) {
+    is_new = fresh->descriptor >= 0;
+    if (!is_new && errno != EEXIST) {
         return seryugo_fail(fresh, "make a new file", errno);
     }
-    code = fresh->descriptor < 0 ? take_leftover(made, opening->chunk) : seryugo_lock_file(fresh, made->beside);
-    if (code != SERYUGO_DONE) {
-        return code;
-    }
-    made->is_made = true;
-    return keep_rights(opening->descriptor, fresh);
+    code = is_new ? seryugo_lock_file(fresh, made->beside) : take_leftover(made, opening->chunk);
+    /* If another program was first to lock it, it is that one's. */
+    made->is_made = code == SERYUGO_DONE || (is_new && code == SERYUGO_FILE_FAILED);
+    return code == SERYUGO_DONE ? keep_rights(opening->descriptor, fresh) : code;
 }
 
 /* Writes and syncs the new file, and reads it as each opening does: so the room is what the file says. */

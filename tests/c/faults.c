@@ -1,7 +1,7 @@
 /* Fails, shortens or interrupts calls of the system, or kills the program before them: a library for LD_PRELOAD.
- * FAULT=CALL:AT:KIND[:all] with a call below, which of its calls is met, from 1, and `fail`, `full`, `short`, `eintr` or `kill`; with
- * `all`, each later one too, apart from interrupted ones. Only files whose names have "journal" in them are met: write is met as
- * pwrite. */
+ * FAULT=CALL:AT:KIND[:all] with a call below, which of its calls is met, from 1, and `fail`, `full`, `short`, `eintr` or `kill`;
+ * with `all`, each later one too, apart from interrupted ones. Only files whose names have "journal" in them are met: write is
+ * met as pwrite. */
 #ifndef _GNU_SOURCE
 #define _GNU_SOURCE
 #endif

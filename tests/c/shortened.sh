@@ -1,12 +1,14 @@
 #!/bin/sh
 # A file is exchanged for a short one, while calls of the system fail, do a part, are interrupted, or the program is killed before
-# them: `sh tests/c/shortened.sh PROGRAM FAULTS.so N`, where PROGRAM is built of shortened.c and FAULTS.so of faults.c. The K-th
-# call of each kind is met, for K up to N, alone or with all later ones. After it the name leads to the old file, gone on with or
-# not, or to the new one. The next run exchanges it, has what was there, and leaves nothing beside.
+# them: `sh tests/c/shortened.sh PROGRAM FAULTS.so REFUSE.so N`, where PROGRAM is built of shortened.c and the others of faults.c
+# and tests/lib/refuse.c. The K-th call of each kind is met, for K up to N, alone or with all later ones, and so is each request
+# for memory. After it the name leads to the old file, gone on with or not, or to the new one. The next run exchanges it, has what
+# was there, and leaves nothing beside.
 set -e
 program=$1
 faults=$2
-most=$3
+refuse=$3
+most=$4
 work=$(mktemp -d "${SERYUGO_TRY:-.}/shortened.XXXXXX")
 trap 'rm -rf "$work"' EXIT
 
@@ -17,10 +19,10 @@ fail() {
     exit 1
 }
 
-# opened FAULT: opens the file, and writes what it leaves.
+# opened WORD..: opens the file with these variables, and writes what it leaves.
 opened() {
     status=0
-    FAULT=$1 LD_PRELOAD=$faults "$program" "$work/x.journal" "$messages" "$from" > "$work/left" 2> "$work/error" || status=$?
+    env "$@" "$program" "$work/x.journal" "$messages" "$from" > "$work/left" 2> "$work/error" || status=$?
 }
 
 # text FILE: its text, up to the first byte 0 and the last line end.
@@ -32,9 +34,10 @@ is_one() {
     cmp -s "$work/text" "$work/short" || cmp -s -n "$(wc -c < "$work/$base")" "$work/text" "$work/$base"
 }
 
+# one WORD..: opens the file so, looks at it, and opens it as it is.
 one() {
     cp "$work/$base" "$work/x.journal"
-    opened "$fault"
+    opened "$@"
     cases=$((cases + 1))
     grep -q 'fault met' "$work/error" && met=$((met + 1))
     case $status in
@@ -48,7 +51,7 @@ one() {
         *) [ ! -e "$work/x.journal.new" ] || fail 'the new file is left beside' ;;
     esac
     ! grep -q 'opened long' "$work/error" || long=$((long + 1))
-    opened ''
+    opened -u FAULT
     [ "$status" -eq 0 ] || fail "the next run ended with $status"
     [ "$(cat "$work/left")" = "$(cat "$work/expected")" ] || fail 'the next run leaves something else'
     text "$work/x.journal" > "$work/text"
@@ -70,7 +73,7 @@ calls() {
                 for all in '' :all; do
                     [ "$kind$all" != eintr:all ] && [ "$kind$all" != kill:all ] || continue
                     fault=$call:$at:$kind$all
-                    one
+                    one FAULT="$fault" LD_PRELOAD="$faults"
                 done
                 # There is no such call any more.
                 [ "$met" -ne "${before:-0}" ] || at=$most
@@ -78,6 +81,18 @@ calls() {
                 at=$((at + 1))
             done
         done
+    done
+}
+
+# memory: refuses each request for memory.
+memory() {
+    request=1
+    while rm -f "$work/met"; do
+        fault="request $request"
+        one REFUSE="$request" TOLD="$work/met" LD_PRELOAD="$refuse"
+        one REFUSE="$request" REFUSE_REST=1 LD_PRELOAD="$refuse"
+        [ -e "$work/met" ] || break
+        request=$((request + 1))
     done
 }
 
@@ -103,7 +118,7 @@ for base in plain ended sealed; do
     messages=$([ "$base" = sealed ] && echo bytes || echo numbers)
     from=$([ "$base" = plain ] && echo 5000 || echo 0)
     cp "$work/$base" "$work/x.journal"
-    opened ''
+    opened -u FAULT
     [ "$status" -eq 0 ] && grep -q 'opened short' "$work/error" || fail "ended with $status"
     cp "$work/left" "$work/expected"
     cp "$work/x.journal" "$work/short"
@@ -111,4 +126,6 @@ for base in plain ended sealed; do
     rm "$work/x.journal"
     calls
 done
-echo "$cases cases of an exchange, of which $met met their fault: $killed were killed, $refused refused by name, and $long went on"
+memory
+echo "$cases cases of an exchange, $met with a failing call and $request with a request for memory: $killed were killed, $refused"
+echo "refused by name, and $long went on with the old file"

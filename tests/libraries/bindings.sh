@@ -108,6 +108,7 @@ sanitizers_from_c() {
             check "nothing wrong with an address: $program" sanitized address,undefined $program
         done
         check 'nothing wrong with an address: requests' sanitized address,undefined requests 20
+        mkdir "$work/short" && check 'nothing wrong with an address: shortened' sanitized address,undefined shortened "$work/short"
     fi
     if has_sanitizer thread; then
         for program in threads keep compact switchboard; do

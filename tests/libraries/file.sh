@@ -9,13 +9,16 @@ kills=${2:-30}
 faults=${3:-1}
 work=$(mktemp -d "${TMPDIR:-/tmp}/file.XXXXXX")
 trap 'rm -rf "$work"' EXIT
+# Another user opens files here, too.
+chmod 755 "$work"
 export SERYUGO_TRY="$work"
 
 for program in tests/c/file.c tests/c/file_traps.c tests/c/shortened.c tests/c/kills.c examples/c/durable.c; do
     "${CC:-cc}" -std=gnu11 -O2 -Wall -Wextra -Werror -I "$prefix/include" "$program" "$prefix/lib/libseryugo.a" -pthread \
-        -o "$work/$(basename "$program" .c)"
+        -ldl -o "$work/$(basename "$program" .c)"
 done
 "${CC:-cc}" -std=gnu11 -O2 -shared -fPIC tests/c/faults.c -ldl -o "$work/faults.so"
+"${CC:-cc}" -std=gnu11 -O2 -shared -fPIC tests/lib/refuse.c -ldl -o "$work/refuse.so"
 mkdir -m 777 "$work/files" "$work/traps" "$work/short"
 "$work/file" "$work/files"
 "$work/file_traps" "$work/traps"
@@ -25,4 +28,4 @@ letter 3' ]
 sh tests/c/full_disk.sh "$work/kills"
 sh tests/c/kills.sh "$work/kills" "$kills"
 [ "$faults" -eq 0 ] || sh tests/c/faults.sh "$work/kills" "$work/faults.so" "$faults"
-[ "$faults" -eq 0 ] || sh tests/c/shortened.sh "$work/shortened" "$work/faults.so" "$((faults + 2))"
+[ "$faults" -eq 0 ] || sh tests/c/shortened.sh "$work/shortened" "$work/faults.so" "$work/refuse.so" "$((faults + 2))"

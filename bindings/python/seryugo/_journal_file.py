@@ -44,7 +44,7 @@ class Recovered(NamedTuple):
     than a line has, the file of the path `saved` has them. `is_new`: there was no file.
 
     `is_shortened`: the file was exchanged for a short one. If it should have been, and wasn't,
-    `not_shortened` says why in words: the old file is gone on with.
+    `not_shortened` says why in words. The journal goes on in the old file.
     """
 
     entries: int

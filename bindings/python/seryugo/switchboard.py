@@ -433,14 +433,15 @@ def open(
     it each `sync_every` seconds. With `None` it is synced by `sync` and `close`, and where 32 MiB
     aren't synced yet. A call waits for the disk only where 64 MiB aren't.
 
-    A file with sums, or with more than one piece without an end, is exchanged for a short one:
-    what is left of it, as `compact` returns. So is a file of `short_from` bytes or more, if that
-    has more than four times the bytes of the short one; with 0 none is. Positions of entries, and
-    counts of what was sent and received, begin anew. If that can't be done, `recovered` says why.
+    It exchanges a file with sums or a line `end` for a short one, which has what `compact`
+    returns. It does so too with a file of `short_from` bytes or more, if that has more than four
+    times the bytes of the short one. With 0 it doesn't. Positions of entries, and counts of what
+    was sent and received, begin anew. If it can't do so, it goes on with the old file, and
+    `recovered` says why.
 
     These leave the file as it was: `FileBusy`, `NoJournal`, `OtherVersion`, `OtherMessages`,
     `BeginsLater`, and `Fault` or `Unlawful` if the journal was changed. So does `OutOfBounds`. If
-    it fails with `FileFailed` or `NoMemory`, all entries are still there.
+    it fails with `FileFailed` or `NoMemory`, all that was left is still there.
 
     A call on it may fail with `FileFull`, `FileLost` or `TooLong`. A child of a fork can make none.
     """

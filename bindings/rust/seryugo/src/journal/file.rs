@@ -104,9 +104,9 @@ impl JournalFile {
         self
     }
 
-    /// Has a file of this many bytes or more exchanged for a short one as it is opened, if it has more
-    /// than four times the bytes of that. So a program that is started again and again keeps a short
-    /// file. [`Switchboard::open`] says what the short one has. 0 is never.
+    /// Has opening exchange a file of this many bytes or more for a short one, if it has more than four
+    /// times the bytes of that. So a program that is started again and again keeps a short file.
+    /// [`Switchboard::open`] says what the short one has. 0 is never.
     ///
     /// ```
     /// # fn main() -> Result<(), seryugo::Error> {
@@ -245,7 +245,7 @@ pub struct Recovered {
     pub is_new: bool,
     /// The file was exchanged for a short one.
     pub is_shortened: bool,
-    /// Why it wasn't, if it should have been. The old file is gone on with.
+    /// Why it wasn't, if it should have been. The journal goes on in the old file.
     pub not_shortened: Option<String>,
 }
 
@@ -310,11 +310,11 @@ impl Switchboard {
     /// - A message of a [`Lane`](crate::Lane) is kept once it is drained. One of a
     ///   [`Feed`](crate::Feed) counts as received once it is pumped.
     ///
-    /// A file with sums, or with more than one piece without an end, is exchanged for a short one:
-    /// what is left of it, as [`compact`](Switchboard::compact) writes. So is a long one, if you ask
-    /// for that by [`JournalFile::short_from`]. Objects keep their numbers. Positions of entries, and
-    /// counts of what was sent and received, begin anew. A kill leaves the old file or the new one
-    /// whole. If that can't be done, the old file is gone on with, and [`Recovered`] says why.
+    /// This exchanges a file with sums or a line `end` for a short one, which has what
+    /// [`compact`](Switchboard::compact) returns. It does so too with a long file, if you ask for that
+    /// by [`JournalFile::short_from`]. Objects keep their numbers. Positions of entries, and counts of
+    /// what was sent and received, begin anew. A kill leaves the old file or the new one whole. If it
+    /// can't exchange the file, it goes on with the old one, and [`Recovered`] says why.
     ///
     /// The journal's limit refuses no call, and only the file cuts the journal. So `cut`, `keep` and
     /// each other call that cuts or takes it fail with [`HasFile`](Error::HasFile).
@@ -331,7 +331,7 @@ impl Switchboard {
     /// - `Fault`, `Unlawful`: the journal was changed.
     ///
     /// After `FileFailed` and `NoMemory` what the file had is still there, but its end may be cut
-    /// off, and the file may be new. `Version` as of [`new`](Switchboard::new).
+    /// off, and the file may be new or exchanged. `Version` as of [`new`](Switchboard::new).
     pub fn open(path: impl AsRef<Path>) -> Result<Switchboard, Error> {
         JournalFile::new().open(path)
     }
