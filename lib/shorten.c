@@ -62,23 +62,30 @@ static bool are_of(const char *text, const char *bytes, size_t length)
     return true;
 }
 
-/* A file beside that is already there is taken, if it has nothing that the new one won't have: a program was killed as it made it.
- * `chunk` is for what is read. */
-static uint32_t take_leftover(struct shorter *made, char *chunk)
+/* Whether this user or that of the old file has left a file, which has one name. */
+static bool is_own(int old, int descriptor)
+{
+    struct stat was, is;
+
+    return fstat(old, &was) == 0 && fstat(descriptor, &is) == 0 && is.st_nlink == 1
+           && (is.st_uid == geteuid() || is.st_uid == was.st_uid);
+}
+
+/* A file beside that is already there is taken, if it has nothing that the new one won't have: a program was killed as it made
+ * it. */
+static uint32_t take_leftover(const struct seryugo_opening *opening, struct shorter *made)
 {
     struct seryugo_opening *fresh = &made->fresh;
     const char *text = (const char *)seryugo_bytes_at(&made->text);
     uint32_t code = seryugo_open_named(fresh, made->beside);
-    struct stat mine;
     size_t length = 0;
-    bool is_ours = code == SERYUGO_DONE && fresh->length <= made->length;
+    bool is_ours = code == SERYUGO_DONE && fresh->length <= made->length && is_own(opening->descriptor, fresh->descriptor);
 
-    is_ours = is_ours && fstat(fresh->descriptor, &mine) == 0 && mine.st_nlink == 1;
     for (uint64_t at = 0; is_ours && at < fresh->length; at += length) {
         size_t part = fresh->length - at < SERYUGO_CHUNK ? (size_t)(fresh->length - at) : SERYUGO_CHUNK;
 
-        is_ours = seryugo_read_at(fresh->descriptor, chunk, part, at, &length) == 0 && length != 0;
-        is_ours = is_ours && are_of(text + at, chunk, length);
+        is_ours = seryugo_read_at(fresh->descriptor, opening->chunk, part, at, &length) == 0 && length != 0;
+        is_ours = is_ours && are_of(text + at, opening->chunk, length);
     }
     return is_ours ? code : seryugo_fail(fresh, "a file of this name with .new is in the way", EEXIST);
 }
@@ -86,7 +93,7 @@ static uint32_t take_leftover(struct shorter *made, char *chunk)
 /* Whether the system has a list of who may use the file, apart from its mode. */
 static bool has_list(int descriptor) { return fgetxattr(descriptor, "system.posix_acl_access", NULL, 0) > 0; }
 
-/* The same may use the new file. What can't be kept of that isn't given up. */
+/* The same users may use the new file as the old one. */
 static uint32_t keep_rights(int old, struct seryugo_opening *fresh)
 {
     struct stat was, is;
@@ -118,7 +125,7 @@ static uint32_t make(const struct seryugo_opening *opening, struct shorter *made
     if (!is_new && errno != EEXIST) {
         return seryugo_fail(fresh, "make a new file", errno);
     }
-    code = is_new ? seryugo_lock_file(fresh, made->beside) : take_leftover(made, opening->chunk);
+    code = is_new ? seryugo_lock_file(fresh, made->beside) : take_leftover(opening, made);
     /* If another program was first to lock it, it is that one's. */
     made->is_made = code == SERYUGO_DONE || (is_new && code == SERYUGO_FILE_FAILED);
     return code == SERYUGO_DONE ? keep_rights(opening->descriptor, fresh) : code;
@@ -149,18 +156,19 @@ static uint32_t fill(struct shorter *made)
 
 /* ---- the exchange ---- */
 
-static bool has_name(const struct seryugo_opening *opening)
+static bool has_name(const struct seryugo_opening *opening, const char *name)
 {
     struct stat mine;
 
-    return fstat(opening->descriptor, &mine) == 0 && seryugo_leads_to(opening, opening->name, &mine);
+    return fstat(opening->descriptor, &mine) == 0 && seryugo_leads_to(opening, name, &mine);
 }
 
-/* Gives the new file the name. Others may have given it to a file of theirs, which stays. The machine syncs the folder before a
- * line is added. */
+/* Gives the new file the name. Others may have given either name to a file of theirs, which stays. The machine syncs the folder
+ * before a line is added. */
 static uint32_t exchange(struct seryugo_opening *opening, struct shorter *made)
 {
-    if (!has_name(opening)) {
+    made->is_made = has_name(&made->fresh, made->beside);
+    if (!made->is_made || !has_name(opening, opening->name)) {
         return seryugo_refuse(&made->fresh, SERYUGO_FILE_FAILED, "others have exchanged the file", 0);
     }
     if (renameat(opening->folder, made->beside, opening->folder, opening->name) != 0) {
@@ -190,7 +198,7 @@ static uint32_t give_up(struct seryugo_opening *opening, const struct shorter *m
         unlinkat(opening->folder, made->beside, 0);
     }
     /* Lines that were added to a file without a name would be lost. */
-    if (!has_name(opening)) {
+    if (!has_name(opening, opening->name)) {
         return seryugo_refuse(opening, SERYUGO_FILE_FAILED, "others have exchanged the file", 0);
     }
     return SERYUGO_DONE;

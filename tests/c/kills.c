@@ -1,6 +1,7 @@
 /* Four threads on a switchboard whose journal is in a file. Each prints what returned, as soon as it returned: `sent V` or
- * `got V`. A script kills the program, and looks for all of that in the file: kills FILE RUN COUNT [bytes] [writes] [SEGMENT].
- * Values of a run begin with RUN, and each thread sends COUNT of them. */
+ * `got V`. A script kills the program, and looks for all of that in the file: kills FILE RUN COUNT [bytes] [writes] [short]
+ * [SEGMENT]. Values of a run begin with RUN, and each thread sends COUNT of them. With `short` it exchanges a long file for a
+ * short one. It says how many entries it begins with. */
 #include "seryugo_switchboard.h"
 
 #include <stdio.h>
@@ -94,6 +95,7 @@ static void take_words(char **words, struct seryugo_file_options *options)
     for (; *words != NULL; words++) {
         is_bytes = is_bytes || strcmp(*words, "bytes") == 0;
         options->flags |= strcmp(*words, "writes") == 0 ? (uint32_t)SERYUGO_FILE_BY_WRITES : 0;
+        options->short_from = strcmp(*words, "short") == 0 ? 1 : options->short_from;
         options->segment = **words >= '0' && **words <= '9' ? strtoull(*words, NULL, 10) : options->segment;
     }
 }
@@ -124,6 +126,7 @@ int main(int many, char **words)
     struct seryugo_file_options options = {.sync_milliseconds = 20};
     struct seryugo_file_found found;
     const char *told;
+    uint64_t count_left = 0;
     uint32_t code;
     int cause = 0;
 
@@ -137,7 +140,9 @@ int main(int many, char **words)
     if (code != SERYUGO_DONE) {
         return fails("open", code, found.words);
     }
-    fprintf(stderr, "opened entries %llu cut %llu\n", (unsigned long long)found.entries, (unsigned long long)found.cut_off);
+    (void)seryugo_entries(&board.room, &count_left);
+    fprintf(stderr, "opened entries %llu cut %llu %s %llu\n", (unsigned long long)found.entries,
+            (unsigned long long)found.cut_off, found.is_shortened ? "short" : "long", (unsigned long long)count_left);
     code = work_all();
     code = code == SERYUGO_DONE ? worst : code;
     if (code != SERYUGO_DONE) {

@@ -336,6 +336,14 @@ static void leave_what_is_in_the_way(void)
     rmdir("old.new");
     HAS(is_there("others") && get("others") == 0);
     unlink("others");
+    /* Another user could still write it. */
+    if (getuid() == 0) {
+        put("old.new", "", 0);
+        HAS(chown("old.new", 65534, 65534) == 0);
+        goes_on("in the way", __LINE__);
+        HAS(is_there("old.new"));
+        unlink("old.new");
+    }
 }
 
 /* ---- what keeps a file from being exchanged ---- */
