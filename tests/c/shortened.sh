@@ -61,6 +61,20 @@ one() {
     rm -f "$work/x.journal"
 }
 
+# prepare: finds out what the base becomes, and what that leaves.
+prepare() {
+    fault=
+    messages=$([ "$base" = sealed ] && echo bytes || echo numbers)
+    from=$([ "$base" = plain ] && echo 5000 || echo 0)
+    cp "$work/$base" "$work/x.journal"
+    opened -u FAULT
+    [ "$status" -eq 0 ] && grep -q 'opened short' "$work/error" || fail "ended with $status"
+    cp "$work/left" "$work/expected"
+    cp "$work/x.journal" "$work/short"
+    [ "$(wc -l < "$work/short")" -eq 7 ] || fail 'it is not short'
+    rm "$work/x.journal"
+}
+
 # calls CALL..: meets each of these calls.
 calls() {
     for call; do
@@ -97,12 +111,12 @@ memory() {
     done
 }
 
-# journal HEADER EQUALS: a journal without its end, of 300 messages of which two wait.
+# journal COUNT HEADER EQUALS: a journal without its end, of so many messages. Two of them wait.
 journal() {
-    awk -v header="$1" -v equals="$2" 'BEGIN {
+    awk -v count="$1" -v header="$2" -v equals="$3" 'BEGIN {
         print header "\nseat 0 mailbox: made 0\nseat 1 channel: made 1\nseat 1 port 1: made 2\nseat 0 multicast 1 " equals "9: done"
-        for (at = 0; at < 300; at++) print "seat 0 send 0 " equals at ": done"
-        for (at = 0; at < 298; at++) print "seat 0 recv 0: " equals at
+        for (at = 0; at < count; at++) print "seat 0 send 0 " equals at ": done"
+        for (at = 0; at < count - 2; at++) print "seat 0 recv 0: " equals at
     }'
 }
 
@@ -112,26 +126,20 @@ met=0
 killed=0
 refused=0
 long=0
-journal 'journal 1' '' > "$work/plain"
-{ journal 'journal 1' ''; echo 'end 602'; } > "$work/ended"
-{ journal 'journal 4' =; echo "end 602 $(journal 'journal 4' = | sha256sum | cut -d ' ' -f 1)"; } > "$work/sealed"
+journal 300 'journal 1' '' > "$work/plain"
+{ journal 300 'journal 1' ''; echo 'end 602'; } > "$work/ended"
+{ journal 300 'journal 4' =; echo "end 602 $(journal 300 'journal 4' = | sha256sum | cut -d ' ' -f 1)"; } > "$work/sealed"
+{ journal 4 'journal 1' ''; echo 'end 10'; } > "$work/little"
 for base in plain ended sealed; do
-    fault=
-    messages=$([ "$base" = sealed ] && echo bytes || echo numbers)
-    from=$([ "$base" = plain ] && echo 5000 || echo 0)
-    cp "$work/$base" "$work/x.journal"
-    opened -u FAULT
-    [ "$status" -eq 0 ] && grep -q 'opened short' "$work/error" || fail "ended with $status"
-    cp "$work/left" "$work/expected"
-    cp "$work/x.journal" "$work/short"
-    [ "$(wc -l < "$work/short")" -eq 7 ] || fail 'it is not short'
-    rm "$work/x.journal"
+    prepare
     calls open flock fchmod pwrite fsync pread renameat unlinkat ftruncate posix_fallocate
 done
 # The last one again, beside what a program left that was killed.
 leftover=yes
 calls open flock ftruncate pread
 leftover=
+base=little
+prepare
 memory
 echo "$cases cases of an exchange, $met with a failing call and $request with a request for memory: $killed were killed, $refused"
 echo "refused by name, and $long went on with the old file"
