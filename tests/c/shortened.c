@@ -243,13 +243,12 @@ static void shorten_what_is_long(void)
     HAS(rounds > 2 && get("long") == sizeof shortest - 1);
     short_from = 0;
     length = lengthen(20);
-    RETURNS(DONE, open_numbers("long"));
-    HAS(!found.is_shortened);
-    free_all();
-    short_from = length + 1;
-    RETURNS(DONE, open_numbers("long"));
-    HAS(!found.is_shortened);
-    free_all();
+    for (uint64_t at = 0; at < 2; at++) {
+        short_from = at * (length + 1);
+        RETURNS(DONE, open_numbers("long"));
+        HAS(!found.is_shortened);
+        free_all();
+    }
     short_from = length;
     RETURNS(DONE, open_numbers("long"));
     HAS(found.is_shortened);
@@ -286,11 +285,10 @@ static void take_a_leftover(const char *bytes, size_t length, int line)
 
 static void take_leftovers(void)
 {
-    char zeros[sizeof short_one - 1];
+    char zeros[sizeof short_one - 1] = {0};
 
     for (size_t length = 0; length < sizeof short_one; length += 8) {
         take_a_leftover(short_one, length, __LINE__);
-        memset(zeros, 0, sizeof zeros);
         memcpy(zeros, short_one, length);
         take_a_leftover(zeros, sizeof zeros, __LINE__);
     }
