@@ -19,9 +19,8 @@ A line `/shutdown` on standard input ends it. The end of standard input doesn't.
   --room-limit N        how many rooms there may be (1000)
   --member-limit N      how many names may have a place in a room (10000)
   --owed-limit N        how many messages a member may be behind before it loses its place (10000)
-  --entry-limit N       how many entries the journal takes before callers wait, 1 to 4294967296 (10000)
-  --history-limit N     how many of a room's last messages a short file keeps at the least (1000)
-  --compact-from BYTES  how long the file is at the least before the server makes it short (1000000)
+  --history-limit N     how many of a room's last messages the server keeps (1000)
+  --compact-from BYTES  how long the file is at the least before a start makes it short (1000000)
   --help                prints this
 
 Exit statuses: 0 after /shutdown or --help; 1 a call of the library failed; 2 wrong words; 3 it can't listen;
@@ -49,7 +48,6 @@ pub struct Limits {
     pub rooms: u64,
     pub members: u64,
     pub owed: u64,
-    pub entries: u64,
     pub history: u64,
     pub compact_from: u64,
 }
@@ -61,7 +59,6 @@ impl Default for Limits {
             rooms: 1_000,
             members: 10_000,
             owed: 10_000,
-            entries: 10_000,
             history: 1_000,
             compact_from: 1_000_000,
         }
@@ -106,7 +103,6 @@ pub fn parse(words: impl IntoIterator<Item = String>) -> Result<Asked, BadArgume
             "--room-limit" => Some((&mut limits.rooms, 1 << 32)),
             "--member-limit" => Some((&mut limits.members, 1 << 32)),
             "--owed-limit" => Some((&mut limits.owed, 1 << 32)),
-            "--entry-limit" => Some((&mut limits.entries, 1 << 32)),
             "--history-limit" => Some((&mut limits.history, 1 << 32)),
             "--compact-from" => Some((&mut limits.compact_from, 1 << 62)),
             _ => return Err(BadArguments::Unknown(option)),
@@ -178,8 +174,8 @@ mod tests {
         assert_eq!(parsed("listen"), Err(BadArguments::Unknown("listen".into())));
         assert_eq!(parsed("--journal a --journal b"), Err(BadArguments::Twice("--journal".into())));
         for wrong in ["0", "-1", "x", "4294967297", ""] {
-            let told = parse(["--entry-limit".to_owned(), wrong.to_owned()]);
-            assert_eq!(told, Err(BadArguments::BadValue("--entry-limit".into(), wrong.into())));
+            let told = parse(["--owed-limit".to_owned(), wrong.to_owned()]);
+            assert_eq!(told, Err(BadArguments::BadValue("--owed-limit".into(), wrong.into())));
         }
     }
 }

@@ -3,8 +3,8 @@
 //! A full m-variable is a record, and an empty one is free for the next. So the journal has every change, and a later server
 //! finds all records among the objects.
 
-use crate::keeper::Keeper;
-use crate::messages::{Record, Said};
+use crate::history::History;
+use crate::messages::{Record, RoomRecord, Said};
 use crate::protocol::{Name, Refusal};
 use seryugo::explore::{Guard, Lock};
 use seryugo::{Channel, Error, MVar, Mailbox, Object, Port, Seat, Switchboard};
@@ -12,15 +12,15 @@ use std::collections::{BTreeMap, HashMap};
 use std::sync::atomic::{AtomicU64, Ordering};
 use std::sync::Arc;
 
-/// A room. What is said goes into the queue; once it is kept, on the channel.
+/// A room. What is said goes into the queue; once it is kept, on the channel. The queue's last messages stay there.
 #[derive(Debug)]
 pub struct Room {
     pub name: Name,
-    /// The queue's number in the journal.
-    pub number: u64,
     pub queue: Mailbox<Said>,
     pub channel: Channel<Said>,
-    slot: MVar<Record>,
+    /// A port that is always owed the last message on the channel. So a later server finds that one, and its number.
+    witness: Port<Said>,
+    pub history: History,
     /// How many messages were published before those that the channel counts: a short journal's counts begin at 0.
     before: u64,
     /// The number of the last message that was said.
@@ -29,21 +29,26 @@ pub struct Room {
     published: AtomicU64,
 }
 
+/// What a room has in the switchboard.
+pub struct Objects {
+    pub queue: Mailbox<Said>,
+    pub channel: Channel<Said>,
+    pub witness: Port<Said>,
+}
+
 impl Room {
-    /// A room whose first messages have numbers up to `last`. Those up to `published` are published, and the channel counts this many.
-    ///
-    /// Returns `None` if the channel counts more.
-    pub fn new(name: Name, objects: Objects, last: u64, published: u64, counted: u64) -> Option<Room> {
-        Some(Room {
+    /// A room with these messages, of which those up to `published` are published. The channel counts this many, and no more.
+    pub fn new(name: Name, objects: Objects, history: History, published: u64, counted: u64) -> Room {
+        Room {
             name,
-            number: objects.queue.number(),
             queue: objects.queue,
             channel: objects.channel,
-            slot: objects.slot,
-            before: published.checked_sub(counted)?,
-            last: Lock::new(last.max(published)),
+            witness: objects.witness,
+            before: published - counted,
+            last: Lock::new(history.last().max(published)),
+            history,
             published: AtomicU64::new(published),
-        })
+        }
     }
 
     /// The number of the last message that was said.
@@ -56,20 +61,33 @@ impl Room {
         self.last.lock()
     }
 
-    pub fn published(&self) -> u64 {
+    fn published(&self) -> u64 {
         self.published.load(Ordering::Relaxed)
     }
 
-    pub fn set_published(&self, number: u64) {
-        self.published.store(number, Ordering::Relaxed);
+    /// The messages that are kept and not published.
+    pub fn unpublished(&self) -> Vec<Arc<Said>> {
+        self.history.between(self.published() + 1, u64::MAX)
     }
-}
 
-/// What a room has in the switchboard.
-pub struct Objects {
-    pub queue: Mailbox<Said>,
-    pub channel: Channel<Said>,
-    pub slot: MVar<Record>,
+    /// Publishes a message. Then the witness receives those before it.
+    pub fn publish(&self, board: &Switchboard, seat: &mut Seat<'_>, said: &Said) -> Result<(), Error> {
+        seat.multicast(self.channel, said)?;
+        self.published.store(said.number, Ordering::Relaxed);
+        while board.owed(self.witness)? > 1 {
+            seat.recv_poll(self.witness)?;
+        }
+        Ok(())
+    }
+
+    /// Drops the oldest messages, so that this many are left of those that are published.
+    pub fn forget(&self, seat: &mut Seat<'_>, most: u64) -> Result<(), Error> {
+        while self.history.first().is_some_and(|first| self.published() - first >= most) {
+            seat.recv_poll(self.queue)?;
+            self.history.forget();
+        }
+        Ok(())
+    }
 }
 
 /// A member's place.
@@ -117,7 +135,6 @@ impl From<Error> for NoPlace {
 #[derive(Default)]
 pub struct Books {
     rooms: HashMap<Name, Arc<Room>>,
-    queues: HashMap<u64, Arc<Room>>,
     places: BTreeMap<Name, Place>,
     /// Who fell behind: the room, the number of the last message, and the record.
     behind: HashMap<Name, (Name, u64, MVar<Record>)>,
@@ -126,7 +143,6 @@ pub struct Books {
 
 pub struct Directory<'a> {
     board: &'a Switchboard,
-    keeper: &'a Keeper<'a>,
     most_rooms: u64,
     most_members: u64,
     books: Lock<Books>,
@@ -134,10 +150,9 @@ pub struct Directory<'a> {
 
 impl<'a> Directory<'a> {
     /// The directory with these books.
-    pub fn new(board: &'a Switchboard, keeper: &'a Keeper<'a>, books: Books, rooms: u64, members: u64) -> Directory<'a> {
+    pub fn new(board: &'a Switchboard, books: Books, rooms: u64, members: u64) -> Directory<'a> {
         Directory {
             board,
-            keeper,
             most_rooms: rooms,
             most_members: members,
             books: Lock::new(books),
@@ -151,11 +166,6 @@ impl<'a> Directory<'a> {
 
     pub fn all_rooms(&self) -> Vec<Arc<Room>> {
         self.lock().rooms.values().cloned().collect()
-    }
-
-    /// The room whose queue has this number.
-    pub fn of_queue(&self, number: u64) -> Option<Arc<Room>> {
-        self.lock().queues.get(&number).cloned()
     }
 
     /// The place of a name, if it has one.
@@ -172,7 +182,7 @@ impl<'a> Directory<'a> {
         let Some((room, last, slot)) = books.behind.get(name).cloned() else {
             return Ok(Found::Nowhere);
         };
-        self.keeper.call(|| seat.take_poll(slot))?;
+        seat.take_poll(slot)?;
         books.behind.remove(name);
         books.free.push(slot);
         Ok(Found::Behind(Refusal::FellBehind { room, last }))
@@ -191,7 +201,7 @@ impl<'a> Directory<'a> {
             }
             None => self.make_room(&mut books, seat, room)?,
         };
-        let port = self.keeper.call(|| seat.port(room.channel))?;
+        let port = seat.port(room.channel)?;
         let record = Record::Member {
             name: name.clone(),
             room: room.name.clone(),
@@ -204,17 +214,22 @@ impl<'a> Directory<'a> {
     }
 
     fn make_room(&self, books: &mut Books, seat: &mut Seat<'_>, name: &Name) -> Result<Arc<Room>, Error> {
-        let queue = self.keeper.call(|| seat.mailbox::<Said>())?;
-        let channel = self.keeper.call(|| seat.channel::<Said>())?;
-        let record = Record::Room {
+        let (queue, channel) = (seat.mailbox::<Said>()?, seat.channel::<Said>()?);
+        let witness = seat.port(channel)?;
+        let record = RoomRecord {
             room: name.clone(),
             queue: queue.number(),
             channel: channel.number(),
             published: 0,
+            witness: Some(witness.number()),
         };
-        let slot = self.write(books, seat, record)?;
-        let objects = Objects { queue, channel, slot };
-        Ok(books.add_room(Room::new(name.clone(), objects, 0, 0, 0).expect("a new channel counts nothing")))
+        self.write(books, seat, Record::Room(record))?;
+        let objects = Objects {
+            queue,
+            channel,
+            witness,
+        };
+        Ok(books.add_room(Room::new(name.clone(), objects, History::default(), 0, 0)))
     }
 
     /// Ends the place of a name: its record, and then its port.
@@ -223,9 +238,9 @@ impl<'a> Directory<'a> {
         let Some(place) = books.places.remove(name) else {
             return Ok(());
         };
-        self.keeper.call(|| seat.take_poll(place.slot))?;
+        seat.take_poll(place.slot)?;
         books.free.push(place.slot);
-        self.keeper.call(|| seat.close(place.port))?;
+        seat.close(place.port)?;
         Ok(())
     }
 
@@ -233,7 +248,7 @@ impl<'a> Directory<'a> {
     pub fn drop_behind(&self, seat: &mut Seat<'_>, room: &Room, most: u64) -> Result<Vec<(Name, Refusal)>, Error> {
         let mut books = self.lock();
         let mut late = Vec::new();
-        for (name, place) in books.places.iter().filter(|(_, place)| place.room.number == room.number) {
+        for (name, place) in books.places.iter().filter(|(_, place)| place.room.queue == room.queue) {
             if self.board.owed(place.port)? > most {
                 late.push((name.clone(), place.clone()));
             }
@@ -242,7 +257,7 @@ impl<'a> Directory<'a> {
     }
 
     fn drop_one(&self, books: &mut Books, seat: &mut Seat<'_>, name: Name, place: Place) -> Result<(Name, Refusal), Error> {
-        self.keeper.call(|| seat.close(place.port))?;
+        seat.close(place.port)?;
         let last = place.received(self.board)?;
         let room = place.room.name.clone();
         let record = Record::Behind {
@@ -250,7 +265,7 @@ impl<'a> Directory<'a> {
             room: room.clone(),
             last,
         };
-        self.keeper.call(|| seat.swap(place.slot, &record))?;
+        seat.swap(place.slot, &record)?;
         books.places.remove(&name);
         books.behind.insert(name.clone(), (room.clone(), last, place.slot));
         Ok((name, Refusal::FellBehind { room, last }))
@@ -268,27 +283,10 @@ impl<'a> Directory<'a> {
         Ok(())
     }
 
-    /// Writes into the rooms' records which messages are published. A short journal drops those that all have received, and with them
-    /// their numbers.
-    pub fn record_published(&self, seat: &mut Seat<'_>) -> Result<(), Error> {
-        for room in self.all_rooms() {
-            let record = Record::Room {
-                room: room.name.clone(),
-                queue: room.queue.number(),
-                channel: room.channel.number(),
-                published: room.published(),
-            };
-            if self.board.held(room.slot)?.as_ref() != Some(&record) {
-                self.keeper.call(|| seat.swap(room.slot, &record))?;
-            }
-        }
-        Ok(())
-    }
-
     /// The members of a room, in the order of their names, and how many messages each is owed.
     pub fn members(&self, room: &Room) -> Result<Vec<(Name, u64)>, Error> {
         let books = self.lock();
-        let members = books.places.iter().filter(|(_, place)| place.room.number == room.number);
+        let members = books.places.iter().filter(|(_, place)| place.room.queue == room.queue);
         members.map(|(name, place)| Ok((name.clone(), self.board.owed(place.port)?))).collect()
     }
 
@@ -296,10 +294,10 @@ impl<'a> Directory<'a> {
     fn write(&self, books: &mut Books, seat: &mut Seat<'_>, record: Record) -> Result<MVar<Record>, Error> {
         match books.free.pop() {
             Some(slot) => {
-                self.keeper.call(|| seat.put(slot, &record))?;
+                seat.put(slot, &record)?;
                 Ok(slot)
             }
-            None => self.keeper.call(|| seat.mvar_init(record.clone())),
+            None => Ok(seat.mvar_init(record)?),
         }
     }
 
@@ -312,7 +310,6 @@ impl Books {
     pub fn add_room(&mut self, room: Room) -> Arc<Room> {
         let room = Arc::new(room);
         self.rooms.insert(room.name.clone(), room.clone());
-        self.queues.insert(room.number, room.clone());
         room
     }
 
@@ -331,8 +328,8 @@ impl Books {
         self.free.push(slot);
     }
 
-    /// Whether a member reads this port.
+    /// Whether a member reads this port, or it is a room's witness.
     pub fn is_read(&self, port: Port<Said>) -> bool {
-        self.places.values().any(|place| place.port == port)
+        self.places.values().any(|place| place.port == port) || self.rooms.values().any(|room| room.witness == port)
     }
 }

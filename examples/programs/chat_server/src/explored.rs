@@ -7,25 +7,19 @@ mod log;
 use crate::arguments::Limits;
 use crate::connection::Connections;
 use crate::directory::{Books, Directory};
-use crate::failure::Failure;
-use crate::history::History;
-use crate::keeper::{Keeper, Pace};
+use crate::keeper::Keeper;
 use crate::keeping;
 use crate::seats::Seats;
 use crate::server::Server;
-use crate::store::{note, Messages, Store};
 use client::{Client, Script, ALL_JOINED, ALL_SAID, BACK, FIRST_QUITS};
 use log::{Event, Log};
 use seryugo::explore::{self, explore, Found, Strategy};
-use seryugo::{Journal, Switchboard};
-use std::fs::{self, File};
+use seryugo::{Error, Switchboard};
+use std::env;
 use std::net::{TcpListener, TcpStream};
-use std::os::unix::fs::FileExt;
-use std::path::Path;
-use std::sync::atomic::{AtomicBool, AtomicU64, Ordering};
+use std::sync::atomic::AtomicBool;
 use std::sync::Arc;
 use std::time::{Duration, Instant};
-use std::{env, process};
 
 /// Two say something while both are in the room.
 const TOGETHER: &Script = &[
@@ -102,91 +96,37 @@ const FORGETFUL: &Script = &[
     &["/name ben", "/join kitchen", FIRST_QUITS, "no", "/leave", "/quit"],
 ];
 
-/// The store of a run: a file without sums that is never synced, from which history reads.
-struct Memory<'s> {
-    log: &'s Log,
-    history: &'s History,
-    file: &'s File,
-    bytes: u64,
-}
+/// The number of the disk, which no file of a run has.
+const DISK: u64 = 0;
 
-/// The number of the store.
-const STORE: u64 = 0;
-
-/// The journal is taken as soon as a client waits for it, and at no other time.
-const AT_ONCE: Pace = Pace {
-    gather: Duration::ZERO,
-    longest: Duration::MAX,
-};
-
-impl<'s> Memory<'s> {
-    fn new(log: &'s Log, history: &'s History, file: &'s File) -> Memory<'s> {
-        Memory {
-            log,
-            history,
-            file,
-            bytes: 0,
-        }
-    }
-}
-
-impl Store for Memory<'_> {
-    fn append(&mut self, pieces: &[Journal]) -> Result<Messages, Failure> {
-        let mut text = Vec::new();
-        for piece in pieces {
-            piece.write_to(&mut text).unwrap();
-        }
-        // Others go on while the disk is written.
-        explore::aside(STORE);
-        self.file.write_all_at(&text, self.bytes).unwrap();
-        let messages = note(self.history, self.bytes, &text).unwrap();
-        self.bytes += text.len() as u64;
-        self.log.add(Event::Keeps(String::from_utf8(text).unwrap()));
-        Ok(messages)
-    }
-
-    fn wants_look(&mut self, _: u64) -> bool {
-        false
-    }
-
-    fn replace(&mut self, _: &Journal) -> Result<(), Failure> {
-        unreachable!("the journal is never long")
-    }
+/// What stands for a sync: from then on the disk has all calls that returned before.
+fn sync(board: &Switchboard, log: &Log) -> Result<(), Error> {
+    let journal = board.take_journal()?;
+    // Others go on while the disk is written.
+    explore::aside(DISK);
+    log.add(Event::keeps(&journal));
+    Ok(())
 }
 
 /// The clients of this script, in this way.
 fn explored(way: Strategy, most: u64, script: &Script) -> Found {
     let listener = TcpListener::bind("127.0.0.1:0").unwrap();
     let socket = TcpStream::connect(listener.local_addr().unwrap()).unwrap();
-    let file = new_file();
     explore(way, most, |board: &Arc<Switchboard>| {
         let log = Log::of(script);
-        file.set_len(0).unwrap();
-        serve(board, script, &socket, &file, &log);
+        serve(board, script, &socket, &log);
         check::check(script, &log.events());
     })
 }
 
-/// A file without a name.
-fn new_file() -> File {
-    static FILES: AtomicU64 = AtomicU64::new(0);
-    let name = format!("chat_server_explored_{}_{}", process::id(), FILES.fetch_add(1, Ordering::Relaxed));
-    let path = env::temp_dir().join(name);
-    let file = File::options().read(true).write(true).create_new(true).open(&path).unwrap();
-    fs::remove_file(path).unwrap();
-    file
-}
-
-fn serve(board: &Switchboard, script: &Script, socket: &TcpStream, file: &File, log: &Log) {
+fn serve(board: &Switchboard, script: &Script, socket: &TcpStream, log: &Log) {
     let limits = Limits::default();
-    let history = History::new(Path::new("the file"), file.try_clone().unwrap());
-    let keeper = Keeper::new(board, limits.entries, limits.compact_from, AT_ONCE);
-    let directory = Directory::new(board, &keeper, Books::default(), limits.rooms, limits.members);
+    let keeper = Keeper::new(Duration::ZERO);
+    let directory = Directory::new(board, Books::default(), limits.rooms, limits.members);
     let server = Server {
         board,
         keeper: &keeper,
         directory: &directory,
-        history: &history,
         seats: Seats::new(board),
         connections: Connections::default(),
         limits,
@@ -198,8 +138,7 @@ fn serve(board: &Switchboard, script: &Script, socket: &TcpStream, file: &File, 
         run_clients(&server, script, socket, log);
         Ok(())
     };
-    let memory = Memory::new(log, &history, file);
-    keeping::run(&server, memory, &[], |failure| panic!("{failure}"), serves).unwrap();
+    keeping::run(&server, || sync(board, log), &[], |error| panic!("{error}"), serves).unwrap();
 }
 
 fn run_clients(server: &Server<'_>, script: &Script, socket: &TcpStream, log: &Log) {

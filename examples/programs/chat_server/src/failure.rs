@@ -1,23 +1,46 @@
 //! Why the server ends, and with which status.
 
 use crate::arguments::BadArguments;
+use seryugo::{Error, Switchboard};
 use std::fmt;
 use std::io::{self, Write};
-use std::path::PathBuf;
+use std::path::{Path, PathBuf};
 use std::process;
 
 /// What ends the server.
 #[derive(Debug)]
 pub enum Failure {
-    Library(seryugo::Error),
+    Library(Error),
     Words(BadArguments),
     Listen(io::Error),
-    File(PathBuf, io::Error),
+    File(PathBuf, String),
     NoJournal(PathBuf, String),
     InUse(PathBuf),
 }
 
 impl Failure {
+    /// Why this file wasn't opened.
+    pub fn of_opening(path: &Path, error: Error) -> Failure {
+        let path = path.to_owned();
+        match error {
+            Error::FileBusy => Failure::InUse(path),
+            Error::FileFailed { words, .. } => Failure::File(path, words),
+            Error::NoJournal | Error::OtherVersion | Error::OtherMessages | Error::BeginsLater => {
+                Failure::NoJournal(path, error.to_string())
+            }
+            Error::Fault(_) | Error::Unlawful(_) => Failure::NoJournal(path, error.to_string()),
+            error => Failure::Library(error),
+        }
+    }
+
+    /// Why a call of a switchboard failed that this file keeps.
+    pub fn of_call(path: &Path, board: &Switchboard, error: Error) -> Failure {
+        match (&error, board.keeping_error()) {
+            (Error::FileFull | Error::FileLost, Some(why)) => Failure::File(path.to_owned(), why.to_string()),
+            _ => Failure::Library(error),
+        }
+    }
+
     /// The exit status.
     pub fn status(&self) -> u8 {
         match self {
@@ -52,11 +75,5 @@ impl fmt::Display for Failure {
             Failure::NoJournal(path, why) => write!(f, "{} is no journal of a chat server: {why}", path.display()),
             Failure::InUse(path) => write!(f, "{}: another server has the file", path.display()),
         }
-    }
-}
-
-impl From<seryugo::Error> for Failure {
-    fn from(error: seryugo::Error) -> Failure {
-        Failure::Library(error)
     }
 }

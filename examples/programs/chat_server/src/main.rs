@@ -1,25 +1,23 @@
 //! A chat server that keeps its journal: kill it whenever you like, and the next one goes on.
 //!
-//! `docs/CHAT_SERVER.md` says how to use it. A line takes this way: `session` sends it to its room's queue, a mailbox. `keeper`
-//! takes the journal, and `store` writes it to the file. Once the disk has it, `publisher` moves the line to the room's channel.
-//! Each member has a port of the channel, from which `writer` receives the line and writes it to the client.
+//! `docs/CHAT_SERVER.md` says how to use it. A file keeps each call on the switchboard, which `opening` opens and `recovery`
+//! reads. A line takes this way: `session` sends it to its room's queue, a mailbox. `keeper` waits until the disk has it. Then
+//! `publisher` multicasts it on the room's channel. Each member has a port of the channel, from which `writer` receives the line
+//! and writes it to the client.
 
 mod arguments;
 mod connection;
-mod damage;
 mod directory;
 #[cfg(test)]
 mod explored;
 mod failure;
 mod history;
-mod journal_file;
-mod journal_text;
 mod keeper;
 mod keeping;
 mod lines;
 mod messages;
+mod opening;
 mod outbox;
-mod progress;
 mod protocol;
 mod publisher;
 mod queue;
@@ -27,7 +25,6 @@ mod recovery;
 mod seats;
 mod server;
 mod session;
-mod store;
 mod wait;
 mod writer;
 
@@ -35,12 +32,11 @@ use arguments::{Arguments, Asked, BadArguments};
 use connection::{reachable, Connections};
 use directory::Directory;
 use failure::Failure;
-use history::History;
-use journal_file::{JournalFile, Opened};
-use keeper::{Keeper, Pace};
-use recovery::Found;
+use keeper::{Keeper, GATHER};
+use recovery::Left;
 use seats::Seats;
 use server::Server;
+use seryugo::Switchboard;
 use std::ffi::OsString;
 use std::io::{self, Write};
 use std::net::{TcpListener, TcpStream};
@@ -48,7 +44,6 @@ use std::process::ExitCode;
 use std::sync::atomic::{AtomicBool, Ordering};
 use std::time::Duration;
 use std::{env, thread};
-use store::Disk;
 
 fn main() -> ExitCode {
     match run() {
@@ -85,36 +80,26 @@ fn print(text: &str) {
 
 fn serve(arguments: &Arguments) -> Result<(), Failure> {
     let path = &arguments.journal;
-    let no_journal = |why: recovery::Foreign| Failure::NoJournal(path.clone(), why.to_string());
-    let (opened, board) = JournalFile::open(path, arguments.limits.entries)?;
-    let found = Found::on(&board).map_err(no_journal)?;
-    let history = History::new(path, opened.reader()?);
-    note_all(&history, &opened).map_err(|error| history.start_failure(error))?;
-    let (books, strays) = found.books(&board, &history).map_err(no_journal)?;
-    // The port is bound before the file is changed.
+    let (board, left) = opening::open(path, arguments.limits.compact_from)?;
+    serve_on(&board, left, arguments)?;
+    board.close().map_err(|error| Failure::File(path.clone(), error.to_string()))
+}
+
+fn serve_on(board: &Switchboard, left: Left, arguments: &Arguments) -> Result<(), Failure> {
     let listener = TcpListener::bind(arguments.listen).map_err(Failure::Listen)?;
-    let file = opened.go_on()?;
-    let keeper = Keeper::new(&board, arguments.limits.entries, arguments.limits.compact_from, Pace::default());
-    let directory = Directory::new(&board, &keeper, books, arguments.limits.rooms, arguments.limits.members);
+    let keeper = Keeper::new(GATHER);
+    let directory = Directory::new(board, left.books, arguments.limits.rooms, arguments.limits.members);
     let server = Server {
-        board: &board,
+        board,
         keeper: &keeper,
         directory: &directory,
-        history: &history,
-        seats: Seats::new(&board),
+        seats: Seats::new(board),
         connections: Connections::default(),
         limits: arguments.limits,
         is_ending: AtomicBool::new(false),
     };
-    let disk = Disk {
-        file,
-        history: &history,
-    };
-    keeping::run(&server, disk, &strays, |failure| failure.end(), || serve_clients(&server, &listener))
-}
-
-fn note_all(history: &History, opened: &Opened) -> io::Result<()> {
-    history.note(0, opened.text()?, |_, _| Ok(()))
+    let fails = |error| Failure::of_call(&arguments.journal, board, error).end();
+    keeping::run(&server, || board.sync(), &left.strays, fails, || serve_clients(&server, &listener))
 }
 
 /// Serves clients until the server is to end.

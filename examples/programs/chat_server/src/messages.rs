@@ -47,18 +47,30 @@ impl fmt::Display for Said {
 pub enum Record {
     /// The first object's, by which a chat server knows its journal.
     Chat,
-    /// What is said in the room goes into the mailbox `queue` first, and once it is kept, on the channel. All messages up to the
-    /// number `published` went on the channel.
-    Room {
-        room: Name,
-        queue: u64,
-        channel: u64,
-        published: u64,
-    },
+    Room(RoomRecord),
     /// What the member hasn't received is owed to the port.
-    Member { name: Name, room: Name, port: u64 },
+    Member {
+        name: Name,
+        room: Name,
+        port: u64,
+    },
     /// The member lost its place after the message of this number, and doesn't know yet.
-    Behind { name: Name, room: Name, last: u64 },
+    Behind {
+        name: Name,
+        room: Name,
+        last: u64,
+    },
+}
+
+/// What is said in the room goes into the mailbox `queue` first, and once it is kept, on the channel. All messages up to the
+/// number `published` went on the channel before the port `witness` was made, which earlier servers didn't have.
+#[derive(Clone, Debug, PartialEq, Eq)]
+pub struct RoomRecord {
+    pub room: Name,
+    pub queue: u64,
+    pub channel: u64,
+    pub published: u64,
+    pub witness: Option<u64>,
 }
 
 impl Message for Record {
@@ -70,12 +82,7 @@ impl Message for Record {
         let words: Vec<&str> = std::str::from_utf8(bytes).ok()?.split(' ').collect();
         match words[..] {
             ["chat", "2"] => Some(Record::Chat),
-            ["room", room, "queue", queue, "channel", channel, "published", published] => Some(Record::Room {
-                room: Name::new(room)?,
-                queue: queue.parse().ok()?,
-                channel: channel.parse().ok()?,
-                published: published.parse().ok()?,
-            }),
+            ["room", ref words @ ..] => RoomRecord::of_words(words).map(Record::Room),
             ["member", name, "of", room, "reads", port] => Some(Record::Member {
                 name: Name::new(name)?,
                 room: Name::new(room)?,
@@ -91,18 +98,38 @@ impl Message for Record {
     }
 }
 
+impl RoomRecord {
+    fn of_words(words: &[&str]) -> Option<RoomRecord> {
+        let (words, witness) = match words {
+            [words @ .., "witness", port] => (words, Some(port.parse().ok()?)),
+            words => (words, None),
+        };
+        let [room, "queue", queue, "channel", channel, "published", published] = words else {
+            return None;
+        };
+        Some(RoomRecord {
+            room: Name::new(room)?,
+            queue: queue.parse().ok()?,
+            channel: channel.parse().ok()?,
+            published: published.parse().ok()?,
+            witness,
+        })
+    }
+}
+
+impl fmt::Display for RoomRecord {
+    fn fmt(&self, f: &mut fmt::Formatter<'_>) -> fmt::Result {
+        let (room, queue, channel, published) = (&self.room, self.queue, self.channel, self.published);
+        write!(f, "room {room} queue {queue} channel {channel} published {published}")?;
+        self.witness.map_or(Ok(()), |port| write!(f, " witness {port}"))
+    }
+}
+
 impl fmt::Display for Record {
     fn fmt(&self, f: &mut fmt::Formatter<'_>) -> fmt::Result {
         match self {
             Record::Chat => f.write_str("chat 2"),
-            Record::Room {
-                room,
-                queue,
-                channel,
-                published,
-            } => {
-                write!(f, "room {room} queue {queue} channel {channel} published {published}")
-            }
+            Record::Room(record) => record.fmt(f),
             Record::Member { name, room, port } => write!(f, "member {name} of {room} reads {port}"),
             Record::Behind { name, room, last } => write!(f, "behind {name} of {room} at {last}"),
         }
@@ -152,12 +179,20 @@ mod tests {
         let (ann, kitchen) = (name("ann"), name("kitchen"));
         let records = [
             Record::Chat,
-            Record::Room {
+            Record::Room(RoomRecord {
                 room: kitchen.clone(),
                 queue: 4,
                 channel: 5,
                 published: 345,
-            },
+                witness: None,
+            }),
+            Record::Room(RoomRecord {
+                room: kitchen.clone(),
+                queue: 4,
+                channel: 5,
+                published: 0,
+                witness: Some(6),
+            }),
             Record::Member {
                 name: ann.clone(),
                 room: kitchen.clone(),
@@ -177,6 +212,8 @@ mod tests {
             "room kitchen",
             "room kitchen queue 4 channel 5",
             "room kitchen queue x channel 5 published 0",
+            "room kitchen queue 4 channel 5 published 0 witness",
+            "room kitchen queue 4 channel 5 published 0 witness 6 7",
             "chat 1",
             "member ann of kitchen reads 9 ",
             "5",

@@ -1,6 +1,6 @@
 //! The messages that are kept, on their way from the keeper to the publisher.
 
-use crate::store::Messages;
+use crate::keeper::Messages;
 use seryugo::explore::{Condition, Guard, Lock};
 use std::collections::VecDeque;
 

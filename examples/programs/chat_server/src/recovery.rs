@@ -1,12 +1,13 @@
 //! What a server does with the switchboard that an earlier one left, before it listens.
 
-use crate::directory::{Books, Directory, Objects, Room};
-use crate::failure::Failure;
+use crate::directory::{Books, Objects, Room};
 use crate::history::History;
-use crate::keeper::Keeper;
-use crate::messages::{Record, Said};
-use seryugo::{Error, MVar, Object, Port, Seat, Switchboard};
+use crate::messages::{Record, RoomRecord, Said};
+use crate::server::Server;
+use seryugo::{Call, Channel, Error, MVar, Message, Object, Port, Seat, Switchboard};
+use std::collections::{HashMap, VecDeque};
 use std::fmt;
+use std::sync::Arc;
 
 /// Why the switchboard isn't one of a chat server.
 #[derive(Debug)]
@@ -15,6 +16,8 @@ pub enum Foreign {
     NoChat,
     /// This record can't be read, or names what isn't there.
     BadRecord(u64),
+    /// A message can't be read, or one before it is missing.
+    BadMessage,
     Failed(Error),
 }
 
@@ -23,6 +26,7 @@ impl fmt::Display for Foreign {
         match self {
             Foreign::NoChat => f.write_str("its first object isn't the record of a chat server"),
             Foreign::BadRecord(number) => write!(f, "object {number} is no record of a chat server"),
+            Foreign::BadMessage => f.write_str("a message of the journal is not a line that was said"),
             Foreign::Failed(error) => error.fmt(f),
         }
     }
@@ -34,9 +38,44 @@ impl From<Error> for Foreign {
     }
 }
 
+/// What an earlier server left.
+#[derive(Default)]
+pub struct Left {
+    pub books: Books,
+    /// The ports to close: a server was killed between two calls, and no member reads them.
+    pub strays: Vec<Port<Said>>,
+}
+
+impl Left {
+    /// Reads all objects of the switchboard. A room of a server that had no witnesses gets one.
+    pub fn on(board: &Switchboard) -> Result<Left, Foreign> {
+        let found = Found::on(board)?;
+        let mut reader = Reader {
+            board,
+            seat: board.seat()?,
+            messages: Messages::on(board)?,
+            books: Books::default(),
+        };
+        // Rooms come before their members, since the first member makes the room.
+        for (slot, record) in found.records {
+            let number = slot.number();
+            reader.add(slot, record)?.ok_or(Foreign::BadRecord(number))?;
+        }
+        let mut books = reader.books;
+        found.free.into_iter().for_each(|slot| books.add_free(slot));
+        let mut strays = Vec::new();
+        for port in found.ports {
+            if board.is_open(port)? && !books.is_read(port) {
+                strays.push(port);
+            }
+        }
+        Ok(Left { books, strays })
+    }
+}
+
 /// The objects that an earlier server left.
 #[derive(Default)]
-pub struct Found {
+struct Found {
     records: Vec<(MVar<Record>, Record)>,
     free: Vec<MVar<Record>>,
     ports: Vec<Port<Said>>,
@@ -44,13 +83,13 @@ pub struct Found {
 
 impl Found {
     /// Looks at all objects of the switchboard.
-    pub fn on(board: &Switchboard) -> Result<Found, Foreign> {
+    fn on(board: &Switchboard) -> Result<Found, Foreign> {
         let mut found = Found::default();
         for number in 0.. {
             match board.mvar::<Record>(number) {
                 Ok(slot) => found.add_slot(board, slot)?,
                 Err(Error::NoSuch(_)) => break,
-                Err(Error::WrongKind(_)) => found.add_port(board, number),
+                Err(Error::WrongKind(_)) => found.ports.extend(board.port(number).ok()),
                 Err(error) => return Err(error.into()),
             }
         }
@@ -71,105 +110,129 @@ impl Found {
         }
         Ok(())
     }
+}
 
-    /// Adds the object of this number, if it is a port.
-    fn add_port(&mut self, board: &Switchboard, number: u64) {
-        if let Ok(port) = board.port(number) {
-            self.ports.push(port);
-        }
-    }
+/// The messages that the switchboard still has.
+#[derive(Default)]
+struct Messages {
+    /// Those of each queue.
+    queued: HashMap<u64, VecDeque<Arc<Said>>>,
+    /// The number of the last one on each channel.
+    published: HashMap<u64, u64>,
+}
 
-    /// The directory's books. Also the ports to close: a server was killed between two calls, and no member reads them.
-    pub fn books(self, board: &Switchboard, history: &History) -> Result<(Books, Vec<Port<Said>>), Foreign> {
-        let mut books = Books::default();
-        // Rooms come before their members, since the first member makes the room.
-        for (slot, record) in self.records {
-            let number = slot.number();
-            add(&mut books, board, history, slot, record)?.ok_or(Foreign::BadRecord(number))?;
-        }
-        self.free.into_iter().for_each(|slot| books.add_free(slot));
-        let mut strays = Vec::new();
-        for port in self.ports {
-            if board.is_open(port)? && !books.is_read(port) {
-                strays.push(port);
+impl Messages {
+    /// Finds them in a short journal: nobody can look into a mailbox, and leave all there.
+    fn on(board: &Switchboard) -> Result<Messages, Foreign> {
+        let mut messages = Messages::default();
+        for entry in board.compact()?.iter() {
+            match entry.call {
+                Call::Send(queue, said) => messages.queued.entry(queue).or_default().push_back(Arc::new(read(&said)?)),
+                Call::Multicast(channel, said) => drop(messages.published.insert(channel, read(&said)?.number)),
+                _ => {}
             }
         }
-        Ok((books, strays))
+        Ok(messages)
     }
 }
 
-/// Adds a record. Returns `None` if it names an object of another kind, or a room that isn't there.
-fn add(
-    books: &mut Books,
-    board: &Switchboard,
-    history: &History,
-    slot: MVar<Record>,
-    record: Record,
-) -> Result<Option<()>, Foreign> {
-    match record {
-        Record::Chat => Ok(Some(())),
-        Record::Room {
-            room,
+fn read(said: &[u8]) -> Result<Said, Foreign> {
+    Said::from_bytes(said).ok_or(Foreign::BadMessage)
+}
+
+/// Reads records into books.
+struct Reader<'a> {
+    board: &'a Switchboard,
+    seat: Seat<'a>,
+    messages: Messages,
+    books: Books,
+}
+
+impl Reader<'_> {
+    /// Adds a record. Returns `None` if it names an object of another kind, or a room that isn't there.
+    fn add(&mut self, slot: MVar<Record>, record: Record) -> Result<Option<()>, Foreign> {
+        match record {
+            Record::Chat => Ok(Some(())),
+            Record::Room(record) => self.add_room(slot, record),
+            Record::Member { name, room, port } => match self.board.port(port) {
+                Ok(port) => Ok(self.books.add_member(name, &room, port, slot)),
+                Err(_) => Ok(None),
+            },
+            Record::Behind { name, room, last } => {
+                self.books.add_behind(name, room, last, slot);
+                Ok(Some(()))
+            }
+        }
+    }
+
+    fn add_room(&mut self, slot: MVar<Record>, record: RoomRecord) -> Result<Option<()>, Foreign> {
+        let (Ok(queue), Ok(channel)) = (self.board.mailbox(record.queue), self.board.channel(record.channel)) else {
+            return Ok(None);
+        };
+        let queued = self.messages.queued.remove(&record.queue).unwrap_or_default();
+        let history = History::of(queued).ok_or(Foreign::BadMessage)?;
+        let counted = self.board.sent(channel)?;
+        let published = self.published(&record, counted, history.first());
+        if history.first().is_some() && published > history.last() {
+            return Ok(None);
+        }
+        let name = record.room.clone();
+        let Some(witness) = self.witness(slot, RoomRecord { published, ..record }, channel)? else {
+            return Ok(None);
+        };
+        let objects = Objects {
             queue,
             channel,
-            published,
-        } => {
-            let (Ok(queue), Ok(channel)) = (board.mailbox(queue), board.channel(channel)) else {
-                return Ok(None);
-            };
-            // A short journal has only the messages on the channel that a member hasn't received.
-            let published = published.max(history.published(channel.number()));
-            let last = history.kept(queue.number());
-            let objects = Objects { queue, channel, slot };
-            let room = Room::new(room, objects, last, published, board.sent(channel)?);
-            Ok(room.map(|room| drop(books.add_room(room))))
-        }
-        Record::Member { name, room, port } => match board.port(port) {
-            Ok(port) => Ok(books.add_member(name, &room, port, slot)),
-            Err(_) => Ok(None),
-        },
-        Record::Behind { name, room, last } => {
-            books.add_behind(name, room, last, slot);
-            Ok(Some(()))
+            witness,
+        };
+        self.books.add_room(Room::new(name, objects, history, published, counted));
+        Ok(Some(()))
+    }
+
+    /// The number of the last message that was published. If the room has no witness yet, some may have been that are after it:
+    /// they are published again.
+    fn published(&self, record: &RoomRecord, counted: u64, first: Option<u64>) -> u64 {
+        let on_channel = self.messages.published.get(&record.channel).copied().unwrap_or(0);
+        // What the queue no longer has was published.
+        let forgotten = first.unwrap_or(0).saturating_sub(1);
+        record.published.max(counted).max(on_channel).max(forgotten)
+    }
+
+    /// The room's witness: an open port of the channel. If the record has none, makes one.
+    fn witness(
+        &mut self,
+        slot: MVar<Record>,
+        record: RoomRecord,
+        channel: Channel<Said>,
+    ) -> Result<Option<Port<Said>>, Error> {
+        let Some(number) = record.witness else {
+            let made = self.seat.port(channel)?;
+            let witness = Some(made.number());
+            self.seat.swap(slot, Record::Room(RoomRecord { witness, ..record }))?;
+            return Ok(Some(made));
+        };
+        match self.board.port(number) {
+            Ok(port) if self.board.channel_of(port)? == channel && self.board.is_open(port)? => Ok(Some(port)),
+            _ => Ok(None),
         }
     }
 }
 
-/// What is needed to finish what an earlier server began.
-pub struct Mending<'s, 'a> {
-    pub board: &'a Switchboard,
-    pub keeper: &'s Keeper<'a>,
-    pub directory: &'s Directory<'a>,
-    pub history: &'s History,
-}
-
-impl Mending<'_, '_> {
-    /// Closes the ports that no member reads, notes who fell behind, and publishes what is kept.
-    ///
-    /// Errors: a call of the library fails, or the file can't be read.
-    pub fn run(&self, seat: &mut Seat<'_>, strays: &[Port<Said>]) -> Result<(), Failure> {
-        if self.board.entries() == 0 {
-            self.keeper.call(|| seat.mvar_init(Record::Chat))?;
-        }
-        for port in strays {
-            self.keeper.call(|| seat.close(*port))?;
-        }
-        self.directory.note_closed(seat)?;
-        self.directory.all_rooms().iter().try_for_each(|room| self.publish(seat, room))
+/// Finishes what an earlier server began: closes the ports that no member reads, notes who fell behind, and publishes what is kept.
+pub fn mend(server: &Server<'_>, strays: &[Port<Said>]) -> Result<(), Error> {
+    let (board, directory) = (server.board, server.directory);
+    let mut seat = board.seat()?;
+    if board.entries() == 0 {
+        seat.mvar_init(Record::Chat)?;
     }
-
-    /// Publishes what was said in a room and not published. All of it is kept, since the file has it.
-    fn publish(&self, seat: &mut Seat<'_>, room: &Room) -> Result<(), Failure> {
-        let mut unpublished = Vec::new();
-        let read = self.history.read(room.number, room.published() + 1, u64::MAX, |said| {
-            unpublished.push(said);
-            Ok(())
-        });
-        read.map_err(|error| self.history.failure(error))?;
-        for said in unpublished {
-            self.keeper.call(|| seat.multicast(room.channel, &said))?;
-            room.set_published(said.number);
-        }
-        Ok(())
+    for port in strays {
+        seat.close(*port)?;
     }
+    directory.note_closed(&mut seat)?;
+    for room in directory.all_rooms() {
+        let unpublished = room.unpublished();
+        unpublished.iter().try_for_each(|said| room.publish(board, &mut seat, said))?;
+    }
+    server.keeper.keep_all();
+    Ok(())
 }

@@ -3,7 +3,6 @@
 use crate::arguments::Limits;
 use crate::connection::{Connection, Connections};
 use crate::directory::Directory;
-use crate::history::History;
 use crate::keeper::Keeper;
 use crate::protocol::Refusal;
 use crate::seats::Seats;
@@ -21,9 +20,8 @@ const PAUSE: Duration = Duration::from_millis(50);
 
 pub struct Server<'a> {
     pub board: &'a Switchboard,
-    pub keeper: &'a Keeper<'a>,
+    pub keeper: &'a Keeper,
     pub directory: &'a Directory<'a>,
-    pub history: &'a History,
     pub seats: Seats<'a>,
     pub connections: Connections,
     pub limits: Limits,

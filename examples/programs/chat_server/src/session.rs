@@ -24,7 +24,6 @@ const PROBES: u32 = 20;
 enum Trouble {
     Refused(Refusal),
     Failed(Error),
-    File(io::Error),
     Ended,
 }
 
@@ -37,12 +36,6 @@ impl From<Refusal> for Trouble {
 impl From<Error> for Trouble {
     fn from(error: Error) -> Trouble {
         Trouble::Failed(error)
-    }
-}
-
-impl From<io::Error> for Trouble {
-    fn from(error: io::Error) -> Trouble {
-        Trouble::File(error)
     }
 }
 
@@ -104,10 +97,10 @@ impl<'s, 'a> Session<'s, 'a> {
             Ok(()) | Err(Trouble::Ended) => {}
             // If the connection has ended, the loop that reads ends too.
             Err(Trouble::Refused(refusal)) => drop(outbox.push(refusal)),
-            Err(Trouble::File(error)) => {
-                drop(outbox.push(format_args!("error failed: the journal can't be read: {error}")))
+            Err(Trouble::Failed(error)) => {
+                self.server.keeper.note_failure(&error);
+                outbox.end(format_args!("error failed: {error}"));
             }
-            Err(Trouble::Failed(error)) => outbox.end(format_args!("error failed: {error}")),
         }
     }
 
@@ -140,15 +133,14 @@ impl<'s, 'a> Session<'s, 'a> {
         let name = self.named()?.clone();
         self.connection.outbox.note_said()?;
         let mut last = room.numbering();
-        let said = Said {
+        let said = Arc::new(Said {
             number: *last + 1,
             name,
             text: text.to_owned(),
-        };
-        self.server.keeper.call(|| self.seat.send(room.queue, &said))?;
+        });
+        self.seat.send(room.queue, &*said).map_err(Error::from)?;
         *last = said.number;
-        drop(last);
-        self.server.keeper.want();
+        self.server.keeper.add(room.clone(), said);
         Ok(())
     }
 
@@ -187,14 +179,11 @@ impl<'s, 'a> Session<'s, 'a> {
         let received = place.received(board)?;
         let seen = seen.unwrap_or(received.saturating_sub(1)).max(place.start(board)?).min(last);
         self.server.keeper.keep_all();
-        let past = self.server.history.past(place.room.number, seen + 1);
-        let kept_from = past.as_ref().map_or(u64::MAX, |past| past.first);
-        let seen = seen.max(received.min(kept_from - 1));
+        let past = place.room.history.between(seen + 1, received);
+        let seen = past.first().map_or(seen.max(received), |first| first.number - 1);
         let outbox = &self.connection.outbox;
         outbox.push(format_args!("hello {name} room {} next {} last {last}", place.room.name, seen + 1))?;
-        if let Some(past) = past {
-            past.read(received, |said| outbox.push(format_args!("{} {said}", said.number)).map_err(Trouble::from))?;
-        }
+        past.iter().try_for_each(|said| outbox.push(format_args!("{} {said}", said.number)))?;
         outbox.set_stream(Some(Stream {
             port: place.port,
             seen,
@@ -249,15 +238,14 @@ impl<'s, 'a> Session<'s, 'a> {
 
     fn tell_history(&self, wanted: Wanted) -> Result<(), Trouble> {
         let room = &self.placed()?.room;
-        let (history, outbox) = (&self.server.history, &self.connection.outbox);
-        let last = history.kept(room.number);
+        let outbox = &self.connection.outbox;
+        let last = room.history.last();
         let (from, to) = match wanted {
             Wanted::Last(count) => (last.saturating_sub(count) + 1, last),
             Wanted::Between(from, to) => (from, to),
         };
-        history.read(room.number, from, to, |said| {
-            outbox.push(format_args!("history {} {said}", said.number)).map_err(Trouble::from)
-        })?;
+        let found = room.history.between(from, to);
+        found.iter().try_for_each(|said| outbox.push(format_args!("history {} {said}", said.number)))?;
         Ok(outbox.push(format_args!("end of history of {} last {last}", room.name))?)
     }
 

@@ -34,13 +34,13 @@ pub fn run(server: &Server<'_>, connection: &Connection, seat: &mut Seat<'_>) {
 pub fn write_to(output: impl Write, server: &Server<'_>, connection: &Connection, seat: &mut Seat<'_>) {
     connection.outbox.set_writer(thread::current());
     let mut writer = Writer {
-        server,
         connection,
         output,
         waiter: Waiter::new(),
         line: Vec::new(),
     };
     if let Err(Trouble::Failed(error)) = writer.run(seat) {
+        server.keeper.note_failure(&error);
         connection.outbox.end(format_args!("error failed: {error}"));
         // Without the last line, there is nothing left to do for this client.
         let _ = writer.write(&connection.outbox.take().text);
@@ -48,15 +48,14 @@ pub fn write_to(output: impl Write, server: &Server<'_>, connection: &Connection
     connection.outbox.cut();
 }
 
-struct Writer<'s, 'a, W> {
-    server: &'s Server<'a>,
+struct Writer<'s, W> {
     connection: &'s Connection,
     output: W,
     waiter: Waiter,
     line: Vec<u8>,
 }
 
-impl<W: Write> Writer<'_, '_, W> {
+impl<W: Write> Writer<'_, W> {
     fn run(&mut self, seat: &mut Seat<'_>) -> Result<(), Trouble> {
         loop {
             let due = self.connection.outbox.take();
@@ -90,17 +89,7 @@ impl<W: Write> Writer<'_, '_, W> {
 
     /// The next message of the port, `Some(None)` if it is closed, or `None` if the outbox has changed before one came.
     fn receive(&self, seat: &mut Seat<'_>, stream: Stream) -> Result<Option<Option<Said>>, Error> {
-        loop {
-            let receive = self.server.keeper.polled(seat.recv_async(stream.port));
-            match self.waiter.wait(receive, || self.connection.outbox.is_changed()) {
-                None => return Ok(None),
-                Some(Err(Error::JournalFull)) => self.server.keeper.make_room()?,
-                Some(received) => {
-                    self.server.keeper.count_call()?;
-                    return received.map(Some);
-                }
-            }
-        }
+        self.waiter.wait(seat.recv_async(stream.port), || self.connection.outbox.is_changed()).transpose()
     }
 
     fn hand_over(&mut self, said: &Said, stream: Stream, own: Option<&Name>) -> Result<(), Trouble> {

@@ -3,18 +3,11 @@
 use super::client::{said, Script};
 use super::log::Event;
 use crate::directory::Directory;
-use crate::history::{said as said_by, History};
-use crate::journal_text::{line, Line};
-use crate::keeper::{Keeper, Pace};
-use crate::recovery::Found;
-use crate::store::note;
+use crate::recovery::Left;
 use seryugo::Switchboard;
-use std::fs::File;
-use std::path::Path;
 
 pub fn check(script: &Script, log: &[Event]) {
-    let text = text(log);
-    let all = messages(&text);
+    let all = messages(log);
     assert_eq!(all.len(), said(script), "all that is said is kept once");
     for (client, lines) in script.iter().enumerate() {
         let name = lines[0].strip_prefix("/name ").unwrap();
@@ -25,25 +18,25 @@ pub fn check(script: &Script, log: &[Event]) {
         assert_eq!(own.len(), said(&[lines]), "all that {name} says is kept");
         assert!(own.into_iter().all(got), "{name} gets what it says");
     }
-    check_left(&text);
+    check_left(&text(log));
 }
 
 /// The text that these events keep.
 fn text(log: &[Event]) -> String {
     let kept = |event: &Event| match event {
-        Event::Keeps(text) => Some(text.clone()),
-        _ => None,
+        Event::Keeps(text, _) => text.clone(),
+        _ => String::new(),
     };
-    log.iter().filter_map(kept).collect()
+    log.iter().map(kept).collect()
 }
 
-/// The messages of a journal, as clients get them.
-fn messages(text: &str) -> Vec<String> {
-    let sent = |text: &str| match line(text.as_bytes()) {
-        Some(Line::Send(_, word)) => said_by(word).ok(),
-        _ => None,
+/// The messages that these events keep, as clients get them.
+fn messages(log: &[Event]) -> Vec<String> {
+    let kept = |event: &Event| match event {
+        Event::Keeps(_, said) => said.clone(),
+        _ => Vec::new(),
     };
-    text.lines().filter_map(sent).map(|said| format!("{} {said}", said.number)).collect()
+    log.iter().flat_map(kept).collect()
 }
 
 /// The client gets each message from its first one on once and in order, and what it gets is kept before. If it comes back and
@@ -61,7 +54,7 @@ fn check_lines(log: &[Event], client: usize, name: &str, all: &[String]) {
                 member.forgets = line.split(' ').count() == 2;
             }
             Event::Says(_, line) if !line.starts_with('/') => member.may_see(line),
-            Event::Gets(who, line) if *who == client => member.gets(line, &text(&log[..at])),
+            Event::Gets(who, line) if *who == client => member.gets(line, &log[..at]),
             _ => (),
         }
     }
@@ -87,9 +80,9 @@ impl Member<'_> {
         assert!(self.next.is_none_or(|next| number >= next), "{line:?} is said once {} has joined", self.name);
     }
 
-    /// It gets this line, before which this text is kept.
-    fn gets(&mut self, line: &str, kept: &str) {
-        let name = self.name;
+    /// It gets this line, after these events.
+    fn gets(&mut self, line: &str, before: &[Event]) {
+        let (name, kept) = (self.name, text(before));
         let record = format!("=member%20{name}%20of%20kitchen%20");
         let has = |call: &str| kept.lines().any(|line| line.contains(call) && line.contains(&record));
         match line.split(' ').collect::<Vec<_>>()[..] {
@@ -108,7 +101,7 @@ impl Member<'_> {
             _ => {
                 let number = self.next.unwrap();
                 assert_eq!(Some(line), self.all.get(number - 1).map(String::as_str), "{name} gets message {number}");
-                assert!(messages(kept).iter().any(|kept| kept == line), "{line:?} is kept");
+                assert!(messages(before).iter().any(|kept| kept == line), "{line:?} is kept");
                 self.next = Some(number + 1);
             }
         }
@@ -118,13 +111,9 @@ impl Member<'_> {
 /// The next server finds the room, and nobody in it.
 fn check_left(text: &str) {
     let (board, _) = Switchboard::restore_torn(text.as_bytes(), 1_000).unwrap();
-    let nothing = Path::new("/dev/null");
-    let history = History::new(nothing, File::open(nothing).unwrap());
-    note(&history, 0, text.as_bytes()).unwrap();
-    let (books, strays) = Found::on(&board).unwrap().books(&board, &history).unwrap();
-    assert!(strays.is_empty(), "{strays:?}");
-    let keeper = Keeper::new(&board, 1_000, 1_000, Pace::default());
-    let directory = Directory::new(&board, &keeper, books, 1, 1);
+    let left = Left::on(&board).unwrap();
+    assert!(left.strays.is_empty(), "{:?}", left.strays);
+    let directory = Directory::new(&board, left.books, 1, 1);
     let rooms = directory.all_rooms();
     assert_eq!(rooms.iter().map(|room| room.name.as_str()).collect::<Vec<_>>(), ["kitchen"]);
     assert!(directory.members(&rooms[0]).unwrap().is_empty());

@@ -1,7 +1,9 @@
 //! What happens in a run.
 
 use super::client::Script;
+use crate::messages::Said;
 use seryugo::explore::{Condition, Lock};
+use seryugo::{Call, Entry, Journal, Message};
 use std::sync::{Mutex, MutexGuard};
 
 #[derive(Clone, Debug, PartialEq)]
@@ -12,8 +14,8 @@ pub enum Event {
     Did(usize, String),
     /// It gets a line.
     Gets(usize, String),
-    /// This text of the journal is kept.
-    Keeps(String),
+    /// This text of the journal is kept, with these messages, as clients get them.
+    Keeps(String, Vec<String>),
 }
 
 /// The events, in their order.
@@ -56,6 +58,18 @@ impl Log {
 }
 
 impl Event {
+    /// This part of the journal is kept.
+    pub fn keeps(journal: &Journal) -> Event {
+        let mut text = Vec::new();
+        journal.write_to(&mut text).unwrap();
+        let sent = |entry: Entry| match entry.call {
+            Call::Send(_, bytes) => Said::from_bytes(&bytes),
+            _ => None,
+        };
+        let said = journal.iter().filter_map(sent).map(|said| format!("{} {said}", said.number));
+        Event::Keeps(String::from_utf8(text).unwrap(), said.collect())
+    }
+
     /// The line that this client gets by it.
     pub fn got_by(&self, client: usize) -> Option<&str> {
         match self {

@@ -1,0 +1,46 @@
+//! The journal's file is opened, and what an earlier server left is found in it.
+
+use crate::failure::Failure;
+use crate::recovery::Left;
+use seryugo::{JournalFile, Switchboard};
+use std::fs::File;
+use std::io::{self, BufReader, Write};
+use std::path::Path;
+
+/// How many entries a copy of the switchboard takes: those by which a room of an earlier server gets its witness.
+const COPY_LIMIT: u64 = 1 << 32;
+
+/// Opens the switchboard that the file keeps. Returns it with what an earlier server left.
+pub fn open(path: &Path, compact_from: u64) -> Result<(Switchboard, Left), Failure> {
+    refuse_foreign(path)?;
+    let board = options(compact_from).open(path).map_err(|error| Failure::of_opening(path, error))?;
+    if let Some(saved) = board.recovered().and_then(|found| found.saved.as_deref()) {
+        tell_saved(path, saved);
+    }
+    let left = Left::on(&board).map_err(|why| Failure::NoJournal(path.to_owned(), why.to_string()))?;
+    Ok((board, left))
+}
+
+/// A start makes the file short if it has at least `compact_from` bytes, and four times those of its short form.
+fn options(_compact_from: u64) -> JournalFile {
+    // `.short_from(compact_from)` comes here, once the library has that option.
+    JournalFile::new()
+}
+
+/// Refuses the journal of another program before it is opened, which may change it. What else is wrong with a file, its opening
+/// says.
+fn refuse_foreign(path: &Path) -> Result<(), Failure> {
+    // To open a pipe could wait for ever.
+    let file = if path.is_file() { File::open(path).ok() } else { None };
+    let copy = file.and_then(|file| Switchboard::restore_torn(BufReader::new(file), COPY_LIMIT).ok());
+    match copy.map(|(board, _)| Left::on(&board)) {
+        Some(Err(why)) => Err(Failure::NoJournal(path.to_owned(), why.to_string())),
+        _ => Ok(()),
+    }
+}
+
+/// Says on standard error where the file's end is now. If that can't be written, the server goes on all the same.
+fn tell_saved(path: &Path, saved: &Path) {
+    let (path, saved) = (path.display(), saved.display());
+    let _ = writeln!(io::stderr(), "chat_server: {path}: what came after its last whole line is in {saved}");
+}
