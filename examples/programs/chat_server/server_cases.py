@@ -18,15 +18,32 @@ sys.path.insert(0, str(FOLDER.parents[2] / "tests/lib"))
 from cases import TOP, Cases, wait_until  # noqa: E402
 
 
-def sealed(*lines):
-    """A journal of one piece with these entries, in lines."""
-    text = "".join(f"{line}\n" for line in ("journal 4", *lines))
-    return f"{text}end {len(lines)} {hashlib.sha256(text.encode()).hexdigest()}\n"
+def sealed(*lines, then=()):
+    """A journal with sums, in lines: a piece of these entries, and one more if others come then."""
+    text, done = "", 0
+    after = ""
+    for entries in filter(None, (lines, then)):
+        head = [f"journal 4{after}"] + [f"from {done}"] * (done > 0)
+        piece = "".join(f"{line}\n" for line in (*head, *entries))
+        done += len(entries)
+        after = f" {hashlib.sha256(piece.encode()).hexdigest()}"
+        text += f"{piece}end {done}{after}\n"
+    return text
 
 
-def last_words(path):
-    """The words of a journal's last line: `end`, how many entries there are, and the last sum."""
-    return path.read_text().splitlines()[-1].split()
+def text_of(path):
+    """A journal's text: the whole lines of a file up to its first byte 0."""
+    text, line_end, _ = path.read_bytes().partition(b"\0")[0].rpartition(b"\n")
+    return text + line_end
+
+
+def leave_torn(path, torn):
+    """Has a file end as a killed server may leave it: after its whole lines with this."""
+    length = len(text_of(path))
+    with open(path, "r+b") as journal:
+        journal.truncate(length)
+        journal.seek(length)
+        journal.write(torn)
 
 
 class Client:
@@ -81,6 +98,8 @@ class ServerCases(Cases):
     """The server that runs."""
     address = None
     """Where it listens: the next one listens there too."""
+    seen = None
+    """Where the test reads the journal, if the server has another file system."""
 
     @classmethod
     def setUpClass(cls):
@@ -128,8 +147,7 @@ class ServerCases(Cases):
         return cls.work / "target/release"
 
     def launch(self, *options, stdin=subprocess.DEVNULL, wrapper=()):
-        """Starts the server on the journal, where the last one listened, and waits until it
-        listens.
+        """Starts the server on the journal, where the last one listened.
 
         The first one gets a port below those that the system gives to clients: a client that tries
         again and again could get the server's port.
@@ -137,6 +155,9 @@ class ServerCases(Cases):
         listen = self.address or f"127.0.0.1:{random.randrange(10000, 30000)}"
         words = [*wrapper, self.program, "--listen", listen, "--journal", self.journal, *options]
         self.server = self.start(*words, stdin=stdin)
+
+    def listens(self):
+        """Waits until the server listens or ends, and returns whether it listens."""
         wait_until(
             "the server listens or ends", lambda: self.server.said() or not self.server.runs()
         )
@@ -149,22 +170,18 @@ class ServerCases(Cases):
         """A case: the server starts. It tries another port if the first one is taken."""
         with self.case("the server starts"):
             for _ in range(10):
-                if self.launch(*options, **how):
+                self.launch(*options, **how)
+                if self.listens():
                     return
                 if self.address or "can't listen" not in self.server.errors():
                     break
             self.fail(self.server.said() + self.server.errors())
 
     def crash(self):
-        """A case: the server is killed, and has said on standard error how far it had read alone."""
+        """A case: the server is killed, and has said nothing on standard error."""
         self.server.kill()
-        with self.case("a server says nothing else on standard error"):
-            self.assertEqual(self.complaints(), "")
-
-    def complaints(self):
-        """What the server said on standard error, apart from how much of a file it had read."""
-        said = rf"(?m)^chat_server: {re.escape(str(self.journal))}: \d+ of \d+ kB are read\n"
-        return re.sub(said, "", self.server.errors())
+        with self.case("a server says nothing on standard error"):
+            self.assertEqual(self.server.errors(), "")
 
     def loads(self, word):
         """Runs clients, each of whose lines `passed` and `failed` is a case."""
@@ -196,12 +213,15 @@ class ServerCases(Cases):
         return clients
 
     def lawful(self, name):
-        """A case: the journal is lawful, and as long as its last line says."""
+        """A case: the journal is lawful up to its last whole line, after which a server goes on."""
         if self.checker:
-            _, length, last_sum = last_words(self.journal)
-            with open(self.journal, "rb") as journal:
+            text = text_of(self.seen)
+            whole = self.work / "whole"
+            whole.write_bytes(text)
+            with open(whole, "rb") as journal:
                 checked = self.run_program(*self.checker, stdin=journal)
-            self.expect(f"the journal is lawful: {name}", checked, 0, f"lawful {length}\nsum {last_sum}", "")
+            lines = text.count(b"\n")
+            self.expect(f"the journal is lawful: {name}", checked, 2, "", f"journal: open after line {lines}")
 
     def refuses(self, name, status, error, *words):
         """A case: the program ends with this status, and with an error that begins so."""
@@ -222,21 +242,18 @@ class ServerCases(Cases):
         with self.case(f"{name}: the file stays"):
             self.assertEqual(other.read_text(), text)
 
-    def settles(self):
-        """Waits until the server has written all that it made."""
-        size = None
-        while size != (size := self.journal.stat().st_size):
-            time.sleep(1.5)
-
     def setUp(self):
         self.journal = self.work / f"journal.{self._testMethodName}"
+        self.seen = self.journal
         self.address = None
 
-    def starts_short(self, name, entries, length):
-        """Cases: a server starts on a file with less than this many entries and bytes."""
-        size = self.journal.stat().st_size
+    def starts_short(self, name, entries, length, *options):
+        """Cases: a start makes the file short, and the next one reads few entries."""
+        self.begin(*options)
+        self.crash()
+        size = len(text_of(self.journal))
         start = time.monotonic()
-        self.begin()
+        self.begin(*options)
         took = time.monotonic() - start
         read = int(re.search(r" after (\d+) entries ", self.server.said())[1])
         print(f"{name}: a start reads {read} entries in {size} bytes, in {took:.2f} s")

@@ -1,23 +1,23 @@
-"""The chat server makes its file short, and no client sees it: `test_chat_server.py` runs this too.
+"""A start of the chat server makes its file short, and no client sees it: `test_chat_server.py` runs
+this too.
 """
 
-import os
 import pathlib
 import random
-import re
 import time
 
-from server_cases import Client, ServerCases
+from server_cases import Client, ServerCases, text_of
 
 from cases import LIMIT, has, wait_until  # isort: skip
 
 # How often the server is killed near the moment in which a file takes another one's place.
 KILLS = 5
 
-# A disk of this many kilobytes.
-DISK = 1000
+# How much a file grows before that, in bytes.
+GROWTH = 200000
 
-GOES_ON = r"(?m)^chat_server: the journal can't be made short, and goes on in its file: "
+# A disk of this many kilobytes: a file grows ahead by some megabytes.
+DISK = 12000
 
 
 def is_short(path):
@@ -37,14 +37,11 @@ class Compaction(ServerCases):
             for number in range(first, last + 1):
                 self.assertEqual(client.line().split(":")[0], f"{number} ann")
 
-    def says_until_short(self, client):
-        """A case: a client says lines until the file is short."""
-        with self.case("the file is made short"):
-            for _ in range(100):
-                client.says(40)
-                if is_short(self.journal):
-                    return
-            self.fail(self.server.errors())
+    def becomes_short(self, name, *options, **how):
+        """A case: a server starts, and has made the file short."""
+        self.begin(*options, **how)
+        with self.case(f"{name}: the file is made short"):
+            self.assertTrue(is_short(self.seen))
 
     def test_numbers_go_on(self):
         """Clients that wait, that went, and that come back get each message, with its number."""
@@ -64,15 +61,12 @@ class Compaction(ServerCases):
             )
         ann.says(100)
         self.gets(ben, 1, 2000)
-        with self.case("the file was made short"):
-            self.assertTrue(is_short(self.journal))
-            self.assertLess(self.journal.stat().st_size, 100000)
-        numbers = ann.history(1, 5000)
         with self.case("the history has the last messages"):
-            self.assertTrue(50 <= len(numbers) < 1900, numbers)
-            self.assertEqual(numbers, list(range(2001 - len(numbers), 2001)))
+            self.assertEqual(ann.history(1, 5000), list(range(1951, 2001)))
         self.crash()
-        self.begin(*options)
+        self.becomes_short("many messages", *options)
+        with self.case("the file was made short"):
+            self.assertLess(len(text_of(self.journal)), 30000)
         self.comes_back()
         self.crash()
         self.begin(*options)
@@ -84,21 +78,19 @@ class Compaction(ServerCases):
         self.lawful("that was made short")
 
     def comes_back(self):
-        """Cases: clients come back to a server that read a short file."""
+        """Cases: clients come back to a server that made its file short."""
         cyd = Client(self.address, "cyd")
         with self.case("a client that was away comes back"):
-            kitchen = re.match(r"hello cyd room kitchen next 190[01] last 2000$", cyd.greeting)
-            self.assertTrue(kitchen, cyd.greeting)
-        self.gets(cyd, int(cyd.greeting.split()[5]), 2000)
+            self.assertEqual(cyd.greeting, "hello cyd room kitchen next 1901 last 2000")
+        self.gets(cyd, 1901, 2000)
         ben = Client(self.address, "ben", 1990)
         with self.case("a client that saw most comes back"):
             self.assertEqual(ben.greeting, "hello ben room kitchen next 1991 last 2000")
         self.gets(ben, 1991, 2000)
         ann = Client(self.address, "ann", 5)
-        first = int(ann.greeting.split()[5])
         with self.case("a client learns which messages are no longer there"):
-            self.assertTrue(5 < first <= 1951, ann.greeting)
-        self.gets(ann, first, 2000)
+            self.assertEqual(ann.greeting, "hello ann room kitchen next 1951 last 2000")
+        self.gets(ann, 1951, 2000)
         with self.case("no message has such a number"):
             self.assertEqual(
                 Client(self.address, "ann", 2001).greeting[:16], "error bad-number"
@@ -107,18 +99,42 @@ class Compaction(ServerCases):
             self.assertEqual(ben.ask("more"), "2001 ben: more")
             self.assertEqual(cyd.line(), "2001 ben: more")
 
+    def test_nothing_is_left(self):
+        """Nobody is in the room, and no message waits: its numbers go on all the same."""
+        options = ("--compact-from", 1, "--history-limit", 1)
+        self.begin(*options)
+        ann = Client(self.address, "ann")
+        ann.ask("/join kitchen")
+        ann.says(300)
+        with self.case("ann leaves"):
+            self.assertEqual(ann.ask("/leave"), "left kitchen")
+        self.crash()
+        self.becomes_short("an empty room", *options)
+        self.crash()
+        self.begin(*options)
+        ben = Client(self.address, "ben")
+        with self.case("numbers go on in an empty room"):
+            self.assertEqual(ben.ask("/join kitchen"), "joined kitchen next 301")
+            self.assertEqual(ben.history(1, 400), [300])
+            self.assertEqual(ben.ask("hello?"), "301 ben: hello?")
+        self.crash()
+        self.lawful("of an empty room")
+
     def test_killed_meanwhile(self):
         """The server is killed when a file takes another one's place, while clients talk."""
-        options = ("--compact-from", 20000, "--history-limit", 6000)
+        options = ("--compact-from", 20000, "--history-limit", 500)
         self.begin(*options)
-        clients = self.many("--clients", 20, "--messages", 300, "--rooms", 2)
+        clients = self.many("--clients", 20, "--messages", 600, "--rooms", 2)
         left, short = 0, 0
         for _ in range(KILLS):
-            was_short = self.await_compaction(clients)
+            self.await_growth(clients)
+            self.crash()
+            before = self.journal.stat().st_ino
+            self.launch(*options)
+            short += self.await_exchange(before)
             time.sleep(random.choice((0, 0, random.uniform(0, 0.03))))
             self.crash()
             left += self.beside.exists()
-            short += was_short
             self.begin(*options)
         print(f"{KILLS} kills: {short} near a short file, {left} left one that was begun")
         with self.case("a short file was begun before a kill"):
@@ -127,105 +143,92 @@ class Compaction(ServerCases):
         self.crash()
         self.lawful("of servers that were killed meanwhile")
 
-    def await_compaction(self, clients):
+    def await_growth(self, clients):
+        """Waits until the file has more than at the start, or the clients have ended."""
+        start = len(text_of(self.journal))
+        long = 5 * start + GROWTH
+        wait_until(
+            "the file grows", lambda: len(text_of(self.journal)) > long or not clients.runs()
+        )
+
+    def await_exchange(self, before):
         """Waits until a short file is begun or there. Returns whether one is."""
-        before = self.journal.stat().st_ino
         end = time.monotonic() + LIMIT
-        while clients.runs() and time.monotonic() < end:
+        while not self.server.said() and self.server.runs() and time.monotonic() < end:
             if self.beside.exists() or self.journal.stat().st_ino != before:
                 return True
         return False
 
-    def test_full_and_short(self):
-        """The journal is full at each call, and the file is made short all the time."""
-        self.begin("--entry-limit", 1, "--compact-from", 1, "--history-limit", 1)
-        self.everyone("full and short", "--clients", 10, "--messages", 50, "--rooms", 2)
-        with self.case("the file was made short"):
-            self.assertTrue(is_short(self.journal))
-        self.crash()
-        self.lawful("that was full and short")
-
-    def test_left_over(self):
-        """What a killed server left of a short file is removed, and not read."""
-        other = self.work / "left_over"
-        other.write_text("it stays")
-        for leave in (
-            lambda: self.beside.write_text("journal 4\nseat 0 mvar =chat%2"),
-            lambda: self.beside.symlink_to(other),
-        ):
-            leave()
-            self.begin()
-            with self.case("a file that was left is removed"):
-                self.assertFalse(os.path.lexists(self.beside))
-            self.crash()
-        with self.case("what a link names stays"):
-            self.assertEqual(other.read_text(), "it stays")
-
-    def test_goes_on_without(self):
-        """A short file can't be made: the server says so, and goes on with the old one."""
-        self.beside.mkdir()
-        self.begin("--compact-from", 20000, "--history-limit", 50)
-        load = ("--clients", 4, "--messages", 200, "--rooms", 2)
-        self.everyone("a file that can't be made short", *load)
-        self.said_goes_on("Is a directory|Operation not permitted")
-        with self.case("the file is the old one"):
-            self.assertFalse(is_short(self.journal))
-        self.settles()
-        self.lawful("that can't be made short")
-        self.beside.rmdir()
+    def makes_long(self, **how):
+        """A server runs until its file is long, and is killed. Returns the last message's number."""
+        self.begin("--history-limit", 20, **how)
         ann = Client(self.address, "ann")
         ann.ask("/join kitchen")
-        self.says_until_short(ann)
-        last = ann.history()[-1]
-        self.server.kill()
-        self.begin()
+        last = int(ann.says(300)[-1].split()[0])
+        self.crash()
+        return last
+
+    def goes_on(self, name, last, *options, **how):
+        """Cases: a server goes on with the long file."""
+        self.begin("--history-limit", 20, *options, **how)
+        ann = Client(self.address, "ann", last)
+        with self.case(f"{name}: the file is the old one, and numbers go on"):
+            self.assertFalse(is_short(self.seen))
+            self.assertEqual(ann.ask("more"), f"{last + 1} ann: more")
+            self.assertEqual(ann.history(1, 400), list(range(last - 18, last + 2)))
+
+    def test_goes_on_without(self):
+        """What has the short file's name stays, and the server goes on with the long file."""
+        other = self.work / "in_the_way"
+        other.write_text("it stays")
+        options = ("--compact-from", 20000)
+        last = self.makes_long()
+        for leave, remove in (
+            (lambda: self.beside.write_text("journal 4\nseat 0 mvar =chat%2"), self.beside.unlink),
+            (lambda: self.beside.symlink_to(other), self.beside.unlink),
+            (self.beside.mkdir, self.beside.rmdir),
+        ):
+            leave()
+            self.goes_on("something is in the way", last, *options)
+            last += 1
+            self.server.kill()
+            remove()
+        with self.case("what a link names stays"):
+            self.assertEqual(other.read_text(), "it stays")
+        self.lawful("that can't be made short")
+        self.becomes_short("nothing is in the way", "--history-limit", 20, *options)
         with self.case("numbers go on in a file that was made short at last"):
             self.assertEqual(Client(self.address, "ann", last).greeting.split()[-1], str(last))
         self.crash()
         self.lawful("that was made short at last")
 
-    def said_goes_on(self, why):
-        """A case: the server said that it goes on, and nothing else."""
-        with self.case("it says that it goes on"):
-            lines = self.complaints().splitlines()
-            self.assertTrue(lines)
-            for line in lines:
-                self.assertRegex(line, f"{GOES_ON}({why})")
-
     def test_full_disk(self):
         """There is no space for a short file."""
-        words = ("unshare", "--user", "--map-root-user", "--mount")
-        if not has("unshare") or self.run_program(*words, "true").status != 0:
+        unshared = ("unshare", "--user", "--map-root-user", "--mount")
+        if not has("unshare", "nsenter") or self.run_program(*unshared, "true").status != 0:
             self.skipTest("a full disk: no disk can be mounted")
         disk = self.work / "disk"
         disk.mkdir()
-        mount = f'mount -t tmpfs -o size={DISK}k none {disk} && exec "$@"'
+        mount = f"mount -t tmpfs -o size={DISK}k none {disk} && echo mounted && exec sleep {LIMIT}"
+        holder = self.start(*unshared, "sh", "-c", mount)
+        wait_until("the disk is mounted", holder.said)
+        number = holder.process.pid
+        inside = ("nsenter", "--user", "--mount", "--preserve-credentials", f"--target={number}")
         self.journal = disk / "journal"
-        options = ("--compact-from", 300000, "--history-limit", 20)
-        self.begin(*options, wrapper=(*words, "sh", "-c", mount, "sh"))
-        seen = pathlib.Path(f"/proc/{self.server.process.pid}/root{disk}")
-        ann = Client(self.address, "ann")
-        ann.ask("/join kitchen")
-        text = "x" * 2000
-        while (seen / "journal").stat().st_size < 280000:
-            ann.ask(text)
-        filler = seen / "filler"
-        used = sum(1 + file.stat().st_size // 4096 for file in seen.iterdir())
-        filler.write_bytes(bytes(4096 * (DISK // 4 - used - 8)))
-        while not self.server.errors() and (seen / "journal").stat().st_size < 320000:
-            ann.ask(text)
-        wait_until("the server goes on", lambda: self.server.errors())
-        self.said_goes_on("No space left on device")
+        self.seen = pathlib.Path(f"/proc/{number}/root{self.journal}")
+        options = ("--compact-from", 20000)
+        last = self.makes_long(wrapper=inside)
+        filler = self.seen.with_name("filler")
+        used = sum(1 + file.stat().st_blocks // 8 for file in self.seen.parent.iterdir())
+        filler.write_bytes(bytes(4096 * (DISK // 4 - used)))
+        self.goes_on("a full disk", last, *options, wrapper=inside)
+        self.server.kill()
+        with self.case("what was begun is removed"):
+            self.assertFalse(self.seen.with_name("journal.new").exists())
         filler.unlink()
-        self.journal = seen / "journal"
-        for _ in range(10):
-            last = int(ann.ask("more").split()[0])
-        with self.case("the file is the old one, and has what was said"):
-            self.assertFalse(is_short(self.journal))
-            self.assertFalse((seen / "journal.new").exists())
-            self.assertEqual(ann.history(), list(range(last - 9, last + 1)))
-        self.settles()
-        self.lawful("of a full disk")
-        self.says_until_short(ann)
-        self.settles()
-        self.lawful("of a disk that has space again")
+        name = "a disk that has space again"
+        self.becomes_short(name, "--history-limit", 20, *options, wrapper=inside)
+        with self.case(f"numbers go on: {name}"):
+            self.assertEqual(Client(self.address, "ann").greeting.split()[-1], str(last + 1))
+        self.crash()
+        self.lawful(f"of {name}")
