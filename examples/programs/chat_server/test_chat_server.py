@@ -357,8 +357,11 @@ class ChatServer(ServerCases):
         self.lawful("of servers that were killed")
 
     def test_no_space(self):
-        """The file can't grow: the server ends, and the next one goes on."""
-        self.begin(wrapper=("sh", "-c", "trap '' XFSZ; ulimit -f 256; exec \"$@\"", "sh"))
+        """The file can't grow: the server ends, and the next one goes on.
+
+        A file has room ahead for the longest line, of more than a megabyte.
+        """
+        self.begin(wrapper=("sh", "-c", "trap '' XFSZ; ulimit -f 4096; exec \"$@\"", "sh"))
         clients = self.many("--clients", 20, "--messages", 100, "--rooms", 2)
         with self.case("a file that can't grow"):
             self.assertEqual(self.server.ends(), 4, self.server.errors())

@@ -13,8 +13,8 @@ from cases import LIMIT, has, wait_until  # isort: skip
 # How often the server is killed near the moment in which a file takes another one's place.
 KILLS = 5
 
-# How much a file grows before that, in bytes.
-GROWTH = 200000
+# How much a file grows before that at the least, in bytes.
+GROWTH = 50000
 
 # A disk of this many kilobytes: a file grows ahead by some megabytes.
 DISK = 12000
@@ -122,9 +122,9 @@ class Compaction(ServerCases):
 
     def test_killed_meanwhile(self):
         """The server is killed when a file takes another one's place, while clients talk."""
-        options = ("--compact-from", 20000, "--history-limit", 500)
+        options = ("--compact-from", 20000, "--history-limit", 6000)
         self.begin(*options)
-        clients = self.many("--clients", 20, "--messages", 600, "--rooms", 2)
+        clients = self.many("--clients", 20, "--messages", 200, "--rooms", 2)
         left, short = 0, 0
         for _ in range(KILLS):
             self.await_growth(clients)
@@ -141,12 +141,13 @@ class Compaction(ServerCases):
             self.assertGreater(short, 0)
         self.all_end_well("killed while the file is made short", clients)
         self.crash()
+        self.becomes_short("killed meanwhile", *options)
+        self.crash()
         self.lawful("of servers that were killed meanwhile")
 
     def await_growth(self, clients):
-        """Waits until the file has more than at the start, or the clients have ended."""
-        start = len(text_of(self.journal))
-        long = 5 * start + GROWTH
+        """Waits until the file has four times as much, and more, or the clients have ended."""
+        long = 4 * len(text_of(self.journal)) + GROWTH
         wait_until(
             "the file grows", lambda: len(text_of(self.journal)) > long or not clients.runs()
         )
@@ -164,9 +165,10 @@ class Compaction(ServerCases):
         self.begin("--history-limit", 20, **how)
         ann = Client(self.address, "ann")
         ann.ask("/join kitchen")
-        last = int(ann.says(300)[-1].split()[0])
+        for _ in range(100):
+            last = ann.ask("x" * 1000).split()[0]
         self.crash()
-        return last
+        return int(last)
 
     def goes_on(self, name, last, *options, **how):
         """Cases: a server goes on with the long file."""

@@ -68,12 +68,10 @@ impl Keeper {
         self.work.notify_one();
     }
 
-    /// Has the keeper fail as this call did, if the file takes no more.
-    pub fn note_failure(&self, error: &Error) {
-        if matches!(error, Error::FileFull | Error::FileLost) {
-            self.lock().failure = Some(error.clone());
-            self.work.notify_one();
-        }
+    /// Has the keeper fail as a call did: the file takes no more.
+    pub fn fail(&self, error: Error) {
+        self.lock().failure = Some(error);
+        self.work.notify_one();
     }
 
     /// Syncs by this function as often as it is wanted, until the end. Then hands over to the publisher what the disk has.

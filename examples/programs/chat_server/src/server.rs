@@ -7,7 +7,7 @@ use crate::keeper::Keeper;
 use crate::protocol::Refusal;
 use crate::seats::Seats;
 use crate::{session, writer};
-use seryugo::Switchboard;
+use seryugo::{Error, Switchboard};
 use std::io::Write;
 use std::net::{Shutdown, TcpListener, TcpStream};
 use std::sync::atomic::{AtomicBool, Ordering};
@@ -73,5 +73,14 @@ impl Server<'_> {
         self.connections.free_name(connection);
         connection.linger();
         self.connections.remove(connection);
+    }
+    /// Ends a connection for which a call failed. If the file takes no more, the server ends: no client hears of it before.
+    pub fn end_failed(&self, connection: &Connection, error: Error) {
+        if matches!(error, Error::FileFull | Error::FileLost) {
+            connection.outbox.cut();
+            self.keeper.fail(error);
+        } else {
+            connection.outbox.end(format_args!("error failed: {error}"));
+        }
     }
 }

@@ -97,10 +97,7 @@ impl<'s, 'a> Session<'s, 'a> {
             Ok(()) | Err(Trouble::Ended) => {}
             // If the connection has ended, the loop that reads ends too.
             Err(Trouble::Refused(refusal)) => drop(outbox.push(refusal)),
-            Err(Trouble::Failed(error)) => {
-                self.server.keeper.note_failure(&error);
-                outbox.end(format_args!("error failed: {error}"));
-            }
+            Err(Trouble::Failed(error)) => self.server.end_failed(self.connection, error),
         }
     }
 

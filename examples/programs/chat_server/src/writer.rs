@@ -40,8 +40,7 @@ pub fn write_to(output: impl Write, server: &Server<'_>, connection: &Connection
         line: Vec::new(),
     };
     if let Err(Trouble::Failed(error)) = writer.run(seat) {
-        server.keeper.note_failure(&error);
-        connection.outbox.end(format_args!("error failed: {error}"));
+        server.end_failed(connection, error);
         // Without the last line, there is nothing left to do for this client.
         let _ = writer.write(&connection.outbox.take().text);
     }
