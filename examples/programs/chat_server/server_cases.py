@@ -221,7 +221,8 @@ class ServerCases(Cases):
             with open(whole, "rb") as journal:
                 checked = self.run_program(*self.checker, stdin=journal)
             lines = text.count(b"\n")
-            self.expect(f"the journal is lawful: {name}", checked, 2, "", f"journal: open after line {lines}")
+            is_open = f"journal: open after line {lines}"
+            self.expect(f"the journal is lawful: {name}", checked, 2, "", is_open)
 
     def refuses(self, name, status, error, *words):
         """A case: the program ends with this status, and with an error that begins so."""

@@ -177,18 +177,17 @@ class ChatServer(ServerCases):
         self.no_journal("a message without a number", unnumbered, no_message)
         gap = ("seat 0 send 1 =7%20ann%20hello: done", "seat 0 send 1 =9%20ann%20hello: done")
         self.no_journal("a message that is missing", sealed(*kitchen, *gap), no_message)
-        other = "seat 0 mvar =room%20hall%20queue%201%20channel%202%20published%200%20witness%204: made 3"
         ports = ("seat 0 channel: made 4", "seat 0 port 4: made 5")
         for name, port in ("a room whose witness is a channel", 4), ("one of another channel", 5):
-            record = other.replace("witness%204", f"witness%20{port}")
+            record = kitchen[3].replace("published%200", f"published%200%20witness%20{port}")
             bad = "object 3 is no record of a chat server\n"
             self.no_journal(name, sealed(*kitchen[:3], record, *ports), bad)
 
     def test_changes(self):
         """What a change of a byte shows at the start.
 
-        A piece has no sum while a server writes it. So a change isn't seen of what was said and that
-        nobody has received, or of who made a call. But of what was received each change is seen.
+        The text has no sums. So no start sees a change of what was said and that nobody has
+        received, or of who made a call. But it sees each change of what was received.
         """
         self.begin()
         ann, ben = (Client(self.address, name) for name in ("ann", "ben"))
@@ -205,6 +204,7 @@ class ChatServer(ServerCases):
             words = ("--listen", f"127.0.0.1:{listener.getsockname()[1]}", "--journal")
             for place in sorted(random.sample(range(len(whole)), CHANGES)):
                 seen += self.is_seen(whole, place, words)
+            self.ends_by_a_zero(whole, words)
         print(f"{seen} of {CHANGES} changes of a byte are seen")
         with self.case("most changes are seen"):
             self.assertGreater(seen, CHANGES // 2)
@@ -232,6 +232,16 @@ class ChatServer(ServerCases):
                 self.assertEqual(ended.errors()[: len(refused)], refused)
                 self.assertEqual(other.read_bytes(), changed)
         return ended.status == 5
+
+    def ends_by_a_zero(self, whole, words):
+        """A case: a byte 0 ends the text, and what comes after its last whole line is cut off."""
+        place = len(whole) // 2
+        other = self.work / "changed"
+        other.write_bytes(whole[:place] + bytes(1) + whole[place + 1 :])
+        ended = self.run_program(self.program, *words, other)
+        self.expect("a byte 0", ended, 3, "", True)
+        with self.case("a byte 0 ends the text"):
+            self.assertEqual(other.read_bytes(), whole[: whole.rfind(b"\n", 0, place) + 1])
 
     def test_restarts(self):
         """What one server leaves and the next one finds.
@@ -282,9 +292,10 @@ class ChatServer(ServerCases):
         self.lawful("what was mended")
 
     def test_earlier_server(self):
-        """A server goes on from the file of an earlier one, which made it short and sealed its pieces.
+        """A server goes on from the file of an earlier one, whose pieces had sums.
 
-        Its rooms had no witnesses. So members may get again what they have.
+        That one had made it short. Its rooms had no witnesses, so members may get again what they
+        have.
         """
         self.journal.write_text(earlier())
         self.begin()
@@ -302,7 +313,8 @@ class ChatServer(ServerCases):
             self.begin()
             ben = Client(self.address, "ben", last)
             with self.case(f"numbers go on after {last}"):
-                self.assertEqual(ben.greeting, f"hello ben room kitchen next {last + 1} last {last}")
+                hello = f"hello ben room kitchen next {last + 1} last {last}"
+                self.assertEqual(ben.greeting, hello)
                 self.assertEqual(ben.ask("more"), f"{last + 1} ben: more")
                 self.assertEqual(ben.history(1, 200), list(range(139, last + 2)))
             self.crash()
@@ -372,7 +384,7 @@ class ChatServer(ServerCases):
         self.lawful("of a file that could not grow")
 
     def test_flat(self):
-        """The server's memory doesn't grow with the messages, nor does a file that was made short."""
+        """The server's memory doesn't grow with the messages, nor a file that was made short."""
         self.begin("--history-limit", 500)
         memory = (
             "--clients",
@@ -386,9 +398,9 @@ class ChatServer(ServerCases):
         )
         self.everyone("memory", *memory)
         self.crash()
-        self.lawful("of many messages")
         self.starts_short("many messages", 5000, 300000, "--history-limit", 500)
         self.crash()
+        self.lawful("of many messages")
 
 
 if __name__ == "__main__":

@@ -1,5 +1,6 @@
-"""A start of the chat server makes its file short, and no client sees it: `test_chat_server.py` runs
-this too.
+"""A start of the chat server makes its file short, and no client sees it.
+
+`test_chat_server.py` runs this too.
 """
 
 import pathlib
@@ -161,7 +162,7 @@ class Compaction(ServerCases):
         return False
 
     def makes_long(self, **how):
-        """A server runs until its file is long, and is killed. Returns the last message's number."""
+        """A server runs until its file is long. Returns the last message's number."""
         self.begin("--history-limit", 20, **how)
         ann = Client(self.address, "ann")
         ann.ask("/join kitchen")

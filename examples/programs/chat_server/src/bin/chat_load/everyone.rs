@@ -119,11 +119,11 @@ fn memory_at_a_fifth(shared: &Shared, options: &Options, pid: u32) -> Result<u64
     memory_of(pid)
 }
 
-/// The kilobytes of memory that a process has.
+/// The kilobytes of memory that a process has, without what it maps of files: the system may take that back.
 fn memory_of(pid: u32) -> Result<u64, Wrong> {
     let status =
         fs::read_to_string(format!("/proc/{pid}/status")).map_err(|error| format!("the server's memory: {error}"))?;
-    let line = status.lines().find_map(|line| line.strip_prefix("VmRSS:")).ok_or("the server has ended")?;
+    let line = status.lines().find_map(|line| line.strip_prefix("RssAnon:")).ok_or("the server has ended")?;
     read(line.trim().trim_end_matches(" kB"))
 }
 

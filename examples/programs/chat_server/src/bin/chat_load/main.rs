@@ -9,9 +9,9 @@
 //!
 //! `everyone` has clients in rooms, each of which says this many messages, and checks what each one gets. If the server is killed
 //! and started again meanwhile, the clients come back and go on. With the server's PID it compares the server's memory at a fifth
-//! of the run with that at the end. `cases` wants a server with the limits that `tests/programs/chat_server.sh` gives it. `before` leaves
-//! members and messages, which `after` finds on the next server. `mended` wants a server on the journal that the test writes.
-//! `stays` joins, and stays until the server ends.
+//! of the run with that at the end. `cases` wants a server with the limits that `tests/programs/chat_server.sh` gives it. `before`
+//! leaves members and messages, which `after` finds on the next server. `mended` wants a server on the journal that the test
+//! writes. `stays` joins, and stays until the server ends.
 
 mod cases;
 mod client;
