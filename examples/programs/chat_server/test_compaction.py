@@ -39,14 +39,10 @@ class Compaction(ServerCases):
                 self.assertEqual(client.line().split(":")[0], f"{number} ann")
 
     def has_history(self, name, client, last, most):
-        """A case: the history has the last messages.
-
-        The server forgets the oldest one only once the last one was published.
-        """
+        """A case: the history has the last messages, once the server has forgotten those before."""
+        wait_until("the oldest are forgotten", lambda: len(client.history(1, last)) <= most)
         with self.case(f"{name}: the history has the last {most} messages"):
-            numbers = client.history(1, last)
-            self.assertIn(len(numbers), (most, most + 1))
-            self.assertEqual(numbers, list(range(last + 1 - len(numbers), last + 1)))
+            self.assertEqual(client.history(1, last), list(range(last + 1 - most, last + 1)))
 
     def becomes_short(self, name, *options, **how):
         """A case: a server starts, and has made the file short."""
