@@ -258,6 +258,24 @@ class ChatServer(ServerCases):
         self.crash()
         self.lawful("after a crash")
 
+    def test_free_records(self):
+        """A new room and its member get the records of members that left, in any order."""
+        self.begin()
+        ann, ben, cyd = (Client(self.address, name) for name in ("ann", "ben", "cyd"))
+        for client in ann, ben:
+            client.ask("/join kitchen")
+        for client in ann, ben:
+            with self.case(f"{client.name} leaves"):
+                self.assertEqual(client.ask("/leave"), "left kitchen")
+        with self.case("a new room"):
+            self.assertEqual(cyd.ask("/join hall"), "joined hall next 1")
+        self.crash()
+        self.begin()
+        with self.case("the room and its member are found again"):
+            hello = "hello cyd room hall next 1 last 0"
+            self.assertEqual(Client(self.address, "cyd").greeting, hello)
+        self.crash()
+
     def test_mends(self):
         """A server that was killed between two calls.
 

@@ -49,14 +49,15 @@ pub struct Left {
 impl Left {
     /// Reads all objects of the switchboard. A room of a server that had no witnesses gets one.
     pub fn on(board: &Switchboard) -> Result<Left, Foreign> {
-        let found = Found::on(board)?;
+        let mut found = Found::on(board)?;
+        // A member's record names its room. It may be in an older variable than the room's, since free ones are used again.
+        found.records.sort_by_key(|(_, record)| !matches!(record, Record::Room(_)));
         let mut reader = Reader {
             board,
             seat: board.seat()?,
             messages: Messages::on(board)?,
             books: Books::default(),
         };
-        // Rooms come before their members, since the first member makes the room.
         for (slot, record) in found.records {
             let number = slot.number();
             reader.add(slot, record)?.ok_or(Foreign::BadRecord(number))?;
