@@ -61,6 +61,11 @@ seat 2 send 1 =143%20ann%20line%20142: done
 """
 
 
+def limited(blocks):
+    """The words before a program whose files have at most this many blocks of 512 bytes."""
+    return "sh", "-c", f"trap '' XFSZ; ulimit -f {blocks}; exec \"$@\"", "sh"
+
+
 def earlier():
     """The file of an earlier server, with two pieces that have sums."""
     return sealed(*EARLIER.splitlines(), then=LATER.splitlines())
@@ -316,6 +321,9 @@ class ChatServer(ServerCases):
         have.
         """
         self.journal.write_text(earlier())
+        words = ("--listen", "127.0.0.1:0", "--journal", self.journal)
+        ended = self.run_program(*limited(100), self.program, *words)
+        self.expect("a file of an earlier server that can't grow", ended, 4, "", True)
         self.begin()
         ben = Client(self.address, "ben", 142)
         with self.case("a member that says what it has seen gets the rest"):
@@ -391,7 +399,7 @@ class ChatServer(ServerCases):
 
         A file has room ahead for the longest line, of more than a megabyte.
         """
-        self.begin(wrapper=("sh", "-c", "trap '' XFSZ; ulimit -f 4096; exec \"$@\"", "sh"))
+        self.begin(wrapper=limited(4096))
         clients = self.many("--clients", 20, "--messages", 100, "--rooms", 2)
         with self.case("a file that can't grow"):
             self.assertEqual(self.server.ends(), 4, self.server.errors())

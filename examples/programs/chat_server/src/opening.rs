@@ -1,7 +1,7 @@
 //! The journal's file is opened, and what an earlier server left is found in it.
 
 use crate::failure::Failure;
-use crate::recovery::Left;
+use crate::recovery::{Foreign, Left};
 use seryugo::{JournalFile, Switchboard};
 use std::fs::File;
 use std::io::{self, BufReader, Write};
@@ -17,7 +17,7 @@ pub fn open(path: &Path, compact_from: u64) -> Result<(Switchboard, Left), Failu
     if let Some(saved) = board.recovered().and_then(|found| found.saved.as_deref()) {
         tell_saved(path, saved);
     }
-    let left = Left::on(&board).map_err(|why| Failure::NoJournal(path.to_owned(), why.to_string()))?;
+    let left = Left::on(&board).map_err(|why| unread(path, &board, why))?;
     Ok((board, left))
 }
 
@@ -33,9 +33,17 @@ fn refuse_foreign(path: &Path) -> Result<(), Failure> {
     // To open a pipe could wait for ever.
     let file = if path.is_file() { File::open(path).ok() } else { None };
     let copy = file.and_then(|file| Switchboard::restore_torn(BufReader::new(file), COPY_LIMIT).ok());
-    match copy.map(|(board, _)| Left::on(&board)) {
-        Some(Err(why)) => Err(Failure::NoJournal(path.to_owned(), why.to_string())),
-        _ => Ok(()),
+    copy.map_or(Ok(()), |(board, _)| match Left::on(&board) {
+        Ok(_) => Ok(()),
+        Err(why) => Err(unread(path, &board, why)),
+    })
+}
+
+/// Why a switchboard that this file keeps isn't read as one of a chat server.
+fn unread(path: &Path, board: &Switchboard, why: Foreign) -> Failure {
+    match why {
+        Foreign::Failed(error) => Failure::of_call(path, board, error),
+        why => Failure::NoJournal(path.to_owned(), why.to_string()),
     }
 }
 
