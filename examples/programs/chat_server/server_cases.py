@@ -249,9 +249,7 @@ class ServerCases(Cases):
         self.address = None
 
     def starts_short(self, name, entries, length, *options):
-        """Cases: a start makes the file short, and the next one reads few entries."""
-        self.begin(*options)
-        self.crash()
+        """Cases: a server starts on a file with less than this many entries and bytes."""
         size = len(text_of(self.journal))
         start = time.monotonic()
         self.begin(*options)

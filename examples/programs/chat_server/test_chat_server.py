@@ -410,7 +410,7 @@ class ChatServer(ServerCases):
         self.lawful("of a file that could not grow")
 
     def test_flat(self):
-        """The server's memory doesn't grow with the messages, nor a file that was made short."""
+        """The server's memory doesn't grow with the messages."""
         self.begin("--history-limit", 500)
         memory = (
             "--clients",
@@ -424,9 +424,6 @@ class ChatServer(ServerCases):
         )
         self.everyone("memory", *memory)
         self.crash()
-        self.starts_short("many messages", 5000, 300000, "--history-limit", 500)
-        self.crash()
-        self.lawful("of many messages")
 
 
 if __name__ == "__main__":
