@@ -72,7 +72,7 @@ class Compaction(ServerCases):
         self.crash()
         self.becomes_short("many messages", *options)
         self.crash()
-        self.starts_short("many messages", 500, 30000, *options)
+        self.starts_short("many messages", 600, 30000, *options)
         self.comes_back()
         self.crash()
         self.begin(*options)
