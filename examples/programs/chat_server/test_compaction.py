@@ -20,6 +20,8 @@ GROWTH = 50000
 # A disk of this many kilobytes: a file grows ahead by some megabytes.
 DISK = 12000
 
+GOES_ON = "it can't be made short, and goes on: "
+
 
 def is_short(path):
     """Whether a journal was made short: then its first object was made before its record."""
@@ -182,6 +184,7 @@ class Compaction(ServerCases):
         ann = Client(self.address, "ann", last)
         with self.case(f"{name}: the file is the old one, and numbers go on"):
             self.assertFalse(is_short(self.seen))
+            self.assertRegex(self.server.errors(), rf"^chat_server: {self.journal}: {GOES_ON}.*\n$")
             self.assertEqual(ann.ask("more"), f"{last + 1} ann: more")
         self.has_history(name, ann, last + 1, 20)
 

@@ -2,7 +2,7 @@
 
 use crate::failure::Failure;
 use crate::recovery::{Foreign, Left};
-use seryugo::{JournalFile, Switchboard};
+use seryugo::{JournalFile, Recovered, Switchboard};
 use std::fs::File;
 use std::io::{self, BufReader, Write};
 use std::path::Path;
@@ -14,17 +14,14 @@ const COPY_LIMIT: u64 = 1 << 32;
 pub fn open(path: &Path, compact_from: u64) -> Result<(Switchboard, Left), Failure> {
     refuse_foreign(path)?;
     let board = options(compact_from).open(path).map_err(|error| Failure::of_opening(path, error))?;
-    if let Some(saved) = board.recovered().and_then(|found| found.saved.as_deref()) {
-        tell_saved(path, saved);
-    }
+    board.recovered().into_iter().for_each(|found| tell(path, found));
     let left = Left::on(&board).map_err(|why| unread(path, &board, why))?;
     Ok((board, left))
 }
 
 /// A start makes the file short if it has at least `compact_from` bytes, and four times those of its short form.
-fn options(_compact_from: u64) -> JournalFile {
-    // `.short_from(compact_from)` comes here, once the library has that option.
-    JournalFile::new()
+fn options(compact_from: u64) -> JournalFile {
+    JournalFile::new().short_from(compact_from)
 }
 
 /// Refuses the journal of another program before it is opened, which may change it. What else is wrong with a file, its opening
@@ -47,8 +44,13 @@ fn unread(path: &Path, board: &Switchboard, why: Foreign) -> Failure {
     }
 }
 
-/// Says on standard error where the file's end is now. If that can't be written, the server goes on all the same.
-fn tell_saved(path: &Path, saved: &Path) {
-    let (path, saved) = (path.display(), saved.display());
-    let _ = writeln!(io::stderr(), "chat_server: {path}: what came after its last whole line is in {saved}");
+/// Says on standard error what may surprise about the file. If that can't be written, the server goes on all the same.
+fn tell(path: &Path, found: &Recovered) {
+    let (path, mut errors) = (path.display(), io::stderr());
+    if let Some(saved) = &found.saved {
+        let _ = writeln!(errors, "chat_server: {path}: what came after its last whole line is in {}", saved.display());
+    }
+    if let Some(why) = &found.not_shortened {
+        let _ = writeln!(errors, "chat_server: {path}: it can't be made short, and goes on: {why}");
+    }
 }
