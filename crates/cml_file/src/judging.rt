@@ -1,0 +1,160 @@
+//! The text of a journal's file is judged, before anything is written.
+ghost use Rattle.std.specs.Prelude.{◌≡◌, ◌==◌, ◌≤◌, ◌^◌, [], position, length, take, IfOk, IfErr};
+ghost use Rattle.cml_journal.specs.{IsRestored, IsSoFar, printed};
+ghost use Rattle.cml_store.specs.Recovery.{recovered};
+ghost use Rattle.cml_store.specs.Texts.{is_whole_text};
+ghost use Rattle.cml_file.specs.{IsNext, Refuses, Stops, next_of};
+
+use crate::refused::Refused;
+use cml_board::{Message, Restored};
+use cml_journal::{Check, Sum, Unended, Written};
+use cml_log::MessageLog;
+use cml_store::kept_is_recovered;
+use std::alloc::Global;
+
+/// A new file may have as many zeros, and no text: those of its header.
+const HEADER: usize = 10;
+
+/// What a text needs before its next entry.
+#[derive(Clone, Copy, Debug, PartialEq, Eq)]
+pub enum More {
+    /// Nothing: its last piece has no end yet.
+    Entries,
+    /// A plain piece begins.
+    Plain,
+    /// A sealed piece begins, behind one that has this sum.
+    Sealed(Sum),
+}
+
+/// What a journal's file has that is gone on with.
+#[derive(Drop)]
+pub struct Judged<M: Message, L: MessageLog<M>> {
+    /// A board with the history of the entries, and who made them.
+    pub restored: Restored<M, L>,
+    /// How many entries there are.
+    pub entries: u64,
+    /// How many bytes are kept.
+    pub kept: usize,
+    /// How many bytes behind them are cut off, without zeros at the end.
+    pub cut: usize,
+    /// What comes behind them.
+    pub more: More,
+}
+
+/// Judges the bytes of a file: which of them are a journal's that is gone on with, or why none are. The journal of the board takes
+/// `limit` entries until it is cut.
+pub fn judge<M: Message + Written, L: MessageLog<M>>(
+    alloc: Global,
+    bytes: &[u8],
+    limit: u64,
+) -> Result<Judged<M, L>, Refused>
+    requires least { 1 ≤ limit }
+    requires most { limit ≤ 2 ^ 32 }
+    // What is kept is what recovery keeps.
+    ensures kept { IfOk result (λ judged. judged.kept ≡ length (recovered (is_whole_text M.VERSION M.meaning) bytes.now)) }
+    ensures restored { IfOk result (λ judged. IsRestored M.VERSION M.meaning (take judged.kept bytes.now) limit judged.restored) }
+    ensures more { IfOk result (λ judged. IsNext M.VERSION M.meaning (take judged.kept bytes.now) judged.entries judged.more) }
+    ensures refused { IfErr result (Refuses M.VERSION M.meaning bytes.now) }
+{
+    kept_is_recovered::<M>();
+    let text = printed_part(bytes);
+    let check = read::<M, L>(alloc, text)?;
+    if check.unended() == Some(Unended::NoJournal) || (text.is_empty() && bytes.len() > HEADER) {
+        return Err(Refused::NoJournal);
+    }
+    let kept = check.kept() as usize;
+    let end = match check.unended() {
+        Some(Unended::Torn(_)) => kept,
+        _ => text.len(),
+    };
+    let cut = end_of(bytes).saturating_sub(end);
+    if kept == text.len() {
+        return Ok(go_on(check, limit, kept, cut));
+    }
+    // A front of a text that was read has no fault.
+    match read(alloc, &text[..kept]) {
+        Ok(check) => Ok(go_on(check, limit, kept, cut)),
+        Err(_) => Err(Refused::NoMemory),
+    }
+}
+
+/// The bytes before the first 0.
+fn printed_part(bytes: &[u8]) -> &[u8]
+    ensures { result.now ≡ printed bytes.now }
+{
+    match zero_at(bytes) {
+        Some(end) => &bytes[..end],
+        None => bytes,
+    }
+}
+
+fn zero_at(bytes: &[u8]) -> Option<usize>
+    ensures { result ≡ position (λ byte. byte == 0) bytes.now }
+{
+    bytes.iter().position(|byte| *byte == 0)
+}
+
+/// How many bytes there are up to the last that is not 0.
+fn end_of(bytes: &[u8]) -> usize {
+    match bytes.iter().rposition(|byte| *byte != 0) {
+        Some(last) => last + 1,
+        None => 0,
+    }
+}
+
+/// Reads a whole text.
+fn read<M: Message + Written, L: MessageLog<M>>(
+    alloc: Global,
+    text: &[u8],
+) -> Result<Check<M, L>, Refused>
+    ensures read { IfOk result (λ check. IsSoFar M.VERSION M.meaning text.now check) }
+    ensures refused { IfErr result (Stops M.VERSION M.meaning text.now) }
+{
+    let Ok(mut check) = Check::with_logs(alloc) else {
+        return Err(Refused::NoMemory);
+    };
+    match check.advance(text) {
+        Ok(()) => Ok(check),
+        Err(halt) => Err(Refused::of(halt)),
+    }
+}
+
+/// What is gone on with, of a text of which all is kept.
+fn go_on<M: Message + Written, L: MessageLog<M>>(
+    check: Check<M, L>,
+    limit: u64,
+    kept: usize,
+    cut: usize,
+) -> Judged<M, L>
+    requires least { 1 ≤ limit }
+    requires most { limit ≤ 2 ^ 32 }
+    requires read { (text : List ℕ) × IsSoFar M.VERSION M.meaning text check }
+    ensures kept { result.kept ≡ kept }
+    ensures restored { (text : List ℕ) → IsSoFar M.VERSION M.meaning text check → IsRestored M.VERSION M.meaning text limit result.restored }
+    ensures more { (text : List ℕ) → IsSoFar M.VERSION M.meaning text check → IsNext M.VERSION M.meaning text result.entries result.more }
+{
+    let mut check = check;
+    let entries = check.entries();
+    let more = next_of(check.unended(), check.sum());
+    match check.restore(limit) {
+        Some(restored) => Judged {
+            restored,
+            entries,
+            kept,
+            cut,
+            more,
+        },
+        None => unreachable!(),
+    }
+}
+
+/// What comes behind a text that ends so, whose last piece has this sum if it is sealed.
+fn next_of(unended: Option<Unended>, sum: Option<Sum>) -> More
+    ensures { result ≡ next_of unended sum }
+{
+    match (unended, sum) {
+        (None | Some(Unended::Torn(0)), None) => More::Plain,
+        (None, Some(sum)) => More::Sealed(sum),
+        _ => More::Entries,
+    }
+}
