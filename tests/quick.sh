@@ -18,6 +18,7 @@ steps() {
     echo cml_rows
     echo cml_c
     echo cml_tests
+    echo cml_file_tests
     echo refused_bodies
     echo cml_chart
     echo cml_script_c
@@ -47,7 +48,7 @@ step() {
         cml_queueing) simulates ;;
         cml_c) calls_from_c ;;
         cml_script_c) replays_from_c ;;
-        cml_tests) passes "$1" ;;
+        cml_tests | cml_file_tests) passes "$1" ;;
         guide | speed) sh "tests/docs/$1.sh" ;;
         refused_bodies) sh tests/libraries/refused_bodies.sh ;;
         *) build "$1" "crates/$1/src/main.rt" && prints "$1" ;;

@@ -15,3 +15,9 @@ module _ {M : Type 0} where
   Fails before after call (Unmade fault back) = (back ≡ call) × (after ≡ before)
   Fails before after call (Unstored fault answer) =
       (answer.call ≡ call) × (suits call answer.reply ≡ true) × (after ≡ raised before)
+
+  -- a call was made, and this is its answer
+  abbrev pub IsUnstored : Answer M → Failed (Call M) (Answer M) → Type 0
+  IsUnstored answer (Refused refusal back) = ⊥
+  IsUnstored answer (Unmade fault back) = ⊥
+  IsUnstored answer (Unstored fault told) = told ≡ answer

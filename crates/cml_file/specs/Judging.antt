@@ -1,5 +1,5 @@
 -- What is kept of a file's text, and why it is refused.
-use Rattle.std.specs.Prelude.{◌≡◌, ◌⊎◌, ◌×◌, ℕ, ◌+◌, ◌<◌, List, [], length, Bool, false, Option, Some, None, Ok, ⊤}
+use Rattle.std.specs.Prelude.{◌≡◌, ◌⊎◌, ℕ, ◌==◌, if◌then◌else◌, ◌<◌, List, [], length, Bool, false, Option, Some, None, Ok, ⊤}
 use Rattle.cml_board.specs.{Entry, Expected}
 use Rattle.cml_journal.specs.{Halt, IsFaultyJournal, IsUnlawfulJournal, State, Sum, Unended, What, last_sum, printed, reading, unended, waiting_at}
 use Rattle.cml_journal.specs.declared.fault.Unended.TheVariants.{Open, Torn, NoJournal as none}
@@ -11,25 +11,26 @@ use Rattle.cml_file.specs.declared.judging.More.TheVariants.{Entries, Plain, Sea
 use Rattle.cml_file.specs.declared.refused.Refused.{Refused}
 use Rattle.cml_file.specs.declared.refused.Refused.TheVariants.{NoJournal, OtherVersion, OtherMessages, BeginsLater, Changed, Unlawful, NoMemory}
 
--- what a fault on this line is
-abbrev pub refused_at : ℕ → What → Refused
-refused_at 1 what.OtherVersion = OtherVersion
-refused_at 1 what.OtherType = OtherMessages
-refused_at 1 fault = NoJournal
-refused_at 2 what.Gap = BeginsLater
-refused_at line fault = Changed line fault
+-- why a text is refused in which a check halts so
+abbrev pub IsCause : Halt → Refused → Type 0
+IsCause halt.NoMemory NoMemory = ⊤
+IsCause (halt.Unlawful at) (Unlawful position) = position ≡ at
+IsCause (halt.Fault line fault) NoJournal = line ≡ 1
+IsCause (halt.Fault line fault) OtherVersion = (line ≡ 1) × (fault ≡ what.OtherVersion)
+IsCause (halt.Fault line fault) OtherMessages = (line ≡ 1) × (fault ≡ what.OtherType)
+IsCause (halt.Fault line fault) BeginsLater = (line ≡ 2) × (fault ≡ what.Gap)
+IsCause (halt.Fault line fault) (Changed number told) = (number ≡ line) × (told ≡ fault)
+IsCause halted told = ⊥
 
-abbrev pub refused_by : Halt → Refused
-refused_by halt.NoMemory = NoMemory
-refused_by (halt.Unlawful at) = Unlawful at
-refused_by (halt.Fault line fault) = refused_at line fault
+-- a piece that comes behind one with this sum, if that is sealed
+abbrev pub piece_behind : Option Sum → More
+piece_behind None = Plain
+piece_behind (Some sum) = Sealed sum
 
--- what comes behind a text that ends so
+-- what comes behind a text that ends so, whose last piece has this sum if it is sealed
 abbrev pub next_of : Option Unended → Option Sum → More
-next_of None None = Plain
-next_of None (Some sum) = Sealed sum
-next_of (Some (Torn 0)) None = Plain
-next_of (Some (Torn lines)) sum = Entries
+next_of None sum = piece_behind sum
+next_of (Some (Torn lines)) sum = if lines == 0 then Plain else Entries
 next_of (Some (Open lines)) sum = Entries
 next_of (Some none) sum = Entries
 
@@ -51,9 +52,9 @@ module _ {M : Type 0} (version : ℕ) (meaning : List ℕ → Option M) where
       ⊎ ((reason ≡ NoJournal) × (printed bytes ≡ []) × (10 < length bytes))
 
   -- a text that is kept has so many entries, and this comes behind it
-  pub record IsNext (text : List ℕ) (count : ℕ) (more : More) : Type 0 where
+  pub record IsNext (text : List ℕ) (count : ℕ) (next : More) : Type 0 where
     pub state : State
     pub entries : List (Entry M)
     pub read : reading version meaning (waiting_at 0) text ≡ Ok (state, entries)
     pub counted : count ≡ length entries
-    pub more : more ≡ next_of (unended version state) (last_sum state)
+    pub is : next ≡ next_of (unended version state) (last_sum state)

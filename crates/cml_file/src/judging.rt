@@ -1,9 +1,10 @@
 //! The text of a journal's file is judged, before anything is written.
-ghost use Rattle.std.specs.Prelude.{◌≡◌, ◌==◌, ◌≤◌, ◌^◌, [], position, length, take, IfOk, IfErr};
+ghost use Rattle.std.specs.Prelude.{◌≡◌, ◌==◌, ◌≤◌, ◌^◌, true, position, length, take, IfOk, IfErr, OnOk};
 ghost use Rattle.cml_journal.specs.{IsRestored, IsSoFar, printed};
 ghost use Rattle.cml_store.specs.Recovery.{recovered};
-ghost use Rattle.cml_store.specs.Texts.{is_whole_text};
-ghost use Rattle.cml_file.specs.{IsNext, Refuses, Stops, next_of};
+ghost use Rattle.cml_store.specs.Texts.{is_front_text, is_whole_text};
+ghost use Rattle.cml_file.specs.declared.refused.Refused.TheVariants.{NoMemory};
+ghost use Rattle.cml_file.specs.{IsNext, Refuses, Stops, next_of, piece_behind};
 
 use crate::refused::Refused;
 use cml_board::{Message, Restored};
@@ -53,27 +54,93 @@ pub fn judge<M: Message + Written, L: MessageLog<M>>(
     // What is kept is what recovery keeps.
     ensures kept { IfOk result (λ judged. judged.kept ≡ length (recovered (is_whole_text M.VERSION M.meaning) bytes.now)) }
     ensures restored { IfOk result (λ judged. IsRestored M.VERSION M.meaning (take judged.kept bytes.now) limit judged.restored) }
-    ensures more { IfOk result (λ judged. IsNext M.VERSION M.meaning (take judged.kept bytes.now) judged.entries judged.more) }
+    ensures next { IfOk result (λ judged. IsNext M.VERSION M.meaning (take judged.kept bytes.now) judged.entries judged.more) }
+    ensures front { OnOk result (is_front_text M.VERSION M.meaning (printed bytes.now) ≡ true) }
     ensures refused { IfErr result (Refuses M.VERSION M.meaning bytes.now) }
 {
-    kept_is_recovered::<M>();
     let text = printed_part(bytes);
-    let check = read::<M, L>(alloc, text)?;
-    if check.unended() == Some(Unended::NoJournal) || (text.is_empty() && bytes.len() > HEADER) {
+    match read::<M, L>(alloc, text) {
+        Ok(check) => judge_read(alloc, bytes, text, check, limit),
+        Err(refused) => Err(refused),
+    }
+}
+
+/// Judges bytes whose text was read.
+fn judge_read<M: Message + Written, L: MessageLog<M>>(
+    alloc: Global,
+    bytes: &[u8],
+    text: &[u8],
+    check: Check<M, L>,
+    limit: u64,
+) -> Result<Judged<M, L>, Refused>
+    requires least { 1 ≤ limit }
+    requires most { limit ≤ 2 ^ 32 }
+    requires text { text.now ≡ printed bytes.now }
+    requires read { IsSoFar M.VERSION M.meaning text.now check }
+    ensures kept { IfOk result (λ judged. judged.kept ≡ length (recovered (is_whole_text M.VERSION M.meaning) bytes.now)) }
+    ensures restored { IfOk result (λ judged. IsRestored M.VERSION M.meaning (take judged.kept bytes.now) limit judged.restored) }
+    ensures next { IfOk result (λ judged. IsNext M.VERSION M.meaning (take judged.kept bytes.now) judged.entries judged.more) }
+    ensures front { OnOk result (is_front_text M.VERSION M.meaning (printed bytes.now) ≡ true) }
+    ensures refused { IfErr result (Refuses M.VERSION M.meaning bytes.now) }
+{
+    if !is_front(&check, text) {
         return Err(Refused::NoJournal);
     }
-    let kept = check.kept() as usize;
+    if text.is_empty() && bytes.len() > HEADER {
+        return Err(Refused::NoJournal);
+    }
+    let kept = kept_of(&check, text);
     let end = match check.unended() {
         Some(Unended::Torn(_)) => kept,
         _ => text.len(),
     };
     let cut = end_of(bytes).saturating_sub(end);
-    if kept == text.len() {
-        return Ok(go_on(check, limit, kept, cut));
+    match front_of(alloc, check, text, kept) {
+        Ok(front) => Ok(go_on(front, &text[..kept], limit, cut)),
+        Err(refused) => Err(refused),
     }
-    // A front of a text that was read has no fault.
+}
+
+/// Returns whether a text that was read may become a journal.
+fn is_front<M: Message + Written, L: MessageLog<M>>(check: &Check<M, L>, text: &[u8]) -> bool
+    requires { IsSoFar M.VERSION M.meaning text.now check.now }
+    ensures { result ≡ is_front_text M.VERSION M.meaning text.now }
+{
+    match check.unended() {
+        Some(Unended::NoJournal) => false,
+        Some(Unended::Open(_)) => true,
+        Some(Unended::Torn(_)) => true,
+        None => true,
+    }
+}
+
+/// How many bytes of a text that was read are kept.
+fn kept_of<M: Message + Written, L: MessageLog<M>>(check: &Check<M, L>, text: &[u8]) -> usize
+    requires { IsSoFar M.VERSION M.meaning text.now check.now }
+    ensures kept { result ≡ length (recovered (is_whole_text M.VERSION M.meaning) text.now) }
+    ensures within { result ≤ length text.now }
+{
+    kept_is_recovered::<M>();
+    check.kept() as usize
+}
+
+/// Reads the kept bytes alone, if the text has more. A front of a text that was read has no fault.
+fn front_of<M: Message + Written, L: MessageLog<M>>(
+    alloc: Global,
+    check: Check<M, L>,
+    text: &[u8],
+    kept: usize,
+) -> Result<Check<M, L>, Refused>
+    requires read { IsSoFar M.VERSION M.meaning text.now check }
+    requires within { kept ≤ length text.now }
+    ensures read { IfOk result (λ front. IsSoFar M.VERSION M.meaning (take kept text.now) front) }
+    ensures refused { IfErr result (λ refused. refused ≡ NoMemory) }
+{
+    if kept == text.len() {
+        return Ok(check);
+    }
     match read(alloc, &text[..kept]) {
-        Ok(check) => Ok(go_on(check, limit, kept, cut)),
+        Ok(front) => Ok(front),
         Err(_) => Err(Refused::NoMemory),
     }
 }
@@ -119,19 +186,19 @@ fn read<M: Message + Written, L: MessageLog<M>>(
     }
 }
 
-/// What is gone on with, of a text of which all is kept.
+/// What is gone on with of a text that is all kept.
 fn go_on<M: Message + Written, L: MessageLog<M>>(
     check: Check<M, L>,
+    text: &[u8],
     limit: u64,
-    kept: usize,
     cut: usize,
 ) -> Judged<M, L>
     requires least { 1 ≤ limit }
     requires most { limit ≤ 2 ^ 32 }
-    requires read { (text : List ℕ) × IsSoFar M.VERSION M.meaning text check }
-    ensures kept { result.kept ≡ kept }
-    ensures restored { (text : List ℕ) → IsSoFar M.VERSION M.meaning text check → IsRestored M.VERSION M.meaning text limit result.restored }
-    ensures more { (text : List ℕ) → IsSoFar M.VERSION M.meaning text check → IsNext M.VERSION M.meaning text result.entries result.more }
+    requires read { IsSoFar M.VERSION M.meaning text.now check }
+    ensures kept { result.kept ≡ length text.now }
+    ensures restored { IsRestored M.VERSION M.meaning text.now limit result.restored }
+    ensures next { IsNext M.VERSION M.meaning text.now result.entries result.more }
 {
     let mut check = check;
     let entries = check.entries();
@@ -140,7 +207,7 @@ fn go_on<M: Message + Written, L: MessageLog<M>>(
         Some(restored) => Judged {
             restored,
             entries,
-            kept,
+            kept: text.len(),
             cut,
             more,
         },
@@ -152,9 +219,19 @@ fn go_on<M: Message + Written, L: MessageLog<M>>(
 fn next_of(unended: Option<Unended>, sum: Option<Sum>) -> More
     ensures { result ≡ next_of unended sum }
 {
-    match (unended, sum) {
-        (None | Some(Unended::Torn(0)), None) => More::Plain,
-        (None, Some(sum)) => More::Sealed(sum),
-        _ => More::Entries,
+    match unended {
+        None => piece_behind(sum),
+        Some(Unended::Torn(lines)) if lines == 0 => More::Plain,
+        Some(_) => More::Entries,
+    }
+}
+
+/// The piece that comes behind one with this sum, if that is sealed.
+fn piece_behind(sum: Option<Sum>) -> More
+    ensures { result ≡ piece_behind sum }
+{
+    match sum {
+        None => More::Plain,
+        Some(sum) => More::Sealed(sum),
     }
 }

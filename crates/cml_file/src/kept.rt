@@ -2,7 +2,7 @@
 ghost use Rattle.std.specs.Prelude.{◌≡◌, ◌≤◌, ◌^◌, [], true, IfOk, IfErr, OnOk};
 ghost use Rattle.cml_board.specs.declared.outcome.Refusal.TheVariants.{NoMemory};
 ghost use Rattle.cml_threads.specs.{raised, suits};
-ghost use Rattle.cml_file.specs.{Fails};
+ghost use Rattle.cml_file.specs.{Fails, IsUnstored};
 
 use crate::disk::Disk;
 use crate::failed::Failed;
@@ -98,10 +98,9 @@ impl<M: Message + Written, L: MessageLog<M>, Led: Ledger> KeptSwitchboard<M, L, 
         if let Err(fault) = self.make_ready(rt, &call) {
             return Err(Failed::Unmade(fault, call));
         }
-        let answer = self.make(rt, seat, call)?;
-        match self.keep(rt, answer) {
-            Ok(answer) => Ok(answer),
-            Err((fault, answer)) => Err(Failed::Unstored(fault, answer)),
+        match self.make_unstored(rt, seat, call) {
+            Ok(answer) => self.stored(rt, answer),
+            Err(failed) => Err(failed),
         }
     }
 
@@ -161,8 +160,23 @@ impl<M: Message + Written, L: MessageLog<M>, Led: Ledger> KeptSwitchboard<M, L, 
         Ok(())
     }
 
-    /// Makes a call on the switchboard. If the journal is full, it makes room first.
-    fn make<R: Wait>(
+    /// Returns the answer of a call, once it is stored.
+    fn stored<R: Wait>(
+        &self,
+        rt: &R,
+        answer: Unstored<Answer<M>>,
+    ) -> Result<Answer<M>, CallFailed<M>>
+        ensures stored { IfOk result (λ stored. stored ≡ answer.value) }
+        ensures unstored { IfErr result (IsUnstored answer.value) }
+    {
+        match self.keep(rt, answer) {
+            Ok(answer) => Ok(answer),
+            Err((fault, answer)) => Err(Failed::Unstored(fault, answer)),
+        }
+    }
+
+    /// Makes a call on the switchboard, whose answer is not stored.
+    fn make_unstored<R: Wait>(
         &self,
         rt: &R,
         seat: &mut Seat<Led>,
@@ -173,10 +187,28 @@ impl<M: Message + Written, L: MessageLog<M>, Led: Ledger> KeptSwitchboard<M, L, 
         ensures counted { OnOk result (seat.new ≡ raised seat.old) }
         ensures failed { IfErr result (Fails seat.old seat.new call) }
     {
+        match self.make(rt, seat, call) {
+            Ok(answer) => Ok(Unstored::of(answer)),
+            Err(failed) => Err(failed),
+        }
+    }
+
+    /// Makes a call on the switchboard. If the journal is full, it makes room first.
+    fn make<R: Wait>(
+        &self,
+        rt: &R,
+        seat: &mut Seat<Led>,
+        call: Call<M>,
+    ) -> Result<Answer<M>, CallFailed<M>>
+        ensures call { IfOk result (λ answer. answer.call ≡ call) }
+        ensures reply { IfOk result (λ answer. suits call answer.reply ≡ true) }
+        ensures counted { OnOk result (seat.new ≡ raised seat.old) }
+        ensures failed { IfErr result (Fails seat.old seat.new call) }
+    {
         let mut call = call;
         for _ in rt.forever() {
             match self.board.call(rt, seat, call) {
-                Ok(answer) => return Ok(Unstored::of(answer)),
+                Ok(answer) => return Ok(answer),
                 Err((Refusal::JournalFull, back)) => {
                     if let Err(fault) = self.store(rt) {
                         return Err(Failed::Unmade(fault, back));

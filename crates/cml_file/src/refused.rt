@@ -1,7 +1,5 @@
 //! Why a text is not gone on with.
-ghost use Rattle.std.specs.Prelude.{◌≡◌};
-ghost use Rattle.cml_journal.specs.{Halt};
-ghost use Rattle.cml_file.specs.{refused_by};
+ghost use Rattle.cml_file.specs.{IsCause};
 
 use cml_journal::{Halt, What};
 use thiserror::Error;
@@ -35,7 +33,7 @@ pub enum Refused {
 impl Refused {
     /// The reason by what stopped a check.
     pub(crate) fn of(halt: Halt) -> Refused
-        ensures { result ≡ refused_by halt }
+        ensures { IsCause halt result }
     {
         match halt {
             Halt::NoMemory => Refused::NoMemory,
