@@ -80,6 +80,24 @@ pub recovered_within : (whole : List ℕ → Bool) (bytes : List ℕ) → length
 recovered_within whole bytes =
     omega (arith, take_short (longest whole (printed bytes) (length (printed bytes))) (printed bytes), printed_short bytes)
 
+take_length : (n : ℕ) (xs : List ℕ) → n ≤ length xs → length (take n xs) ≡ n
+take_length zero xs le = refl
+take_length (suc n) [] le = absurd (omega (arith, le))
+take_length (suc n) (x ∷ xs) le = ap suc (take_length n xs (omega (arith, le)))
+
+-- what is kept of the text is a front of all bytes
+pub same_front : (bytes text : List ℕ) (n m : ℕ) → text ≡ printed bytes → n ≤ length text → m ≡ length (take n text)
+    → take n text ≡ take m bytes
+same_front bytes text n m is within long =
+    ap (take n) is ∙ take_printed bytes n (subst (λ (t : List ℕ). n ≤ length t) is within)
+    ∙ ap (λ (k : ℕ). take k bytes) (sym (long ∙ take_length n text within))
+
+pub same_length : (whole : List ℕ → Bool) (bytes text : List ℕ) (n m : ℕ) → text ≡ printed bytes → n ≡ length (recovered whole text)
+    → n ≤ length text → m ≡ length (take n text) → m ≡ length (recovered whole bytes)
+same_length whole bytes text n m is kept within long =
+    long ∙ take_length n text within ∙ kept ∙ ap (λ (t : List ℕ). length (recovered whole t)) is
+    ∙ ap length (same_recovered whole bytes)
+
 module _ {M : Type 0} (version : ℕ) (meaning : List ℕ → Option M) where
   -- a check that halts in a text tells why that is refused
   pub stops : (text : List ℕ) (new : Progress M) (halted : Halt) (told : Refused) → HaltTells version meaning text new halted

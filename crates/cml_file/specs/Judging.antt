@@ -1,5 +1,5 @@
 -- What is kept of a file's text, and why it is refused.
-use Rattle.std.specs.Prelude.{◌≡◌, ◌⊎◌, ℕ, ◌==◌, if◌then◌else◌, ◌<◌, List, [], length, Bool, false, Option, Some, None, Ok, ⊤}
+use Rattle.std.specs.Prelude.{◌≡◌, ◌⊎◌, ℕ, ◌==◌, if◌then◌else◌, ◌<◌, List, [], length, false, Option, Some, None, Ok, ⊤}
 use Rattle.cml_board.specs.{Entry, Expected}
 use Rattle.cml_journal.specs.{Halt, IsFaultyJournal, IsUnlawfulJournal, State, Sum, Unended, What, last_sum, printed, reading, unended, waiting_at}
 use Rattle.cml_journal.specs.declared.fault.Unended.TheVariants.{Open, Torn, NoJournal as none}

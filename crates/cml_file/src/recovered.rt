@@ -44,12 +44,12 @@ impl<M: Message + Written, L: MessageLog<M>> Recovered<M, L> {
         let (mut disk, path) = find(rt, alloc, path)?;
         let bytes = read(alloc, &mut disk.file)?;
         let judged = judge(alloc, &bytes, ENTRIES)?;
-        let saved = if judged.cut > LINE_MOST {
-            let rest = &bytes[judged.kept..judged.kept + judged.cut];
-            Some(save(rt, alloc, &disk.folder, path.as_str(), rest)?)
-        } else {
-            None
-        };
+        let mut saved = None;
+        if judged.cut > LINE_MOST {
+            let end = judged.kept.saturating_add(judged.cut);
+            let rest = bytes.get(judged.kept..end).unwrap_or(&bytes);
+            saved = Some(save(rt, alloc, &disk.folder, path.as_str(), rest)?);
+        }
         Ok(Recovered::mended(alloc, disk, bytes, judged, saved)?)
     }
 
@@ -64,6 +64,9 @@ impl<M: Message + Written, L: MessageLog<M>> Recovered<M, L> {
         let size = bytes.len() as u64;
         let mut text = bytes;
         text.truncate(judged.kept);
+        if text.len() > TEXT_MOST {
+            return Err(Fault::NoRoom);
+        }
         let mut filing = Filing::opened(alloc, text, size);
         disk.sync(&mut filing)?;
         let head = head_of::<M>(alloc, judged.more, judged.entries)?;

@@ -1,3 +1,4 @@
+use Rattle.std.proofs.Common.{[]}
 use Rattle.cml_file.proofs.JudgingLemmas.{stops}
 use Rattle.cml_file.proofs.judging.read.Goals as goal
 

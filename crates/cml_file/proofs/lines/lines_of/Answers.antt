@@ -1,4 +1,4 @@
-use Rattle.std.proofs.Common.{◌≡◌, ◌++◌, [], ◌∷◌, List, ℕ, take, string_bytes, ap, ◌∙◌}
+use Rattle.std.proofs.Common.{◌++◌, [], List, ℕ, take, ap, ◌∙◌}
 use Rattle.cml_board.specs.{Entry}
 use Rattle.cml_journal.specs.{line_of, with_line_end}
 use Rattle.cml_journal.proofs.PartLemmas.{lines_more}
