@@ -1,5 +1,6 @@
 -- What is kept of a file's bytes.
-use Rattle.std.proofs.Common.{◌≡◌, ℕ, zero, suc, ◌≤◌, Bool, true, false, ◌==◌, cond, List, [], ◌∷◌, length, take, position, Option, Some, None, refl, sym, ◌∙◌, ap, subst, arith}
+use Rattle.std.proofs.Common.{◌≡◌, ℕ, zero, suc, ◌≤◌, Bool, true, false, ◌==◌, cond, List, [], ◌∷◌, length, take, position}
+use Rattle.std.proofs.Common.{Option, Some, None, refl, sym, ◌∙◌, ap, subst, arith}
 use Rattle.std.specs.Option.{option_map}
 use Rattle.std.proofs.lemmas.Option.{none-some, same_Some}
 use Rattle.cml_grammar.proofs.ListLemmas.{position-cons}
@@ -9,7 +10,8 @@ use Rattle.cml_journal.specs.declared.stop.Halt.TheVariants as halt
 use Rattle.cml_store.specs.Recovery.{longest, recovered}
 use Rattle.cml_file.specs.{IsCause, Stops}
 use Rattle.cml_file.specs.declared.refused.Refused.{Refused}
-use Rattle.cml_file.specs.declared.refused.Refused.TheVariants.{NoJournal, OtherVersion, OtherMessages, BeginsLater, Changed, Unlawful, NoMemory}
+use Rattle.cml_file.specs.declared.refused.Refused.TheVariants.{NoJournal, OtherVersion, OtherMessages, BeginsLater, Changed}
+use Rattle.cml_file.specs.declared.refused.Refused.TheVariants.{Unlawful, NoMemory}
 
 abbrev pub first_zero : List ℕ → Option ℕ
 first_zero bytes = position (λ b. b == 0) bytes
@@ -29,9 +31,11 @@ zero_parts [] i h = absurd (none-some i h)
 zero_parts (b ∷ bs) i h = by (b == 0) refl (first_zero bs) refl (sym (position-cons (λ b. b == 0) b bs) ∙ h) (zero_parts bs)
   where
     by : (t : Bool) → (b == 0) ≡ t → (o : Option ℕ) → first_zero bs ≡ o → cond t (Some 0) (option_map suc o) ≡ Some i
-        → ((j : ℕ) → first_zero bs ≡ Some j → (j ≤ length bs) × (printed bs ≡ take j bs)) → (i ≤ length (b ∷ bs)) × (printed (b ∷ bs) ≡ take i (b ∷ bs))
+        → ((j : ℕ) → first_zero bs ≡ Some j → (j ≤ length bs) × (printed bs ≡ take j bs))
+        → (i ≤ length (b ∷ bs)) × (printed (b ∷ bs) ≡ take i (b ∷ bs))
     by true is o found f later =
-        subst (λ n. (n ≤ length (b ∷ bs)) × (printed (b ∷ bs) ≡ take n (b ∷ bs))) (same_Some 0 i f) (omega arith, ap (λ t. cond t [] (b ∷ printed bs)) is)
+        subst (λ n. (n ≤ length (b ∷ bs)) × (printed (b ∷ bs) ≡ take n (b ∷ bs))) (same_Some 0 i f)
+        (omega arith, ap (λ t. cond t [] (b ∷ printed bs)) is)
     by false is None found f later = absurd (none-some i f)
     by false is (Some j) found f later =
         let parts = later j found in
@@ -43,7 +47,8 @@ pub printed_again : (bytes : List ℕ) → printed (printed bytes) ≡ printed b
 printed_again [] = refl
 printed_again (b ∷ bs) = by (b == 0) refl (printed_again bs)
   where
-    by : (t : Bool) → (b == 0) ≡ t → printed (printed bs) ≡ printed bs → printed (cond t [] (b ∷ printed bs)) ≡ cond t [] (b ∷ printed bs)
+    by : (t : Bool) → (b == 0) ≡ t → printed (printed bs) ≡ printed bs
+        → printed (cond t [] (b ∷ printed bs)) ≡ cond t [] (b ∷ printed bs)
     by true is later = refl
     by false is later = ap (λ t. cond t [] (b ∷ printed (printed bs))) is ∙ ap (λ l. b ∷ l) later
 

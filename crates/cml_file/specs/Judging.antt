@@ -1,7 +1,8 @@
 -- What is kept of a file's text, and why it is refused.
 use Rattle.std.specs.Prelude.{◌≡◌, ◌⊎◌, ℕ, ◌==◌, if◌then◌else◌, ◌<◌, List, [], length, false, Option, Some, None, Ok, ⊤}
 use Rattle.cml_board.specs.{Entry, Expected}
-use Rattle.cml_journal.specs.{Halt, IsFaultyJournal, IsUnlawfulJournal, State, Sum, Unended, What, last_sum, printed, reading, unended, waiting_at}
+use Rattle.cml_journal.specs.{Halt, IsFaultyJournal, IsUnlawfulJournal, State, Sum, Unended, What, last_sum, printed, reading}
+use Rattle.cml_journal.specs.{unended, waiting_at}
 use Rattle.cml_journal.specs.declared.fault.Unended.TheVariants.{Open, Torn, NoJournal as none}
 use Rattle.cml_journal.specs.declared.fault.What.TheVariants as what
 use Rattle.cml_journal.specs.declared.stop.Halt.TheVariants as halt
@@ -9,7 +10,8 @@ use Rattle.cml_store.specs.Texts.{is_front_text}
 use Rattle.cml_file.specs.declared.judging.More.{More}
 use Rattle.cml_file.specs.declared.judging.More.TheVariants.{Entries, Plain, Sealed}
 use Rattle.cml_file.specs.declared.refused.Refused.{Refused}
-use Rattle.cml_file.specs.declared.refused.Refused.TheVariants.{NoJournal, OtherVersion, OtherMessages, BeginsLater, Changed, Unlawful, NoMemory}
+use Rattle.cml_file.specs.declared.refused.Refused.TheVariants.{NoJournal, OtherVersion, OtherMessages, BeginsLater, Changed}
+use Rattle.cml_file.specs.declared.refused.Refused.TheVariants.{Unlawful, NoMemory}
 
 -- why a text is refused in which a check halts so
 abbrev pub IsCause : Halt → Refused → Type 0

@@ -1,5 +1,5 @@
 //! What a journal's file has still to get.
-ghost use Rattle.std.specs.Prelude.{◌≡◌, ◌+◌, ◌-◌, ◌≤◌, ◌<◌, ◌^◌, ◌++◌, [], take, drop, length, IfSome, IsNone, OnOk, OnErr, IfOk, IfErr, string_bytes};
+ghost use Rattle.std.specs.Prelude.{◌≡◌, ◌+◌, ◌-◌, ◌≤◌, ◌^◌, ◌++◌, [], take, drop, length, IfSome, OnOk, OnErr};
 ghost use Rattle.cml_store.specs.Machine.{accepted_by};
 ghost use Rattle.cml_file.specs.{lines_of};
 
@@ -56,7 +56,8 @@ impl<M: Written> Filing<M> {
     pub(crate) fn enter(&mut self) -> Result<(), Fault>
         ensures lines { OnOk result (self.new.bytes.items ≡ self.old.bytes.items ++ lines_of M.text self.old.pending.items) }
         ensures none { OnOk result (self.new.pending.items ≡ []) }
-        ensures same { OnErr result ((self.new.bytes.items ≡ self.old.bytes.items) × (self.new.pending.items ≡ self.old.pending.items)) }
+        ensures same { OnErr result ((self.new.bytes.items ≡ self.old.bytes.items)
+            × (self.new.pending.items ≡ self.old.pending.items)) }
         ensures start { self.new.start ≡ self.old.start }
     {
         let lines = lines::lines_of(self.alloc, &self.pending)?;

@@ -26,8 +26,8 @@ pub type CallFailed<M> = Failed<Call<M>, Answer<M>>;
 /// A switchboard whose journal is kept in a file. A call returns once its entry is stored: it survives a kill of the process. What
 /// was synced survives a loss of power too.
 ///
-/// Threads share it. After each call the thread takes the journal's entries, those of other threads' calls too, and writes their lines
-/// before it returns. Other threads' calls are accepted meanwhile, and wait for the file before they return.
+/// Threads share it. After each call the thread takes the journal's entries, those of other threads' calls too, and writes their
+/// lines before it returns. Other threads' calls are accepted meanwhile, and wait for the file before they return.
 ///
 /// If the file fails, the call that was made returns `Unstored` with its answer. Its entry stays in memory. The next call stores it
 /// first, or is not made: so nothing is lost while the process lives, and little is at stake.
@@ -45,8 +45,8 @@ pub struct KeptSwitchboard<M, L: MessageLog<M>, Led: Ledger> {
 }
 
 impl<M: Message + Written, L: MessageLog<M>, Led: Ledger> KeptSwitchboard<M, L, Led> {
-    /// Makes one of what was recovered of a file. The blank is `Blank::new(PARTS)`, and names the switchboard's ledger. New seats are
-    /// numbered after those of the journal.
+    /// Makes one of what was recovered of a file. The blank is `Blank::new(PARTS)`, and names the switchboard's ledger. New seats
+    /// are numbered after those of the journal.
     pub fn of(
         alloc: Global,
         recovered: Recovered<M, L>,
@@ -82,8 +82,8 @@ impl<M: Message + Written, L: MessageLog<M>, Led: Ledger> KeptSwitchboard<M, L, 
         self.board.leave(rt, seat)
     }
 
-    /// Makes a call, and blocks until it returns or fails, as `Switchboard::call` does. It returns once the call is stored. A call that
-    /// was not made is returned.
+    /// Makes a call, and blocks until it returns or fails, as `Switchboard::call` does. It returns once the call is stored. A call
+    /// that was not made is returned.
     pub fn call<R: Wait>(
         &self,
         rt: &R,
@@ -234,8 +234,8 @@ impl<M: Message + Written, L: MessageLog<M>, Led: Ledger> KeptSwitchboard<M, L, 
         }
     }
 
-    /// Takes the journal's entries and stores their lines. The caller has locked the filing before the journal, so the lines have the
-    /// journal's order. What can't be stored stays in memory.
+    /// Takes the journal's entries and stores their lines. The caller has locked the filing before the journal, so the lines have
+    /// the journal's order. What can't be stored stays in memory.
     fn store_locked<R: Wait>(&self, rt: &R, filing: &mut Filing<M>) -> Result<(), Fault>
         ensures none { OnOk result (filing.new.pending.items ≡ []) }
         ensures stored { OnOk result (filing.new.store.accepted ≤ filing.new.store.stored) }
