@@ -9,7 +9,7 @@
 cd "$(dirname "$0")/.." || exit 1
 
 # The steps after `rt ci`, those that take longest first.
-steps='libraries refused explore program waiting refused_bodies memory compact cuts calls html guide links chart journals queueing speed'
+steps='libraries refused explore program waiting kept_file refused_bodies memory compact cuts calls html guide links chart journals queueing speed'
 
 step() {
     rows=crates/cml_rows/out/cml_rows
@@ -27,6 +27,7 @@ step() {
         waiting) sh tests/stress/waiting.sh "$bench" "$cml" ;;
         guide | html | links | speed) sh "tests/docs/$1.sh" ;;
         refused_bodies) sh tests/libraries/refused_bodies.sh ;;
+        kept_file) sh tests/libraries/kept_file.sh crates/cml_file_tests/out/cml_file_tests ;;
         queueing) sh tests/cml/queueing.sh crates/cml_queueing/out/cml_queueing "$cml" "$chart" ;;
     esac
 }
