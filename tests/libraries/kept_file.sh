@@ -16,7 +16,7 @@ fi
 entries() { bounded "$program" "$1" 0 | sed -n 's/ entries, .*//p'; }
 
 # is_kept LAST FOUND: the file has all calls that returned, and at most one more.
-is_kept() { [ -n "$1" ] && [ "$2" -ge $(($1 + 1)) ] && [ "$2" -le $(($1 + 2)) ]; }
+is_kept() { [ -n "$2" ] && [ "$2" -ge $(($1 + 1)) ] && [ "$2" -le $(($1 + 2)) ]; }
 
 # kills SECONDS: kills the program after as many seconds. The file goes on from the kill before.
 kills() {
@@ -25,11 +25,13 @@ kills() {
     sleep "$1"
     kill -9 "$pid"
     wait "$pid" 2> /dev/null
-    last=$(sed -n 's/^stored //p' "$work/told" | tail -n 1)
+    now=$(sed -n 's/^stored //p' "$work/told" | tail -n 1)
+    last=${now:-$last} # it may be killed before its first call
     found=$(entries "$work/killed.journal")
     if is_kept "$last" "$found"; then pass; else fail "after $1 s: $last was stored, and $found were found"; fi
 }
 
+last=-1
 for seconds in 0.3 0.5 0.2 0.7; do
     kills "$seconds"
 done
