@@ -6,6 +6,8 @@
 mod playing;
 mod sending;
 #[cfg(test)]
+mod sharing;
+#[cfg(test)]
 mod tests;
 
 use cml_board::BoardLog;

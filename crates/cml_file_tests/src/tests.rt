@@ -1,5 +1,6 @@
 //! Files that are new, gone on with, torn and refused.
 use crate::playing::{End, run};
+use crate::sharing::share;
 use cml_board::{Bytes, Call, Name};
 use std::alloc::{AllocError, Global};
 use std::fs::{self, File};
@@ -116,5 +117,17 @@ fn keeps_bytes(rt: HostRuntime) -> Result<(), Fail> {
     let text = fs::read_to_string(&rt, "bytes.journal")?;
     let wanted = "journal 2\nseat 0 mailbox: made 0\nseat 0 send 0 =a%20b: done\n";
     assert_eq!(rt; text.as_str(), wanted);
+    Ok(())
+}
+
+/// Two threads share a switchboard. All their calls are in the file.
+#[test]
+fn threads_share_a_file(rt: HostRuntime) -> Result<(), Fail> {
+    let text = "journal 1\nseat 0 mailbox: made 0\nseat 0 mailbox: made 1\n";
+    fs::write(&rt, "shared.journal", text)?;
+    let counts = share(&rt, rt.alloc(), "shared.journal").ok_or("not shared")?;
+    assert_eq!(rt; counts.as_slice(), &[200, 200][..]);
+    let found = empty(&rt, "shared.journal")?;
+    assert_eq!(rt; found.as_str(), "402 entries, 0 cut");
     Ok(())
 }
