@@ -16,8 +16,8 @@ module _ {M : Type 0} where
   Fails before after call (Unstored fault answer) =
       (answer.call ≡ call) × (suits call answer.reply ≡ true) × (after ≡ raised before)
 
-  -- a call was made, and this is its answer
-  abbrev pub IsUnstored : Answer M → Failed (Call M) (Answer M) → Type 0
-  IsUnstored answer (Refused refusal back) = ⊥
-  IsUnstored answer (Unmade fault back) = ⊥
-  IsUnstored answer (Unstored fault told) = told ≡ answer
+-- a call was made, and returned this
+abbrev pub IsUnstored : {C T : Type 0} → T → Failed C T → Type 0
+IsUnstored value (Refused refusal back) = ⊥
+IsUnstored value (Unmade fault back) = ⊥
+IsUnstored value (Unstored fault told) = told ≡ value

@@ -99,7 +99,7 @@ impl<M: Message + Written, L: MessageLog<M>, Led: Ledger> KeptSwitchboard<M, L, 
             return Err(Failed::Unmade(fault, call));
         }
         match self.make_unstored(rt, seat, call) {
-            Ok(answer) => self.stored(rt, answer),
+            Ok(answer) => self.keep(rt, answer),
             Err(failed) => Err(failed),
         }
     }
@@ -160,21 +160,6 @@ impl<M: Message + Written, L: MessageLog<M>, Led: Ledger> KeptSwitchboard<M, L, 
         Ok(())
     }
 
-    /// Returns the answer of a call, once it is stored.
-    fn stored<R: Wait>(
-        &self,
-        rt: &R,
-        answer: Unstored<Answer<M>>,
-    ) -> Result<Answer<M>, CallFailed<M>>
-        ensures stored { IfOk result (λ stored. stored ≡ answer.value) }
-        ensures unstored { IfErr result (IsUnstored answer.value) }
-    {
-        match self.keep(rt, answer) {
-            Ok(answer) => Ok(answer),
-            Err((fault, answer)) => Err(Failed::Unstored(fault, answer)),
-        }
-    }
-
     /// Makes a call on the switchboard, whose answer is not stored.
     fn make_unstored<R: Wait>(
         &self,
@@ -222,15 +207,15 @@ impl<M: Message + Written, L: MessageLog<M>, Led: Ledger> KeptSwitchboard<M, L, 
     }
 
     /// Returns what a call returned, once it is stored.
-    fn keep<T, R: Wait>(&self, rt: &R, value: Unstored<T>) -> Result<T, (Fault, T)>
+    fn keep<C, T, R: Wait>(&self, rt: &R, value: Unstored<T>) -> Result<T, Failed<C, T>>
         ensures kept { IfOk result (λ kept. kept ≡ value.value) }
-        ensures unstored { IfErr result (λ failed. failed.1 ≡ value.value) }
+        ensures unstored { IfErr result (IsUnstored value.value) }
     {
         let mut filing = self.filing.lock(rt);
         let filing = &mut *filing;
         match self.store_locked(rt, filing) {
             Ok(()) => Ok(value.stored(filing)),
-            Err(fault) => Err(value.unstored(fault)),
+            Err(fault) => Err(value.failed(fault)),
         }
     }
 

@@ -1,10 +1,13 @@
 //! What a call returned that is not stored yet.
 ghost use Rattle.std.specs.Prelude.{◌≡◌, ◌≤◌, []};
+ghost use Rattle.cml_file.specs.{IsUnstored};
 
+use crate::failed::Failed;
+use crate::fault::Fault;
 use crate::filing::Filing;
 
 /// What a call returned whose entry is not stored yet. It can't be dropped, and is taken out only beside a file in which all is
-/// stored, or beside a fault. So the compiler refuses code that returns it before.
+/// stored, or as what a call failed with. So no code returns it before.
 pub(crate) struct Unstored<T> {
     value: T,
 }
@@ -26,12 +29,11 @@ impl<T> Unstored<T> {
         value
     }
 
-    /// Returns it beside a fault.
-    pub(crate) fn unstored<F>(self, fault: F) -> (F, T)
-        ensures fault { result.0 ≡ fault }
-        ensures value { result.1 ≡ self.value }
+    /// Says that it is not stored, and returns it so.
+    pub(crate) fn failed<C>(self, fault: Fault) -> Failed<C, T>
+        ensures { IsUnstored self.value result }
     {
         let Unstored { value } = self;
-        (fault, value)
+        Failed::Unstored(fault, value)
     }
 }
