@@ -51,7 +51,9 @@ fi
 # The program has one file at a time.
 "$program" "$work/busy.journal" 100000000 > "$work/told" &
 pid=$!
-sleep 0.3
+until grep -q '^stored ' "$work/told" || ! kill -0 "$pid"; do
+    sleep 0.1
+done
 if bounded "$program" "$work/busy.journal" 0 | grep -qx 'another handle has the file'; then pass; else fail 'a file that is open'; fi
 kill -9 "$pid"
 wait "$pid" 2> /dev/null
