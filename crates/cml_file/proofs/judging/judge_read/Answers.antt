@@ -8,7 +8,8 @@ use Rattle.cml_file.proofs.judging.judge_read.Goals as goal
 pub returns-in-Ok-clause-kept : goal.returns-in-Ok-clause-kept
 returns-in-Ok-clause-kept g c =
     same_length (is_whole_text g.M.Written.VERSION g.M.Written.meaning) c.args.bytes.now c.args.text.now
-    c.kept_of-kept.result c.go_on.result.kept c.requires.text c.kept_of-kept.ensures.kept c.kept_of-kept.ensures.within c.go_on.ensures.kept
+    c.kept_of-kept.result c.go_on.result.kept c.requires.text c.kept_of-kept.ensures.kept
+    c.kept_of-kept.ensures.within c.go_on.ensures.kept
 
 pub returns-in-Ok-clause-restored : goal.returns-in-Ok-clause-restored
 returns-in-Ok-clause-restored g c =
