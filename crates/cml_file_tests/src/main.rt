@@ -39,8 +39,17 @@ fn open<R: Files<File = File> + Print + AllocGlobal + Wait>(
         Ok(recovered) => {
             let (entries, cut) = (recovered.entries(), recovered.cut());
             println!(rt; "{entries} entries, {cut} cut")?;
-            send_all::<Brand, R>(rt, recovered, Blank::new(PARTS), count)
+            begin(rt, recovered, count)
         }
         Err(unopened) => println!(rt; "{unopened}"),
     }
+}
+
+/// Picks the ledger, apart from the file: the prover offers no pick where a function is bounded by files.
+fn begin<R: Print + AllocGlobal + Wait>(
+    rt: &R,
+    recovered: Recovered<u64, BoardLog<u64>>,
+    count: u64,
+) -> io::Result<()> {
+    send_all::<Brand, R>(rt, recovered, Blank::new(PARTS), count)
 }

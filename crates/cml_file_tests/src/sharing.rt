@@ -24,6 +24,15 @@ pub fn share<R: Files<File = File> + Threads + Wait + Sync>(
     path: &str,
 ) -> Option<Vec<u64>> {
     let recovered = Recovered::open(rt, alloc, path).ok()?;
+    begin(rt, alloc, recovered)
+}
+
+/// Picks the ledger, apart from the file: the prover offers no pick where a function is bounded by files.
+fn begin<R: Threads + Wait + Sync>(
+    rt: &R,
+    alloc: Global,
+    recovered: Recovered<u64, BoardLog<u64>>,
+) -> Option<Vec<u64>> {
     call_in_threads::<Brand, R>(rt, alloc, recovered, Blank::new(PARTS))
 }
 
