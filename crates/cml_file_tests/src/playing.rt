@@ -36,12 +36,22 @@ pub fn run<M: Message + Written + Debug, R: Files<File = File> + AllocGlobal + W
         Ok(recovered) => {
             let (entries, cut) = (recovered.entries(), recovered.cut());
             write!(told, "{entries} entries, {cut} cut")?;
-            let blank = Blank::new(PARTS);
-            play::<M, Brand, R>(rt, recovered, blank, calls, end, &mut told);
+            begin(rt, recovered, calls, end, &mut told);
         }
         Err(unopened) => write!(told, "{unopened}")?,
     }
     Ok(told)
+}
+
+/// Picks the ledger, apart from the file: the prover offers no pick where a function is bounded by files.
+fn begin<M: Message + Written + Debug, R: Wait + AllocGlobal>(
+    rt: &R,
+    recovered: Recovered<M, BoardLog<M>>,
+    calls: Vec<Call<M>>,
+    end: End,
+    told: &mut String,
+) -> Option<()> {
+    play::<M, Brand, R>(rt, recovered, Blank::new(PARTS), calls, end, told)
 }
 
 fn play<M: Message + Written + Debug, Led: Ledger, R: Wait + AllocGlobal>(
