@@ -667,9 +667,9 @@ uint32_t seryugo_journal_text(const struct seryugo *journal, uint64_t from, stru
  */
 uint32_t seryugo_entries_text(const struct seryugo *room, uint64_t from, void *buffer, size_t size, uint64_t *count, uint64_t *length);
 
-/* A sum over a piece of text: SHA-256, if is_there. Fill it with 0 before the first piece. */
+/* A sum over a piece of text: SHA-256, if is_there is 1. Fill it with 0 before the first piece. */
 struct seryugo_sum {
-    bool is_there;
+    uint8_t is_there;
     uint8_t bytes[32];
 };
 
@@ -678,8 +678,18 @@ struct seryugo_sum {
  * the whole journal: keep it elsewhere to see whether last pieces are missing, and nobody can rewrite the past.
  *
  * *sum is the sum of the piece before, which seryugo_sealed_text or seryugo_reading_sum wrote. Begin a text with none. The call writes
- * the sum of this piece there. If it hands over no text, *sum is as it was. All pieces of a text have sums, or none has. */
+ * the sum of this piece there. If it hands over no text, *sum is as it was. All pieces of a text have sums, or none has.
+ * SERYUGO_OUT_OF_BOUNDS: as for seryugo_journal_text, or sum->is_there is neither 0 nor 1, so that nobody has filled it. */
 uint32_t seryugo_sealed_text(struct seryugo *journal, uint64_t from, struct seryugo_sum *sum, struct seryugo_bytes *text);
+
+/* The library reads a `bool`, which no other byte may be. */
+static inline uint32_t seryugo_sealed_text_tested(struct seryugo *journal, uint64_t from, struct seryugo_sum *sum,
+                                                  struct seryugo_bytes *text)
+{
+    return sum->is_there > 1 ? (uint32_t)SERYUGO_OUT_OF_BOUNDS : (seryugo_sealed_text)(journal, from, sum, text);
+}
+
+#define seryugo_sealed_text(journal, from, sum, text) seryugo_sealed_text_tested(journal, from, sum, text)
 
 /*
  * ---- checked journals ----
@@ -816,8 +826,19 @@ static inline uint32_t seryugo_reading_end(const struct seryugo *reading)
 
 /* Writes the sum of the last piece that was read. If the text is torn, and its last piece has no end yet, writes the sum of that
  * piece's whole lines: end it by a line `end N` with this sum, in 64 hex digits. SERYUGO_NOTHING: the text has no sums, nothing was read,
- * or the last whole line is a header. If the reading has stopped, its sum is of no use. SERYUGO_NO_MEMORY: *sum is as it was. */
+ * or the last whole line is a header, and sum->is_there is 0. If the reading has stopped, its sum is of no use. SERYUGO_NO_MEMORY: *sum
+ * is as it was. */
 uint32_t seryugo_reading_sum(const struct seryugo *reading, struct seryugo_sum *sum);
+
+static inline uint32_t seryugo_reading_sum_filled(const struct seryugo *reading, struct seryugo_sum *sum)
+{
+    uint32_t code = (seryugo_reading_sum)(reading, sum);
+
+    sum->is_there = code == SERYUGO_NOTHING ? 0 : sum->is_there;
+    return code;
+}
+
+#define seryugo_reading_sum(reading, sum) seryugo_reading_sum_filled(reading, sum)
 
 /* Opens a room on what was read, and writes a handle to it. The room is as if it had answered all these calls, and had cut its
  * journal then. So its objects, and what waits in them, are those after the last entry. seryugo_entries and seryugo_cut_at write

@@ -126,12 +126,16 @@ uint32_t seryugo_file_state(const struct seryugo_file *file);
 uint32_t seryugo_file_sync(struct seryugo_file *file);
 
 /* Syncs the file, cuts off the zeros behind its text, and closes it. It returns as seryugo_file_sync, and the handle is closed
- * in any case. In a child of a fork it only frees what the child has. */
+ * in any case. Since nobody can ask the handle then, errno is the cause, or 0. In a child of a fork it only frees what the child
+ * has. */
 uint32_t seryugo_file_close(struct seryugo_file *file);
 
 /* Returns in words why calls fail with SERYUGO_FILE_FULL or SERYUGO_FILE_LOST, or null, and writes the cause as errno or 0.
  * The words are there until the file is closed. */
 const char *seryugo_file_error(struct seryugo_file *file, int *number);
+
+/* Returns a fault of enum seryugo_fault on this line, counted from 1, in the words of `cml check`. The text is constant. */
+const char *seryugo_fault_text(uint64_t fault, uint64_t line);
 
 #ifdef __cplusplus
 }

@@ -55,6 +55,7 @@
 #ifndef SERYUGO_SWITCHBOARD_H
 #define SERYUGO_SWITCHBOARD_H
 
+#include <errno.h>
 #include <pthread.h>
 #include <seryugo.h>
 #include <seryugo_file.h>
@@ -178,14 +179,16 @@ static inline uint32_t seryugo_switchboard_sync(struct seryugo_switchboard *boar
 }
 
 /* Closes a switchboard and its room, once each seat has left. Entries that a sink refused are lost. With a file it returns
- * whether all is on the disk, as seryugo_file_close does, and the switchboard is closed in any case. */
+ * whether all is on the disk, with errno, as seryugo_file_close does, and the switchboard is closed in any case. */
 static inline uint32_t seryugo_switchboard_close(struct seryugo_switchboard *board)
 {
     uint32_t code = SERYUGO_DONE, closed;
+    int cause = errno;
 
     if (board->file != NULL) {
         code = seryugo_file_note(board->file, &board->room, NULL);
         closed = seryugo_file_close(board->file);
+        cause = errno;
         code = code == SERYUGO_DONE ? closed : code;
     }
     if (board->keeper.is_kept) {
@@ -194,6 +197,7 @@ static inline uint32_t seryugo_switchboard_close(struct seryugo_switchboard *boa
     seryugo_close(board->room);
     free(board->seats);
     pthread_mutex_destroy(&board->lock);
+    errno = cause;
     return code;
 }
 
@@ -273,14 +277,14 @@ static inline void seryugo_let_go(struct seryugo_switchboard *board)
     pthread_mutex_unlock(&board->lock);
 }
 
-/* Hands the entries since the last cut to the sink, at the end or before a pause. It fails as seryugo_keep does, or with
- * SERYUGO_WRONG_HANDLE if the journal is kept in a file. */
+/* Hands the entries since the last cut to the sink, at the end or before a pause. It fails as seryugo_keep does. It fails with
+ * SERYUGO_WRONG_HANDLE if the journal is kept in a file, or if nobody has called seryugo_switchboard_when_full: the journal stays. */
 static inline uint32_t seryugo_switchboard_keep(struct seryugo_switchboard *board)
 {
     uint32_t code;
     int state = 0;
 
-    if (board->file != NULL) {
+    if (!board->cuts) {
         return SERYUGO_WRONG_HANDLE;
     }
 

@@ -300,19 +300,26 @@ uint32_t seryugo_file_sync(struct seryugo_file *file)
 static uint32_t finish(struct seryugo_file *file)
 {
     uint32_t code = seryugo_file_wait(file, atomic_load(&file->told));
+    int error;
 
     seryugo_file_stop_helper(file);
-    return code == SERYUGO_DONE && seryugo_file_cut_zeros(file) != 0 ? (uint32_t)SERYUGO_FILE_LOST : code;
+    error = code == SERYUGO_DONE ? seryugo_file_cut_zeros(file) : 0;
+    if (error == 0) {
+        return code;
+    }
+    file->error = error;
+    return SERYUGO_FILE_LOST;
 }
 
 uint32_t seryugo_file_close(struct seryugo_file *file)
 {
-    int state = 0;
+    int state = 0, cause = 0;
     uint32_t code = SERYUGO_FORKED;
 
     pthread_setcancelstate(PTHREAD_CANCEL_DISABLE, &state);
     if (*file->alive != 0) {
         code = finish(file);
+        cause = file->error;
     } else {
         /* The child has no such mapping, and something else may be there. */
         file->view.base = NULL;
@@ -323,6 +330,7 @@ uint32_t seryugo_file_close(struct seryugo_file *file)
     }
     seryugo_file_free(file);
     pthread_setcancelstate(state, &state);
+    errno = cause;
     return code;
 }
 

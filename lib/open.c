@@ -29,6 +29,33 @@ static void count(struct seryugo_opening *opening)
     (void)seryugo_reading_kept(&opening->reading, &opening->found->kept);
 }
 
+const char *seryugo_fault_text(uint64_t fault, uint64_t line)
+{
+    /* By their numbers, as the crate cml_journal words them. */
+    static const char *const texts[] = {
+        "too few words",
+        "unknown word",
+        "no colon",
+        "bad number",
+        "bad message",
+        "wrong reply",
+        "bad bytes",
+        "no header",
+        "another version",
+        "another type of messages",
+        "gap",
+        "wrong end",
+        "wrong sum",
+        "too many entries",
+        "line too long",
+    };
+
+    if (line == 2 && fault == SERYUGO_FAULT_GAP) {
+        return "begins after a cut";
+    }
+    return fault < sizeof texts / sizeof texts[0] ? texts[fault] : "a fault";
+}
+
 /* Says by name why a text with this fault isn't read. */
 static uint32_t refuse_fault(struct seryugo_opening *opening, uint64_t fault)
 {
@@ -47,7 +74,7 @@ static uint32_t refuse_fault(struct seryugo_opening *opening, uint64_t fault)
     if (opening->found->lines == 1 && fault == SERYUGO_FAULT_GAP) {
         return seryugo_refuse(opening, SERYUGO_BEGINS_LATER, "what was before the cut isn't known", 0);
     }
-    return seryugo_refuse(opening, SERYUGO_FAULT, "the journal was changed", 0);
+    return seryugo_refuse(opening, SERYUGO_FAULT, seryugo_fault_text(fault, opening->found->lines + 1), 0);
 }
 
 static uint32_t refuse_text(struct seryugo_opening *opening, uint32_t code)

@@ -45,7 +45,9 @@ static void refuse_texts(void)
     refuse("journal 1\n", 10, SERYUGO_BYTES, SERYUGO_OTHER_MESSAGES, __LINE__);
     REFUSES(BEGINS_LATER, "journal 1\nfrom 4\nseat 0 mailbox: made 4\n");
     REFUSES(FAULT, "journal 1\nseat 0 mailbox: made 0\nseat 0 mail: done\n");
+    HAS(strcmp(found.words, "unknown word") == 0);
     REFUSES(FAULT, "journal 1\nseat 0 mailbox: made 0\nend 2\n");
+    HAS(strcmp(found.words, "wrong end") == 0);
     REFUSES(FAULT, "journal 3\nseat 0 mailbox: made 0\nend 1 0000000000000000000000000000000000000000000000000000000000000000\n");
     IS(2, found.lines);
     REFUSES(UNLAWFUL, "journal 1\nseat 0 mailbox: made 0\nseat 0 send 0 5: done\nseat 0 recv 0: 6\n");

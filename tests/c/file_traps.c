@@ -254,6 +254,39 @@ static void keep_what_did_not_fit(void)
     unlink("late");
 }
 
+/* Entries that don't fit are lost with the switchboard, and errno says why. */
+static void close_what_did_not_fit(void)
+{
+    struct seryugo_switchboard board;
+    struct seryugo_seat seat;
+    struct seryugo_file_options options = {.segment = 4096};
+    struct seryugo lane;
+    struct rlimit before, little;
+    uint64_t number, moved;
+
+    RETURNS(DONE, seryugo_switchboard_open_file("late", SERYUGO_NUMBERS, &options, &found, &board));
+    RETURNS(DONE, seryugo_seat_open(&board, &seat));
+    RETURNS(DONE, seryugo_seat_mailbox_again(&seat, 0));
+    seryugo_seat_leave(&seat);
+    RETURNS(DONE, seryugo_lane_open(&board.room, 0, 1000, &lane, &number));
+    getrlimit(RLIMIT_FSIZE, &before);
+    little = before;
+    little.rlim_cur = 20000;
+    setrlimit(RLIMIT_FSIZE, &little);
+    do {
+        for (uint64_t n = 0; n < 1000; n++) {
+            RETURNS(DONE, seryugo_lane_send(&lane, UINT64_MAX));
+        }
+        RETURNS(DONE, seryugo_lane_drain(&board.room, number, &moved));
+    } while (seryugo_note(&board) == SERYUGO_DONE);
+    seryugo_close(lane);
+    errno = 0;
+    RETURNS(FILE_FULL, seryugo_switchboard_close(&board));
+    IS(EFBIG, (uint64_t)errno);
+    setrlimit(RLIMIT_FSIZE, &before);
+    unlink("late");
+}
+
 /* Messages of all lengths and bytes are there again, the longest, and a swap of two. */
 static void keep_long_messages(uint32_t flags)
 {
@@ -310,6 +343,7 @@ int main(int many, char **words)
     meet_a_foreign_cut();
     keep_lanes();
     keep_what_did_not_fit();
+    close_what_did_not_fit();
     keep_long_messages(0);
     keep_long_messages(SERYUGO_FILE_BY_WRITES);
     puts("each call that returned is in the file");

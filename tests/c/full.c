@@ -2,6 +2,8 @@
  * takes the place of what the sink has. If there is no memory for a call, the program frees all that it has, and ends with status 5. */
 #include "checks.h"
 
+#include "seryugo_switchboard.h"
+
 #include <string.h>
 
 /* What is to be freed: at most one of each kind at a time. */
@@ -20,9 +22,20 @@ static struct sink {
 } sink;
 
 static struct seryugo_keeper keeper;
+static struct seryugo_switchboard board;
+static bool has_board;
+
+static void close_board(void)
+{
+    if (has_board) {
+        has_board = false;
+        RETURNS(DONE, seryugo_switchboard_close(&board));
+    }
+}
 
 static void free_all(void)
 {
+    close_board();
     free_one(&has_text, text);
     close_one(&has_reading, reading);
     close_one(&has_short, compacted);
@@ -214,8 +227,30 @@ static void try_a_short_journal(void)
     close_small();
 }
 
+/* If nobody said what becomes of the journal, it isn't dropped. */
+static void try_to_keep_for_nobody(void)
+{
+    struct seryugo_seat seat;
+    uint64_t mailbox, count;
+
+    RETURNS(DONE, seryugo_switchboard_open(5, &board));
+    has_board = true;
+    RETURNS(DONE, seryugo_seat_open(&board, &seat));
+    RETURNS(DONE, seryugo_seat_new_mailbox(&seat, &mailbox));
+    RETURNS(WRONG_HANDLE, seryugo_switchboard_keep(&board));
+    RETURNS(DONE, seryugo_cut_at(&board.room, &count));
+    IS(0, count);
+    RETURNS(DONE, seryugo_switchboard_when_full(&board, NULL, NULL));
+    RETURNS(DONE, seryugo_switchboard_keep(&board));
+    RETURNS(DONE, seryugo_cut_at(&board.room, &count));
+    IS(1, count);
+    seryugo_seat_leave(&seat);
+    close_board();
+}
+
 int main(void)
 {
+    try_to_keep_for_nobody();
     try_dropping();
     try_a_sink();
     try_a_sink_that_refuses();

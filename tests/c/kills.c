@@ -4,7 +4,9 @@
  * short one. It says how many entries it begins with. */
 #include "seryugo_switchboard.h"
 
+#include <errno.h>
 #include <stdio.h>
+#include <string.h>
 #include <unistd.h>
 
 #define THREADS 4
@@ -151,7 +153,7 @@ int main(int many, char **words)
     }
     worst = seryugo_switchboard_close(&board);
     if (code == SERYUGO_DONE && worst != SERYUGO_DONE) {
-        (void)fails("close", worst, NULL);
+        (void)fails("close", worst, strerror(errno));
     }
     return (int)(code == SERYUGO_DONE ? worst : code);
 }

@@ -85,6 +85,20 @@ static void read_whole_and_torn(void)
     IS(0, strncmp(digits(&found), file + first_end - 65, 64) != 0);
 }
 
+/* Whatever bytes a sum has that nobody filled, it has none or is refused. */
+static void leave_a_sum_unfilled(void)
+{
+    struct seryugo_sum unfilled;
+
+    memset(&unfilled, 0xA5, sizeof unfilled);
+    open_reading();
+    RETURNS(NOTHING, seryugo_reading_sum(&reading, &unfilled));
+    close_one(&has_reading, reading);
+    IS(0, unfilled.is_there);
+    memset(&unfilled, 0xA5, sizeof unfilled);
+    RETURNS(OUT_OF_BOUNDS, seryugo_sealed_text(&room, 0, &unfilled, &text));
+}
+
 static void change_each_byte(void)
 {
     /* If each allocation fails in turn, the program runs some hundred times. */
@@ -107,6 +121,7 @@ int main(void)
 {
     write_two_pieces();
     read_whole_and_torn();
+    leave_a_sum_unfilled();
     change_each_byte();
     free_all();
     puts("each change is seen");

@@ -19,6 +19,9 @@ for program in tests/c/file.c tests/c/file_traps.c tests/c/shortened.c tests/c/k
 done
 "${CC:-cc}" -std=gnu11 -O2 -shared -fPIC tests/c/faults.c -ldl -o "$work/faults.so"
 "${CC:-cc}" -std=gnu11 -O2 -shared -fPIC tests/lib/refuse.c -ldl -o "$work/refuse.so"
+# A fault has the words of `cml check`: those of the crate, in the same order.
+sed -n '/^pub enum What/,/^}/s/.*#\[error("\(.*\)")\]/\1/p' crates/cml_journal/src/fault.rt > "$work/faults"
+sed -n '/^const char \*seryugo_fault_text/,/^}/s/^ *"\(.*\)",$/\1/p' lib/open.c | cmp - "$work/faults"
 mkdir -m 777 "$work/files" "$work/traps" "$work/short"
 "$work/file" "$work/files"
 "$work/file_traps" "$work/traps"

@@ -9,7 +9,7 @@ from __future__ import annotations
 import os
 import warnings
 import weakref
-from ctypes import byref, c_uint64, c_void_p
+from ctypes import byref, c_uint64, c_void_p, get_errno
 from functools import partial
 from typing import Any, Callable, NamedTuple, Optional, Tuple, Union
 
@@ -17,7 +17,7 @@ from . import _calls as calls
 from . import _library as library
 from . import errors
 from ._library import DONE, NOTHING, PARKED
-from ._lock import free, is_collector, is_held, new_lock
+from ._lock import free, new_lock, refuse_in_a_call
 from ._room import AGAIN, Keeper, Room
 
 Path = Union[str, bytes, "os.PathLike[str]", "os.PathLike[bytes]"]
@@ -137,7 +137,7 @@ class FileKeeper(Keeper):
 
         If many threads wait, the second of them syncs for all.
         """
-        self._refuse_in_a_call()
+        refuse_in_a_call(self._lock, self._room_lock)
         asked = self._begun
         try:
             with self._lock:
@@ -164,7 +164,7 @@ class FileKeeper(Keeper):
             room.refuse(errors.BoardClosed)
             room.wake_all()
 
-        self._refuse_in_a_call()
+        refuse_in_a_call(self._lock, self._room_lock)
         failure = self._close(refuse)
         if failure is not None:
             raise failure
@@ -190,8 +190,11 @@ class FileKeeper(Keeper):
         # No signal's handler runs between these two steps, so that both are made or neither is.
         take: Any = self._unclosed.pop
         closed = list(map(library.file_close, iter(partial(take, "file", None), None)))
+        cause = get_errno()
         if failure is None and closed not in ([], [DONE]):
-            failure = errors.FileLost("the file's end was not cut off or not synced", 0, self.path)
+            words = "the file's end was not cut off or not synced"
+            words += f": {os.strerror(cause)}" if cause else ""
+            failure = errors.FileLost(words, cause, self.path)
         return failure
 
     def _end(self) -> None:
@@ -203,11 +206,6 @@ class FileKeeper(Keeper):
             # The interpreter prints this, since nobody can catch it.
             raise failure
         warnings.warn(f"the switchboard of {self.path!r} was not closed", ResourceWarning)
-
-    def _refuse_in_a_call(self) -> None:
-        # This thread may have a lock, in the midst of which Python collects.
-        if is_collector() and (is_held(self._lock) or is_held(self._room_lock)):
-            raise errors.SeryugoError("Python collects a cycle in the midst of another call")
 
     def _note(self) -> int:
         """Store all entries that aren't stored yet, and return the code of the library."""

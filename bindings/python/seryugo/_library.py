@@ -274,7 +274,8 @@ file_open = _long("file_open", c_char_p, c_uint32, c_uint64, *_AT_FILE)
 file_reserve, file_note = quick("file_reserve", _FREE), quick("file_note", _FREE)
 file_state = quick("file_state")
 file_sync = _long("file_sync", c_void_p)
-file_close = _long("file_close", c_void_p)
+file_close = _function(ctypes.CDLL(_PATH, use_errno=True), "file_close")
+file_close.argtypes = (c_void_p,)
 _file_error = _function(_HELD, "file_error")
 _file_error.argtypes = (c_void_p, POINTER(c_int))
 _file_error.restype = c_char_p
@@ -285,6 +286,19 @@ def file_error(file: c_void_p) -> Tuple[Optional[str], int]:
     number = c_int()
     words = _file_error(file, byref(number))
     return words and words.decode(errors="replace"), number.value
+
+
+_fault_text = _function(_HELD, "fault_text")
+_fault_text.argtypes = (c_uint64, c_uint64)
+_fault_text.restype = c_char_p
+
+
+def reading_fault(reading: Any, line: int) -> str:
+    """Return by which fault a reading has stopped on this line, in the words of `cml check`."""
+    fault = c_uint64()
+    _reading_state(reading, 4, byref(fault))
+    words: str = _fault_text(fault, line).decode()
+    return words
 
 
 def reading_end(reading: Any) -> int:

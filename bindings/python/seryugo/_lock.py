@@ -14,6 +14,8 @@ import sys
 import threading
 from typing import Any, Dict, Optional, Type
 
+from . import errors
+
 collector: Optional[int] = None
 
 
@@ -28,6 +30,12 @@ gc.callbacks.append(_note)
 def is_collector() -> bool:
     """Return whether this thread calls from a `__del__` of what Python collects."""
     return collector == threading.get_ident()
+
+
+def refuse_in_a_call(*locks: Any) -> None:
+    """Fail if Python collects here, and a lock is held: this very thread may have it."""
+    if is_collector() and any(map(is_held, locks)):
+        raise errors.SeryugoError("Python collects a cycle in the midst of another call")
 
 
 class Refusing:

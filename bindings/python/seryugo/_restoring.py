@@ -15,10 +15,7 @@ from ._library import DONE, NOTHING
 from ._messages import plain
 from .journal import Journal
 
-# How much of a text is looked at to say what is wrong with its first line.
-_HEAD = 32
-
-_NO_JOURNAL = "this is no journal"
+_NO_JOURNAL = "not a journal"
 _BEHIND_ZERO = "a byte 0 ends the text, and other bytes follow it"
 
 # The most bytes of a line that are looked at: a piece's first line has no more.
@@ -144,28 +141,16 @@ def _read_from(
 
 
 def _read(reading: library.Handle, parts: Iterable[bytes], lines: Lines) -> None:
-    head = b""
     for part in parts:
         if not isinstance(part, bytes):
             raise TypeError(f"a part of a text is bytes, and not {type(part).__name__}")
         part = plain(part)
-        head = (head + part[:_HEAD])[:_HEAD]
         code = library.reading_take(byref(reading), part, len(part))
         if code != DONE:
-            raise _stopped(reading, code, head)
+            raise _stopped(reading, code)
         if not lines.note(part):
             count = _lines(reading)
             raise errors.Fault(count + 1, _BEHIND_ZERO if count else _NO_JOURNAL)
-
-
-def _flaw_of(head: bytes) -> Optional[str]:
-    """Return what is wrong with a text's first line, if that is known."""
-    words = re.match(rb"journal ([0-9]+)[ \n]", head)
-    if not words:
-        return _NO_JOURNAL
-    if words[1] in (b"1", b"3"):
-        return "it has numbers, and this package reads messages of bytes"
-    return None if words[1] in (b"2", b"4") else "it is of another version"
 
 
 def _entries(reading: library.Handle) -> int:
@@ -191,11 +176,11 @@ def _sum(reading: library.Handle) -> Optional[bytes]:
     return bytes(last.bytes) if last.is_there else None
 
 
-def _stopped(reading: library.Handle, code: int, head: bytes) -> errors.SeryugoError:
-    """Return why the reading of a text with this head has stopped."""
+def _stopped(reading: library.Handle, code: int) -> errors.SeryugoError:
+    """Return why the reading of a text has stopped."""
     if code == errors.Fault.code:
-        count = _lines(reading)
-        return errors.Fault(count + 1, None if count else _flaw_of(head))
+        line = _lines(reading) + 1
+        return errors.Fault(line, library.reading_fault(byref(reading), line))
     if code == errors.Unlawful.code:
         return errors.Unlawful(_entries(reading))
     return errors.of_code(code)

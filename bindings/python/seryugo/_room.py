@@ -131,7 +131,7 @@ class Room:
     def do(self, call: Callable[..., int], *arguments: Any) -> int:
         """Make a call that makes no seat due."""
         if locks.collector is not None:
-            self._refuse_in_a_call()
+            locks.refuse_in_a_call(self.lock)
         try:
             with self.lock:
                 code = call(self.handle, *arguments)
@@ -145,7 +145,7 @@ class Room:
     def within(self, action: Callable[[], T]) -> T:
         """Run this with the lock."""
         if locks.collector is not None:
-            self._refuse_in_a_call()
+            locks.refuse_in_a_call(self.lock)
         try:
             with self.lock:
                 done = action()
@@ -167,7 +167,7 @@ class Room:
     def call(self, call: Callable[..., int], *arguments: Any) -> int:
         """Make a seat's call that never blocks and hands no message over."""
         if locks.collector is not None:
-            self._refuse_in_a_call()
+            locks.refuse_in_a_call(self.lock)
         try:
             with self.lock:
                 if self.keeper is None:
@@ -189,7 +189,7 @@ class Room:
         """Make an object by a seat's call, maybe one on another object. Return its number."""
         name = c_uint64()
         if locks.collector is not None:
-            self._refuse_in_a_call()
+            locks.refuse_in_a_call(self.lock)
         try:
             with self.lock:
                 if self.keeper is None:
@@ -219,7 +219,7 @@ class Room:
     def poll(self, call: Callable[..., int], *arguments: Any) -> Tuple[int, bytes]:
         """Make a call that never blocks, and if it is done hands a message over."""
         if locks.collector is not None:
-            self._refuse_in_a_call()
+            locks.refuse_in_a_call(self.lock)
         try:
             with self.lock:
                 if self.keeper is None:
@@ -253,7 +253,7 @@ class Room:
         After an exception its caller calls `recover`.
         """
         if locks.collector is not None:
-            self._refuse_in_a_call()
+            locks.refuse_in_a_call(self.lock)
         with self.lock:
             if self.keeper is None:
                 code = call(self.handle, *arguments, is_again, self._at_message)
@@ -377,10 +377,6 @@ class Room:
     def _is_in_a_call(self) -> bool:
         """Return whether Python collects here, and this thread may have the lock."""
         return is_collector() and is_held(self.lock)
-
-    def _refuse_in_a_call(self) -> None:
-        if self._is_in_a_call():
-            raise errors.SeryugoError("Python collects a cycle in the midst of another call")
 
     def _let_dropped_leave(self) -> None:
         try:

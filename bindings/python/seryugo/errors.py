@@ -2,6 +2,7 @@
 
 from __future__ import annotations
 
+import os
 from typing import Any, Dict, Optional, Tuple, Type
 
 
@@ -198,7 +199,10 @@ class BeginsLater(SeryugoError):
 
 
 class _FileError(SeryugoError, OSError):
-    """The system refused something. `errno` is its number, or `None` if it gave none."""
+    """The system refused something. `errno` is its number, or `None` if it gave none.
+
+    `__cause__` is the system's own error, if it gave a number.
+    """
 
     def __init__(
         self, words: Optional[str] = None, number: int = 0, path: Optional[str] = None
@@ -207,6 +211,7 @@ class _FileError(SeryugoError, OSError):
         words = words or self.words
         if number:
             OSError.__init__(self, number, words, path)
+            self.__cause__ = OSError(number, os.strerror(number), path)
         else:
             OSError.__init__(self, f"{path}: {words}" if path else words)
 

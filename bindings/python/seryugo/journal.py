@@ -3,7 +3,6 @@
 from __future__ import annotations
 
 import enum
-import threading
 import weakref
 from ctypes import byref, c_uint64
 from dataclasses import dataclass
@@ -14,6 +13,7 @@ from . import errors
 from ._calls import ON_NO_OBJECT, WITH_MESSAGE
 from ._calls import CallKind as CallKind
 from ._library import DONE
+from ._lock import new_lock, refuse_in_a_call
 from ._messages import BYTES, Codec, Message, read_by
 from ._unpicklable import Unpicklable
 
@@ -160,7 +160,7 @@ class Journal(Unpicklable):
         self._start = c_uint64()
         self._count = c_uint64()
         self._codecs = codecs
-        self._lock = threading.Lock()
+        self._lock = new_lock()
 
     @property
     def start(self) -> int:
@@ -180,6 +180,7 @@ class Journal(Unpicklable):
         long that no reader would take its line.
         """
         text = library.Bytes()
+        refuse_in_a_call(self._lock)
         with self._lock:
             code = library.journal_text(self._handle, self.start, byref(text))
         if code != DONE:
@@ -204,6 +205,7 @@ class Journal(Unpicklable):
                 raise ValueError(f"a sum has {library.SUM_LENGTH} bytes, and not {len(after)}")
             last.is_there = True
             last.bytes[:] = after
+        refuse_in_a_call(self._lock)
         with self._lock:
             code = library.sealed_text(self._handle, self.start, byref(last), byref(text))
         if code != DONE:
@@ -253,6 +255,7 @@ class Journal(Unpicklable):
 
     def _entry(self, place: int) -> Entry:
         found = library.Entry()
+        refuse_in_a_call(self._lock)
         with self._lock:
             code = library.taken_entry(self._handle, place, byref(found))
         if code != DONE:
@@ -275,7 +278,7 @@ class Checker(Unpicklable):
             raise errors.of_code(code)
         weakref.finalize(self, library.close_for_good, handle).atexit = False
         self._handle = byref(handle)
-        self._lock = threading.Lock()
+        self._lock = new_lock()
         # How many entries the journals had that were fed whole.
         self._whole = 0
 
@@ -286,6 +289,7 @@ class Checker(Unpicklable):
         `NoMemory`, feed the same journal again: the check goes on where it ended.
         """
         count = c_uint64()
+        refuse_in_a_call(self._lock, journal._lock)
         with self._lock, journal._lock:
             library.checker_verdict(self._handle, byref(count))
             place = count.value - self._whole

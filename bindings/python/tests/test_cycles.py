@@ -2,6 +2,8 @@
 
 import asyncio
 import gc
+import subprocess
+import sys
 import unittest
 import warnings
 
@@ -213,6 +215,53 @@ class InTheMidstOfACall(Collecting):
         self.assertEqual(self.seat.recv(self.mailbox, timeout=1), "hello")
         other.send(self.mailbox, "again")
         self.assertEqual(other.recv(self.mailbox, timeout=1), "again")
+
+    def test_calls_on_a_journal_and_a_checker_while_python_collects(self):
+        """Python collects often, in the midst of these calls too. None of them waits for itself."""
+        program = """if True:
+            import gc
+            from seryugo import Checker, SeryugoError, Switchboard
+
+            class Caller:
+                def __init__(self, call):
+                    self.me = self
+                    self.call = call
+
+                def __del__(self):
+                    try:
+                        self.call()
+                        noted.add("done")
+                    except SeryugoError as error:
+                        noted.add(str(error))
+
+            noted = set()
+            board = Switchboard(100)
+            with board.seat() as seat:
+                seat.send(seat.mailbox(str), "hello")
+            journal, checker = board.take_journal(), Checker()
+            checker.feed(journal)
+            rest = board.take_journal()
+            calls = (
+                journal.text,
+                lambda: journal.sealed_text(None),
+                lambda: list(journal),
+                lambda: checker.feed(rest),
+            )
+            for call in calls:
+                for threshold in range(1, 40):
+                    gc.set_threshold(threshold)
+                    for _ in range(20):
+                        Caller(call)
+                        call()
+            gc.collect()
+            print(*sorted(noted), sep="\\n")
+            """
+        # Without -X dev: its allocations would come in between.
+        ended = subprocess.run(
+            [sys.executable, "-c", program], stdout=subprocess.PIPE, timeout=60, check=True
+        )
+        said = b"Python collects a cycle in the midst of another call\ndone\n"
+        self.assertEqual(ended.stdout, said)
 
 
 if __name__ == "__main__":

@@ -4,6 +4,7 @@ import errno
 import json
 import os
 import resource
+import shutil
 import signal
 import subprocess
 import sys
@@ -29,11 +30,11 @@ def text_of(path):
     return text[: text.rfind(b"\n") + 1]
 
 
-def run(program, *words):
-    """Run a program in Python to its end, and return what it did."""
+def run(program, *words, within=()):
+    """Run a program in Python to its end, within this command, and return what it did."""
     path = os.pathsep.join([str(Path(seryugo.__file__).parent.parent), *sys.path])
     return subprocess.run(
-        [sys.executable, "-X", "dev", "-c", program, *words],
+        [*within, sys.executable, "-X", "dev", "-c", program, *words],
         env={**os.environ, "PYTHONPATH": path},
         stdout=subprocess.PIPE,
         stderr=subprocess.PIPE,
@@ -415,6 +416,7 @@ class Refused(InFolder):
             seryugo.open(str(self.folder / "no folder" / "x"))
         self.assertIs(type(told.exception), seryugo.FileFailed)
         self.assertEqual(told.exception.errno, errno.ENOENT)
+        self.assertIs(type(told.exception.__cause__), FileNotFoundError)
         self.assertIn("no folder", str(told.exception))
         self.assertRaises(seryugo.NoJournal, seryugo.open, self.folder)
 
@@ -442,6 +444,7 @@ class Refused(InFolder):
                 for count in range(100):
                     seat.send(parcels, bytes(100_000))
             self.assertEqual((told.exception.errno, len(parcels)), (errno.EFBIG, count))
+            self.assertEqual(told.exception.__cause__.errno, errno.EFBIG)
             # Once it has taken the second of these, its call was made again after the first.
             for _ in range(2):
                 board._room.recover()
@@ -451,6 +454,42 @@ class Refused(InFolder):
             resource.setrlimit(resource.RLIMIT_FSIZE, limits)
             seat.send(letters, "Dear Ben")
             self.assertEqual(end(), "Dear Ben")
+
+    def test_no_space_is_left(self):
+        """On a small disk that nobody else sees."""
+        mounts = 'mount -t tmpfs -o size=4m tmpfs "$1" && shift && exec "$@"'
+        command = ["unshare", "-m", "sh", "-c", mounts, "sh", str(self.folder)]
+        if os.getuid() != 0 or subprocess.run([*command, "true"]).returncode != 0:
+            self.skipTest("only root can mount a small disk")
+        program = """if True:
+            import seryugo, sys
+            board = seryugo.open(sys.argv[1])
+            with board.seat() as seat:
+                parcels = seat.mailbox(bytes)
+                while True:
+                    seat.send(parcels, bytes(100_000))
+            """
+        ended = run(program, self.path, within=command)
+        self.assertIn("OSError: [Errno 28] No space left on device: ", ended.stderr)
+        refused = "seryugo.errors.FileFull: [Errno 28] posix_fallocate: No space left on device: "
+        self.assertIn(refused, ended.stderr)
+
+    def test_a_close_that_fails_says_why(self):
+        """The zeros at the file's end can't be cut off."""
+        source = Path(__file__).parents[3] / "tests" / "c" / "faults.c"
+        if not source.exists() or shutil.which("cc") is None:
+            self.skipTest("there is nothing by which calls of the system fail")
+        faults = str(self.folder / "faults.so")
+        subprocess.run(["cc", "-shared", "-fPIC", source, "-ldl", "-o", faults], check=True)
+        ended = run(
+            "import seryugo, sys\n"
+            "with seryugo.open(sys.argv[1]) as board, board.seat() as seat:\n"
+            "    seat.mailbox(str)",
+            self.path,
+            within=["env", f"LD_PRELOAD={faults}", "FAULT=ftruncate:2:fail:all"],
+        )
+        self.assertIn("OSError: [Errno 5] Input/output error: ", ended.stderr)
+        self.assertIn("seryugo.errors.FileLost: [Errno 5] ", ended.stderr)
 
 
 if __name__ == "__main__":

@@ -103,7 +103,7 @@ class Texts(unittest.TestCase):
 
     def test_no_journal(self):
         for other in (b'{"precious": 1}', b"journals", b"journal 10", b"\x7fELF"):
-            with self.assertRaisesRegex(seryugo.Fault, "this is no journal"):
+            with self.assertRaisesRegex(seryugo.Fault, "not a journal"):
                 Switchboard.restore([other], is_torn_fine=True)
 
     def test_compacted(self):
@@ -138,28 +138,29 @@ class Texts(unittest.TestCase):
         with self.assertRaises(TypeError):
             seryugo.compacted("text")
 
-    def test_fault(self):
-        first, second = self.history()
-        with self.assertRaises(seryugo.Fault) as told:
-            Switchboard.restore([first, b"journal 2\nwhat\n"])
-        self.assertEqual(told.exception.line, 7)
-
-    def test_a_fault_on_the_first_line_says_why(self):
-        reasons = (
-            (b"journal 1\nend 0\n", "numbers"),
-            (b"journal 3\nend 0 x\n", "numbers"),
-            (b"journal 5\n", "another version"),
-            (b"hello\n", "no journal"),
-            (b"journal 2 x\n", None),
+    def test_a_fault_has_its_line_and_the_words_of_cml_check(self):
+        first, _ = self.history()
+        head = b"journal 2\nseat 0 mailbox: made 0\n"
+        faults = (
+            (b"journal 1\nend 0\n", 1, "another type of messages"),
+            (b"journal 5\n", 1, "another version"),
+            (b"hello\n", 1, "no header"),
+            (b"journal 2\nfrom 5\n", 2, "begins after a cut"),
+            (head + b"what\n", 3, "too few words"),
+            (head + b"seat 0 sand 0 =a: done\n", 3, "unknown word"),
+            (head + b"seat 0 send 0 =a done\n", 3, "no colon"),
+            (head + b"seat 0 send 0 =a: 5\n", 3, "bad message"),
+            (head + b"end 2\n", 3, "wrong end"),
+            (first + b"journal 2\nwhat\n", 7, "gap"),
         )
-        for text, reason in reasons:
+        for text, line, words in faults:
             for parts in [text], [bytes([byte]) for byte in text]:
-                with self.subTest(text), self.assertRaises(seryugo.Fault) as refused:
-                    Switchboard.restore(parts)
-                words, _, why = str(refused.exception).partition(": ")
-                self.assertEqual(words, "the journal's text has a fault on line 1")
-                self.assertEqual(bool(why), reason is not None)
-                self.assertIn(reason or "", why)
+                for read in Switchboard.restore, seryugo.compacted:
+                    with self.subTest(text), self.assertRaises(seryugo.Fault) as refused:
+                        read(parts)
+                    self.assertEqual(refused.exception.line, line)
+                    said = f"the journal's text has a fault on line {line}: {words}"
+                    self.assertEqual(str(refused.exception), said)
 
     def test_unlawful(self):
         first, second = self.history()
