@@ -1,5 +1,8 @@
 //! Why a call failed.
 
+pub(crate) mod cause;
+
+use crate::error::cause::FileCause;
 use crate::explore::Diverged;
 use crate::message::kind::{Misfit, Missing};
 use crate::raw::code;
@@ -98,20 +101,14 @@ pub enum Error {
     /// changed.
     Unlawful(u64),
     /// The system refused what opening the journal's file needs.
-    FileFailed {
-        /// What was refused, and why.
-        words: String,
-        /// The cause as `errno`, or 0.
-        errno: i32,
-    },
+    FileFailed(FileCause),
     /// The disk is full, or the system lets the journal's file grow no further. The call wasn't made.
-    /// [`Switchboard::keeping_error`](crate::Switchboard::keeping_error) says why. A `drain` or a
-    /// `pump` of many long messages may have moved them: they are kept once there is room.
-    FileFull,
+    /// A `drain` or a `pump` of many long messages may have moved them: they are kept once there is
+    /// room.
+    FileFull(FileCause),
     /// The journal's file is lost, since a sync failed or others cut the file: nobody knows whether
-    /// the call is there. [`Switchboard::keeping_error`](crate::Switchboard::keeping_error) says why.
-    /// Each later call fails so, and all who wait are woken.
-    FileLost,
+    /// the call is there. Each later call fails so, and all who wait are woken.
+    FileLost(FileCause),
     /// The process is a child of a fork: the journal's file is its parent's. What returns no `Error`,
     /// as [`Switchboard::entries`](crate::Switchboard::entries), panics there.
     Forked,
@@ -154,8 +151,8 @@ impl Error {
             code::OTHER_VERSION => Error::OtherVersion,
             code::OTHER_MESSAGES => Error::OtherMessages,
             code::BEGINS_LATER => Error::BeginsLater,
-            code::FILE_FULL => Error::FileFull,
-            code::FILE_LOST => Error::FileLost,
+            code::FILE_FULL => Error::FileFull(FileCause::last()),
+            code::FILE_LOST => Error::FileLost(FileCause::last()),
             code::FORKED => Error::Forked,
             other => Error::Unknown(other),
         }
@@ -206,10 +203,10 @@ impl Error {
         match self {
             Error::JournalFull | Error::NotKept | Error::Busy | Error::Full => true,
             Error::NoMemory | Error::TimedOut | Error::Unseen => true,
-            Error::FileBusy | Error::FileFull => true,
+            Error::FileBusy | Error::FileFull(_) => true,
             Error::NoJournal | Error::OtherVersion | Error::OtherMessages => false,
             Error::BeginsLater | Error::Fault(_) | Error::Unlawful(_) => false,
-            Error::FileFailed { .. } | Error::FileLost | Error::Forked | Error::HasFile => false,
+            Error::FileFailed(_) | Error::FileLost(_) | Error::Forked | Error::HasFile => false,
             Error::Gone | Error::NoSuch(_) | Error::WrongKind(_) | Error::Stalled => false,
             Error::OutOfBounds | Error::TooLong | Error::Declined => false,
             Error::Diverged(_) | Error::RerunEnded => false,
@@ -253,11 +250,13 @@ impl fmt::Display for Error {
             Error::Unlawful(at) => {
                 return write!(f, "the entry at position {at} of the journal's file isn't lawful")
             }
-            Error::FileFailed { words, .. } => {
-                return write!(f, "the system refused the journal's file: {words}")
+            Error::FileFailed(why) => return why.after("the system refused the journal's file", f),
+            Error::FileFull(why) => {
+                return why.after("the disk has no room for the journal's file", f)
             }
-            Error::FileFull => "the disk has no room for the journal's file",
-            Error::FileLost => "the journal's file is lost, and nobody knows what it has",
+            Error::FileLost(why) => {
+                return why.after("the journal's file is lost, and nobody knows what it has", f)
+            }
             Error::Forked => "a child of a fork can't use the journal's file of its parent",
             Error::HasFile => "a file keeps the journal, and alone cuts it",
             Error::TimedOut => "the time limit passed before there was an answer",
@@ -287,7 +286,14 @@ impl fmt::Display for Error {
     }
 }
 
-impl std::error::Error for Error {}
+impl std::error::Error for Error {
+    fn source(&self) -> Option<&(dyn std::error::Error + 'static)> {
+        let (Error::FileFailed(why) | Error::FileFull(why) | Error::FileLost(why)) = self else {
+            return None;
+        };
+        why.io_error().map(|error| error as _)
+    }
+}
 
 /// A message that wasn't sent, and why. It becomes its [`Error`] by `?`, which drops the message.
 ///

@@ -221,6 +221,7 @@ mod switchboard;
 mod version;
 
 pub use channel::{Messages, Receiver, Sender};
+pub use error::cause::FileCause;
 pub use error::{Error, SendError};
 pub use journal::checker::{CheckError, Checker};
 pub use journal::entry::{Call, Entry, Reply, Who};

@@ -4,9 +4,11 @@
 //! The library tests each argument but a pointer to bytes. So a call that takes handles by
 //! reference and numbers is safe.
 
+use crate::error::cause::FileCause;
 use crate::error::Error;
 use crate::journal::sum::RawSum;
 use std::ffi::{c_char, c_int, c_void, CStr};
+use std::io;
 use std::mem;
 use std::ptr;
 
@@ -95,6 +97,7 @@ pub enum ReadingState {
     Lines = 1,
     End = 2,
     Kept = 3,
+    Fault = 4,
 }
 
 /// A handle to a room, a lane, a feed, a reading or a taken journal, which is open until it is
@@ -252,18 +255,28 @@ impl File {
 
     /// Makes room for the next call's line, whose message has this many bytes.
     pub fn reserve(&self, room: &mut Handle, bytes: u64) -> u32 {
-        seryugo_file_reserve(self.0, room, bytes)
+        self.explained(seryugo_file_reserve(self.0, room, bytes))
     }
 
     /// Stores the lines of all entries that the room has had since the last time.
     pub fn note(&self, room: &mut Handle) -> u32 {
         // SAFETY: a null pointer asks for no position.
-        unsafe { seryugo_file_note(self.0, room, ptr::null_mut()) }
+        self.explained(unsafe { seryugo_file_note(self.0, room, ptr::null_mut()) })
     }
 
     /// Blocks until all that was stored before is on the disk.
     pub fn sync(&self) -> u32 {
-        seryugo_file_sync(self.0)
+        self.explained(seryugo_file_sync(self.0))
+    }
+
+    /// This code. If it is a refusal of the system's, the error that is made of it says why.
+    #[inline]
+    fn explained(&self, code: u32) -> u32 {
+        if matches!(code, code::FILE_FULL | code::FILE_LOST) {
+            let (words, errno) = self.error().unwrap_or_default();
+            FileCause::new(words, errno).note();
+        }
+        code
     }
 
     /// Why calls fail, in words and as `errno`.
@@ -282,7 +295,18 @@ impl File {
     pub fn close(self) -> u32 {
         let file = self.0;
         mem::forget(self);
-        seryugo_file_close(file)
+        let code = seryugo_file_close(file);
+        if code == code::FILE_LOST {
+            let error = io::Error::last_os_error();
+            let errno = error.raw_os_error().unwrap_or_default();
+            let words = if errno == 0 {
+                String::new()
+            } else {
+                error.to_string()
+            };
+            FileCause::new(words, errno).note();
+        }
+        code
     }
 }
 
@@ -318,6 +342,12 @@ pub fn written(call: impl FnOnce(&mut u64) -> u32) -> Result<u64, Error> {
     Ok(number)
 }
 
+/// A fault on this line of a journal's text, in the words of `cml check`.
+pub fn fault_text(fault: u64, line: u64) -> &'static str {
+    // SAFETY: the text is constant, and ends with a 0.
+    unsafe { CStr::from_ptr(seryugo_fault_text(fault, line)) }.to_str().unwrap_or_default()
+}
+
 /// A number of an object. One of the journal takes any number for the object.
 pub fn read(room: &mut Handle, reader: Reader, object: u64) -> Result<u64, Error> {
     written(|number| seryugo_read(room, reader, object, number))
@@ -340,6 +370,7 @@ unsafe extern "C" {
     safe fn seryugo_file_sync(file: FileAt) -> u32;
     safe fn seryugo_file_close(file: FileAt) -> u32;
     safe fn seryugo_file_error(file: FileAt, errno: &mut c_int) -> *const c_char;
+    safe fn seryugo_fault_text(fault: u64, line: u64) -> *const c_char;
     pub fn seryugo_reading_take_from(reading: &mut Handle, at: *const u8, length: usize) -> u32;
     pub safe fn seryugo_open_room(messages: Messages, limit: u64, room: &mut Opening) -> u32;
     pub safe fn seryugo_open_reading(messages: Messages, reading: &mut Opening) -> u32;

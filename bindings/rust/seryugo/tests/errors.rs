@@ -1,7 +1,7 @@
 //! What errors say to a person, and which calls may be made again.
 
 use seryugo::explore::Diverged;
-use seryugo::{Error, Kind, Misfit, Missing, Object, Switchboard, Version};
+use seryugo::{Error, FileCause, Kind, Misfit, Missing, Object, Switchboard, Version};
 use std::any::type_name;
 
 /// An error of each kind.
@@ -37,12 +37,9 @@ fn each() -> Vec<Error> {
         Error::BeginsLater,
         Error::Fault(7),
         Error::Unlawful(7),
-        Error::FileFailed {
-            words: "open the file: Permission denied".to_string(),
-            errno: 13,
-        },
-        Error::FileFull,
-        Error::FileLost,
+        Error::FileFailed(FileCause::default()),
+        Error::FileFull(FileCause::default()),
+        Error::FileLost(FileCause::default()),
         Error::Forked,
         Error::HasFile,
         Error::Diverged(Box::new(Diverged {
@@ -81,7 +78,7 @@ fn errors_have_plain_words() {
             Error::Full,
             Error::TimedOut,
             Error::FileBusy,
-            Error::FileFull
+            Error::FileFull(FileCause::default())
         ]
     );
 }

@@ -4,7 +4,9 @@
 mod common;
 
 use common::calls::{at_once, blocking, readers, timed, Names, A_MILLISECOND};
-use seryugo::{Asker, Carries, CheckError, Checker, Error, Message, Object, Request, Switchboard};
+use seryugo::{
+    Asker, Carries, CheckError, Checker, Error, FileCause, Message, Object, Request, Switchboard,
+};
 use std::env;
 use std::fs;
 use std::path::{Path, PathBuf};
@@ -188,8 +190,8 @@ fn error_of(code: u32) -> Error {
         25 => Error::OtherVersion,
         26 => Error::OtherMessages,
         27 => Error::BeginsLater,
-        29 => Error::FileFull,
-        30 => Error::FileLost,
+        29 => Error::FileFull(FileCause::default()),
+        30 => Error::FileLost(FileCause::default()),
         31 => Error::Forked,
         code => Error::Unknown(code),
     }
@@ -200,10 +202,7 @@ fn unopened(code: u32) -> Error {
     match code {
         17 => Error::Unlawful(0),
         18 => Error::Fault(1),
-        28 => Error::FileFailed {
-            words: String::new(),
-            errno: 0,
-        },
+        28 => Error::FileFailed(FileCause::default()),
         code => error_of(code),
     }
 }
@@ -292,7 +291,7 @@ fn stopped<T>(told: Result<T, CheckError>, code: u32) {
     let error = told.err().unwrap();
     match code {
         17 => assert!(matches!(error, CheckError::Unlawful(0))),
-        18 => assert!(matches!(error, CheckError::Fault(1))),
+        18 => assert!(matches!(error, CheckError::Fault(1, _))),
         11 => assert!(matches!(error, CheckError::NoMemory)),
         code => assert!(matches!(error, CheckError::Library(error) if error == error_of(code))),
     }

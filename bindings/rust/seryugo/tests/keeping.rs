@@ -158,7 +158,7 @@ fn a_reading_that_has_stopped_is_not_compacted() {
     assert!(matches!(checker.compact(), Err(CheckError::Unlawful(1))));
     let mut checker = Checker::of_numbers().unwrap();
     checker.read(&b"journal 1\nwhat\n"[..]).unwrap_err();
-    assert!(matches!(checker.compact(), Err(CheckError::Fault(2))));
+    assert!(matches!(checker.compact(), Err(CheckError::Fault(2, _))));
     // Up to the last whole line.
     let mut torn = Checker::of_numbers().unwrap();
     torn.read(&b"journal 1\nseat 7 mailbox: made 0\nseat 0 se"[..]).unwrap();
@@ -247,14 +247,18 @@ fn other_text_is_no_journal() {
 #[test]
 fn what_is_wrong_is_told() {
     let fault = |text: &str| match checked(text.as_bytes()) {
-        Err(CheckError::Fault(line)) => line,
+        Err(CheckError::Fault(line, what)) => (line, what),
         Err(error) => panic!("{error}"),
-        Ok(_) => 0,
+        Ok(_) => (0, ""),
     };
-    assert_eq!(fault("what\n"), 1);
-    assert_eq!(fault("journal 1\nfrom 5\n"), 2);
-    assert_eq!(fault("journal 1\nseat 0 mailbox: made 0\nwhat\n"), 3);
-    assert_eq!(fault("journal 1\nend 0\njournal 1\nfrom 1\n"), 4);
+    assert_eq!(fault("what\n"), (1, "no header"));
+    assert_eq!(fault("journal 1\nfrom 5\n"), (2, "begins after a cut"));
+    assert_eq!(fault("journal 1\nseat 0 mailbox: made 0\nwhat\n"), (3, "too few words"));
+    assert_eq!(fault("journal 1\nend 0\njournal 1\nfrom 1\n"), (4, "gap"));
+    let wrong = &b"journal 1\nseat 0 mailbox: made 0\nend 2\n"[..];
+    let said = "line 3 of the journal has a fault: wrong end";
+    assert_eq!(Board::restore(wrong, LIMIT).err().unwrap().to_string(), said);
+    assert_eq!(Board::restore_torn(wrong, LIMIT).err().unwrap().to_string(), said);
 
     let mut checker = Checker::of_numbers().unwrap();
     checker.read(&b"journal 1\nseat 0 mailbox: made 0\n"[..]).unwrap();
@@ -300,8 +304,11 @@ const OTHERS: [(&str, &str, &str); 14] = [
 /// switchboard.
 fn refused<R: MessageKind>(mut checker: Checker<R>, text: &str, at_once: usize) -> Vec<String> {
     let reader = || BufReader::with_capacity(at_once, text.as_bytes());
-    let told =
-        |error: Option<CheckError>| error.map_or("none".into(), |error| format!("{error:?}"));
+    let told = |error: Option<CheckError>| match error {
+        None => "none".to_string(),
+        Some(CheckError::Fault(line, _)) => format!("Fault({line})"),
+        Some(error) => format!("{error:?}"),
+    };
     let mut refused = vec![told(checker.read(reader()).err())];
     let restored = Switchboard::<R>::restore_torn(reader(), LIMIT);
     refused.push(told(restored.err().map(|error| match error {
@@ -328,9 +335,9 @@ fn a_journal_of_another_type_or_version_is_told_as_such() {
     }
     // No header is so long, and no later line is one of another text.
     let long = format!("journal 2 {}\n", "x".repeat(100));
-    assert!(matches!(checked(long.as_bytes()), Err(CheckError::Fault(1))));
+    assert!(matches!(checked(long.as_bytes()), Err(CheckError::Fault(1, _))));
     let later = checked(b"journal 1\nend 0\njournal 2\n");
-    assert!(matches!(later, Err(CheckError::Fault(3))));
+    assert!(matches!(later, Err(CheckError::Fault(3, _))));
     let restored = Board::restore(&b"journal 4\n"[..], LIMIT).err().unwrap();
     let other = "the journal's messages are those of the other kind of switchboard";
     assert_eq!(restored.to_string(), other);

@@ -3,8 +3,9 @@
 
 mod common;
 
-use common::{asking, path_given, poll_once, run_apart, without_a_hang, Scratch};
+use common::{asking, path_given, poll_once, run_apart, script_apart, without_a_hang, Scratch};
 use seryugo::{Error, JournalFile, Numbers, Switchboard};
+use std::error::Error as _;
 use std::fs;
 use std::io::{self, ErrorKind};
 use std::os::unix::process::CommandExt;
@@ -41,13 +42,13 @@ fn fills_a_file() {
             break refused.error;
         }
     };
-    assert_eq!(refused, Error::FileFull);
+    assert!(is_full(&refused), "{refused:?}");
     let sent = board.sent(mailbox).unwrap();
     assert_eq!(board.keeping_error().unwrap().kind(), ErrorKind::FileTooLarge);
-    assert_eq!(seat.recv_poll(mailbox), Err(Error::FileFull));
+    assert!(is_full(&seat.recv_poll(mailbox).unwrap_err()));
     let mut lane = board.lane(mailbox, 8).unwrap();
     lane.send(8).unwrap();
-    assert_eq!(lane.drain(), Err(Error::FileFull));
+    assert!(is_full(&lane.drain().unwrap_err()));
     drop(lane);
     assert_eq!((board.lost(), board.sent(mailbox)), (1, Ok(sent)));
     assert!(poll_once(asked.as_mut()).is_pending());
@@ -55,6 +56,46 @@ fn fills_a_file() {
     drop((seat, waits));
     board.close().unwrap();
     println!("\nsent {sent}");
+}
+
+/// The file may grow no further, and the error says so.
+fn is_full(error: &Error) -> bool {
+    let cause = error.source().and_then(|source| source.downcast_ref::<io::Error>());
+    let is_told = cause.is_some_and(|cause| cause.kind() == ErrorKind::FileTooLarge);
+    is_told && matches!(error, Error::FileFull(_)) && error.to_string().contains("File too large")
+}
+
+/// On a small disk that nobody else sees. Only root can mount one.
+#[test]
+fn a_send_to_a_full_disk_says_that_no_space_is_left() {
+    if !Command::new("unshare").args(["-m", "true"]).status().is_ok_and(|ended| ended.success()) {
+        println!("left out: only root can mount a small disk");
+        return;
+    }
+    let scratch = Scratch::new("space");
+    let mounts = format!("mount -t tmpfs -o size=4m tmpfs '{}' &&", scratch.0.display());
+    let run = script_apart("fills_a_disk", &mounts);
+    let mut other = Command::new("unshare");
+    let other = other.args(["-m", "sh", "-c", &run]).env("SERYUGO_PATH", scratch.path()).output();
+    assert!(other.as_ref().is_ok_and(|other| other.status.success()), "{other:?}");
+}
+
+#[test]
+#[ignore = "another test runs it in its own process"]
+fn fills_a_disk() {
+    let board = Switchboard::open(path_given()).unwrap();
+    let mut seat = board.seat().unwrap();
+    let mailbox = seat.mailbox_again::<Vec<u8>>(0).unwrap();
+    let refused = loop {
+        if let Err(refused) = seat.send(mailbox, vec![0; 100_000]) {
+            break refused.error;
+        }
+    };
+    let said =
+        "the disk has no room for the journal's file: posix_fallocate: No space left on device";
+    assert_eq!(refused.to_string(), said);
+    let cause = refused.source().unwrap().downcast_ref::<io::Error>().unwrap();
+    assert_eq!(cause.kind(), ErrorKind::StorageFull);
 }
 
 /// A drain moves more than the file has room for. Nobody sees that before it is kept.
@@ -78,9 +119,9 @@ fn fills_a_file_by_a_lane() {
         lane.send(vec![0xFF; 371_000]).unwrap();
     }
     let unclosed = lane.close().unwrap_err();
-    assert_eq!((unclosed.error(), seat.recv(mailbox)), (Error::FileFull, Err(Error::FileFull)));
+    assert!(is_full(&unclosed.error()) && is_full(&seat.recv(mailbox).unwrap_err()));
     let unclosed = unclosed.close().unwrap_err();
-    assert_eq!(unclosed.error(), Error::FileFull);
+    assert!(is_full(&unclosed.error()));
     let own = std::process::id().to_string();
     let grows = Command::new("prlimit").args(["--pid", &own, "--fsize=unlimited"]).status();
     assert!(grows.unwrap().success());
@@ -90,10 +131,19 @@ fn fills_a_file_by_a_lane() {
     board.close().unwrap();
 }
 
+/// The file was cut by others, and the error says so. The system refused nothing.
+fn is_lost<T>(answer: Result<T, impl Into<Error>>) -> bool {
+    let Err(error) = answer.map_err(Into::into) else {
+        return false;
+    };
+    let is_told = error.to_string().ends_with(": the file was cut by others");
+    is_told && error.source().is_none() && matches!(error, Error::FileLost(_))
+}
+
 /// Cuts the file as no program may while it is open, and has the switchboard see it.
 fn lose(scratch: &Scratch, board: &Switchboard) {
     fs::File::options().write(true).open(scratch.path()).unwrap().set_len(0).unwrap();
-    assert_eq!(board.sync(), Err(Error::FileLost));
+    assert!(is_lost(board.sync()));
 }
 
 #[test]
@@ -108,17 +158,20 @@ fn a_file_that_is_lost_refuses_calls_and_wakes_all_who_wait() {
             let waiter = scope.spawn(move || waits.recv(mailbox));
             common::let_them_wait();
             lose(&scratch, &board);
-            assert_eq!(seat.send(mailbox, 5).unwrap_err().error, Error::FileLost);
-            assert_eq!(waiter.join().unwrap(), Err(Error::FileLost));
+            assert!(is_lost(seat.send(mailbox, 5)));
+            assert!(is_lost(waiter.join().unwrap()));
         });
-        assert_eq!(poll_once(asked.as_mut()), Poll::Ready(Err(Error::FileLost)));
+        let Poll::Ready(answer) = poll_once(asked.as_mut()) else {
+            panic!("it waits")
+        };
+        assert!(is_lost(answer));
         drop(asked);
         let why = board.keeping_error().unwrap().to_string();
         assert_eq!(why, "the file was cut by others");
-        assert_eq!(seat.recv_poll(mailbox), Err(Error::FileLost));
-        assert_eq!(board.lane(mailbox, 8).unwrap().drain(), Err(Error::FileLost));
+        assert!(is_lost(seat.recv_poll(mailbox)));
+        assert!(is_lost(board.lane(mailbox, 8).unwrap().drain()));
         drop((seat, future));
-        assert_eq!(board.close(), Err(Error::FileLost));
+        assert!(is_lost(board.close()));
     });
 }
 

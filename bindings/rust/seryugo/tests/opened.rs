@@ -6,7 +6,9 @@ use common::{asking, block_on, path_given, poll_once, run_apart, Random, Scratch
 use seryugo::{
     Error, JournalFile, Kind, Message, Misfit, Missing, Numbers, Object, Request, Switchboard,
 };
+use std::error::Error as _;
 use std::fs;
+use std::io::{self, ErrorKind};
 use std::sync::{Arc, Barrier};
 use std::task::Poll;
 use std::thread;
@@ -177,7 +179,9 @@ fn a_file_that_is_refused_is_left_as_it_was() {
     assert_eq!(fs::read_dir(&scratch.0).unwrap().count(), 1, "nothing lies beside it");
     assert_eq!(Switchboard::open(&scratch.0).err(), Some(Error::NoJournal), "a folder");
     let nowhere = Switchboard::open(scratch.0.join("none/x.journal")).unwrap_err();
-    assert!(matches!(nowhere, Error::FileFailed { errno: 2, .. }), "{nowhere:?}");
+    let cause = nowhere.source().unwrap().downcast_ref::<io::Error>().unwrap();
+    assert_eq!((cause.kind(), cause.raw_os_error()), (ErrorKind::NotFound, Some(2)), "{nowhere:?}");
+    assert!(matches!(nowhere, Error::FileFailed(_)), "{nowhere:?}");
     let unnamed = Switchboard::open("a\0b").unwrap_err().to_string();
     assert_eq!(unnamed, "the system refused the journal's file: the path has a byte 0");
 }

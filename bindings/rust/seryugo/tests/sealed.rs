@@ -55,7 +55,7 @@ fn is_whole(text: &[u8]) -> bool {
 }
 
 fn is_fault(text: &[u8]) -> bool {
-    matches!(check(text), Err(CheckError::Fault(_)))
+    matches!(check(text), Err(CheckError::Fault(..)))
 }
 
 #[test]
@@ -87,7 +87,7 @@ fn each_changed_byte_is_seen() {
             if changed != std::mem::replace(&mut text[at], changed) {
                 let read = check(&text);
                 let is_seen = match read {
-                    Err(CheckError::Fault(_) | CheckError::Unlawful(_)) => true,
+                    Err(CheckError::Fault(..) | CheckError::Unlawful(_)) => true,
                     // The first line's version.
                     Err(CheckError::OtherVersion(_)) => at == "journal ".len(),
                     _ => false,

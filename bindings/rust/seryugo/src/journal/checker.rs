@@ -43,7 +43,7 @@ pub struct Checker<R: MessageKind = Bytes> {
 /// use seryugo::{CheckError, Checker};
 ///
 /// let read = Checker::of_numbers()?.read(&b"journal 1\nwhat\n"[..]);
-/// assert!(matches!(read, Err(CheckError::Fault(2))));
+/// assert!(matches!(read, Err(CheckError::Fault(2, "too few words"))));
 /// # Ok::<(), CheckError>(())
 /// ```
 #[derive(Debug)]
@@ -51,8 +51,9 @@ pub struct Checker<R: MessageKind = Bytes> {
 pub enum CheckError {
     /// The entry at this position, counted from 0, is the first that isn't lawful.
     Unlawful(u64),
-    /// This line, counted from 1, has a fault; or it says that the journal begins after a cut.
-    Fault(u64),
+    /// This line, counted from 1, has this fault, in the words of `cml check`; or it says that the
+    /// journal begins after a cut.
+    Fault(u64, &'static str),
     /// The text has no whole line, and no journal begins so.
     NoJournal,
     /// The messages are numbers by the text's first line, and the checker or the switchboard is one
@@ -72,7 +73,9 @@ impl fmt::Display for CheckError {
     fn fmt(&self, f: &mut fmt::Formatter<'_>) -> fmt::Result {
         match self {
             CheckError::Unlawful(at) => write!(f, "the entry at position {at} isn't lawful"),
-            CheckError::Fault(line) => write!(f, "line {line} of the journal has a fault"),
+            CheckError::Fault(line, what) => {
+                write!(f, "line {line} of the journal has a fault: {what}")
+            }
             CheckError::NoJournal => f.write_str("the text is no journal"),
             CheckError::OtherMessages => {
                 f.write_str("the journal's messages are those of the other kind of switchboard")
@@ -245,7 +248,12 @@ impl<R: MessageKind> Checker<R> {
             0 => self.lines.first().and_then(refused::<R>),
             _ => None,
         };
-        refused.unwrap_or(CheckError::Fault(self.whole_lines().saturating_add(1)))
+        let line = self.whole_lines().saturating_add(1);
+        refused.unwrap_or_else(|| {
+            let fault = written(|fault| self.state(ReadingState::Fault, fault));
+            let unknown = "the linked library doesn't say which";
+            CheckError::Fault(line, fault.map_or(unknown, |fault| raw::fault_text(fault, line)))
+        })
     }
 
     /// How many entries were read, each of which is lawful.

@@ -1,5 +1,6 @@
 //! A switchboard whose journal is kept in a file.
 
+use crate::error::cause::FileCause;
 use crate::error::Error;
 use crate::message::carries::{MessageKind, Numbers};
 use crate::raw::{code, done, File, FileFound, FileOptions};
@@ -177,9 +178,8 @@ impl JournalFile {
 
     fn open_board<R: MessageKind>(self, path: &Path) -> Result<Switchboard<R>, Error> {
         version::check()?;
-        let name = CString::new(path.as_os_str().as_bytes()).map_err(|_| Error::FileFailed {
-            words: "the path has a byte 0".to_string(),
-            errno: EINVAL,
+        let name = CString::new(path.as_os_str().as_bytes()).map_err(|_| {
+            Error::FileFailed(FileCause::new("the path has a byte 0".to_string(), EINVAL))
         })?;
         let options = FileOptions {
             sync_milliseconds: self.sync_milliseconds,
@@ -201,10 +201,7 @@ fn refusal(code: u32, found: &FileFound) -> Error {
     match code {
         code::FAULT => Error::Fault(found.lines.saturating_add(1)),
         code::UNLAWFUL => Error::Unlawful(found.entries),
-        code::FILE_FAILED => Error::FileFailed {
-            words: found.words(),
-            errno: found.errno,
-        },
+        code::FILE_FAILED => Error::FileFailed(FileCause::new(found.words(), found.errno)),
         code => Error::of_code(code),
     }
 }
@@ -445,10 +442,10 @@ impl<R: MessageKind> Switchboard<R> {
             return Ok(());
         };
         let state = self.state_mut();
-        let noted = state.note();
+        let noted = done(state.note());
         state.set_file(None);
         let closed = Arc::into_inner(opened.file).map_or(code::DONE, File::close);
-        done(noted).and(done(closed))
+        noted.and(done(closed))
     }
 
     /// Whether a lane takes this message: the file may have too little room for its line.

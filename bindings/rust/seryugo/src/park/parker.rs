@@ -2,13 +2,11 @@
 
 use crate::park::backoff::{pass_by_spinning, LongBackoff, Pass, ShortBackoff};
 use crate::park::yields::pass_by_yielding;
-use std::any::Any;
 use std::mem;
 use std::panic::{self, AssertUnwindSafe};
 use std::sync::atomic::{AtomicBool, AtomicU64, AtomicU8, Ordering};
 use std::sync::{Condvar, Mutex, MutexGuard, PoisonError};
 use std::task::Waker;
-use std::thread;
 use std::time::{Duration, Instant};
 
 /// If more calls than this were made on the switchboard while a seat waited, the answer to its next
@@ -28,20 +26,10 @@ const LISTENS: u8 = 3;
 pub(crate) enum Woken {
     /// A thread that slept.
     Thread,
-    /// The task of a future. It is polled some time. `Err`: its waker panicked.
-    Task(thread::Result<()>),
+    /// The task of a future. It is polled some time, unless its waker panicked.
+    Task,
     /// Neither: the seat is about to wait, and sees the wake then.
     Awake,
-}
-
-impl Woken {
-    /// The panic of a waker.
-    pub fn panic(self) -> Option<Box<dyn Any + Send>> {
-        match self {
-            Woken::Task(woken) => woken.err(),
-            Woken::Thread | Woken::Awake => None,
-        }
-    }
 }
 
 /// The number of no seat.
@@ -195,11 +183,13 @@ impl Parker {
                 Woken::Thread
             }
             LISTENS => {
-                // A waker may run anything, so that the lock isn't held. If it panics, other seats
-                // that are due have to be woken first.
+                // A waker may run anything, so that the lock isn't held. If it panics, the call that
+                // wakes it has its answer, and other seats that are due have to be woken. The panic
+                // was told as it began. What it carries is leaked, since its drop may panic too.
                 let waker = self.waker().take();
                 let wake = AssertUnwindSafe(|| waker.into_iter().for_each(Waker::wake));
-                Woken::Task(panic::catch_unwind(wake))
+                mem::forget(panic::catch_unwind(wake));
+                Woken::Task
             }
             _ => Woken::Awake,
         }

@@ -10,10 +10,7 @@ use crate::switchboard::call::{Ask, Outcome};
 use crate::switchboard::lock::Guard;
 use crate::switchboard::state::State;
 use crate::switchboard::Switchboard;
-use std::any::Any;
 use std::mem;
-use std::panic;
-use std::thread;
 
 /// Before a thread waits for the lock, it spins and tries it: for this many pauses, and then for
 /// twice as many each time. Then it yields and tries it. With a quarter of the pauses, four threads
@@ -109,9 +106,9 @@ impl<R: MessageKind> Switchboard<R> {
     /// Wakes this many seats: those that wait ask again, and their calls fail too.
     #[cold]
     fn wake_all(&self, seats: u64, by: Option<&Parker>) {
-        let woken = (0..seats).filter_map(|place| self.parkers.get(place)?.unpark(by).panic());
-        let panicked: Vec<_> = woken.collect();
-        go_on(panicked.into_iter().next());
+        for parker in (0..seats).filter_map(|place| self.parkers.get(place)) {
+            parker.unpark(by);
+        }
     }
 
     /// The room, for a look or a call that makes no seat due. `Forked` in a child of a fork.
@@ -180,31 +177,21 @@ impl<R: MessageKind> Switchboard<R> {
     /// Wakes a seat that is due. `by` is the parker of the calling seat, if a seat calls. A thread
     /// that is woken makes a call, which wakes the seat after. A task may be polled late, and one
     /// whose waker panics perhaps never. So after a task this wakes the next seat too, up to the
-    /// first thread. Then the first panic goes on.
+    /// first thread.
     fn wake(&self, due: &Parker, by: Option<&Parker>) {
-        let (mut next, mut panicked) = (Some(due), None);
+        let mut next = Some(due);
         while let Some(due) = next {
             let woken = due.unpark(by);
             if let Some(by) = by {
                 by.note_woken(due, &woken);
             }
-            next = matches!(woken, Woken::Task(_)).then(|| self.next_due()).flatten();
-            panicked = panicked.or(woken.panic());
+            next = matches!(woken, Woken::Task).then(|| self.next_due()).flatten();
         }
-        go_on(panicked);
     }
 
     fn next_due(&self) -> Option<&Parker> {
         let due = self.lock().next_due();
         due.and_then(|place| self.parkers.get(place))
-    }
-}
-
-/// Lets the panic of a waker go on. A thread that panics already, as it drops a seat, would abort at
-/// a second panic.
-fn go_on(panicked: Option<Box<dyn Any + Send>>) {
-    if let Some(panic) = panicked.filter(|_| !thread::panicking()) {
-        panic::resume_unwind(panic);
     }
 }
 

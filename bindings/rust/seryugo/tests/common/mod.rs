@@ -143,10 +143,15 @@ impl Drop for Scratch {
     }
 }
 
+/// What a shell runs: one ignored test of the same file, for which it prepares.
+pub fn script_apart(test: &str, prepare: &str) -> String {
+    let this = std::env::current_exe().unwrap();
+    format!("{prepare} exec '{}' --ignored --exact --nocapture {test}", this.display())
+}
+
 /// Runs one ignored test of the same file in another process, which a shell prepares.
 pub fn run_apart(test: &str, prepare: &str, path: &Path) -> Output {
-    let this = std::env::current_exe().unwrap();
-    let run = format!("{prepare} exec '{}' --ignored --exact --nocapture {test}", this.display());
+    let run = script_apart(test, prepare);
     Command::new("sh").args(["-c", &run]).env("SERYUGO_PATH", path).output().unwrap()
 }
 
