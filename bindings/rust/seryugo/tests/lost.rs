@@ -98,6 +98,35 @@ fn fills_a_disk() {
     assert_eq!(cause.kind(), ErrorKind::StorageFull);
 }
 
+/// The zeros at the file's end can't be cut off. A library before the system's refuses that.
+#[test]
+fn a_close_that_fails_says_why() {
+    let scratch = Scratch::new("close");
+    let source = concat!(env!("CARGO_MANIFEST_DIR"), "/../../../tests/c/faults.c");
+    let faults = scratch.0.join("faults.so");
+    let mut compiler = Command::new("cc");
+    let compiler = compiler.args(["-shared", "-fPIC", source, "-ldl", "-o"]).arg(&faults);
+    if !compiler.output().is_ok_and(|compiled| compiled.status.success()) {
+        println!("left out: there is nothing by which calls of the system fail");
+        return;
+    }
+    let words = format!("export FAULT=ftruncate:2:fail:all LD_PRELOAD='{}';", faults.display());
+    let other = run_apart("closes_in_vain", &words, &scratch.path());
+    assert!(other.status.success(), "{other:?}");
+}
+
+#[test]
+#[ignore = "another test runs it in its own process"]
+fn closes_in_vain() {
+    let board = Switchboard::open(path_given()).unwrap();
+    board.seat().unwrap().mailbox_again::<u64>(0).unwrap();
+    let unclosed = board.close().unwrap_err();
+    assert!(matches!(unclosed, Error::FileLost(_)), "{unclosed:?}");
+    assert!(unclosed.to_string().contains("Input/output error"), "{unclosed}");
+    let cause = unclosed.source().and_then(|source| source.downcast_ref::<io::Error>());
+    assert_eq!(cause.and_then(io::Error::raw_os_error), Some(5));
+}
+
 /// A drain moves more than the file has room for. Nobody sees that before it is kept.
 #[test]
 fn long_messages_of_a_lane_meet_a_full_disk() {
