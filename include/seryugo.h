@@ -826,8 +826,8 @@ static inline uint32_t seryugo_reading_end(const struct seryugo *reading)
 
 /* Writes the sum of the last piece that was read. If the text is torn, and its last piece has no end yet, writes the sum of that
  * piece's whole lines: end it by a line `end N` with this sum, in 64 hex digits. SERYUGO_NOTHING: the text has no sums, nothing was read,
- * or the last whole line is a header, and sum->is_there is 0. If the reading has stopped, its sum is of no use. SERYUGO_NO_MEMORY: *sum
- * is as it was. */
+ * or the last whole line is a header, and sum->is_there is 0. If the reading has stopped, its sum is of no use. SERYUGO_NO_MEMORY:
+ * *sum is as it was. */
 uint32_t seryugo_reading_sum(const struct seryugo *reading, struct seryugo_sum *sum);
 
 static inline uint32_t seryugo_reading_sum_filled(const struct seryugo *reading, struct seryugo_sum *sum)

@@ -278,7 +278,7 @@ static inline void seryugo_let_go(struct seryugo_switchboard *board)
 }
 
 /* Hands the entries since the last cut to the sink, at the end or before a pause. It fails as seryugo_keep does. It fails with
- * SERYUGO_WRONG_HANDLE if the journal is kept in a file, or if nobody has called seryugo_switchboard_when_full: the journal stays. */
+ * SERYUGO_WRONG_HANDLE if the journal is kept in a file, or if seryugo_switchboard_when_full wasn't called: the journal stays. */
 static inline uint32_t seryugo_switchboard_keep(struct seryugo_switchboard *board)
 {
     uint32_t code;

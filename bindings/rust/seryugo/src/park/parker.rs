@@ -183,9 +183,9 @@ impl Parker {
                 Woken::Thread
             }
             LISTENS => {
-                // A waker may run anything, so that the lock isn't held. If it panics, the call that
-                // wakes it has its answer, and other seats that are due have to be woken. The panic
-                // was told as it began. What it carries is leaked, since its drop may panic too.
+                // A waker may run anything, so that the lock isn't held. If it panics, the call
+                // that wakes it has its answer, and other seats that are due have to be woken. The
+                // panic was told as it began. What it carries is leaked: its drop may panic too.
                 let waker = self.waker().take();
                 let wake = AssertUnwindSafe(|| waker.into_iter().for_each(Waker::wake));
                 mem::forget(panic::catch_unwind(wake));
