@@ -104,7 +104,8 @@ done
 # A close whose sync or cut fails says why. The first cut is made as the file is opened.
 for call in fdatasync:1 ftruncate:2; do
     rm -f "$work"/x.journal*
-    FAULT=$call:fail:all LD_PRELOAD=$faults "$program" "$work/x.journal" 1 0 > "$work/now" 2> "$work/error" && fail 'the close went well'
+    FAULT=$call:fail:all LD_PRELOAD=$faults "$program" "$work/x.journal" 1 0 > "$work/now" 2> "$work/error" \
+        && fail 'the close went well'
     grep -q '^close: .*: Input/output error$' "$work/error" || fail "the close doesn't say why $call failed"
 done
 echo "$cases cases, of which $met met their fault and $refused were refused by name: nothing is lost, and what is no journal stays"
