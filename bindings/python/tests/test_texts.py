@@ -143,8 +143,10 @@ class Texts(unittest.TestCase):
         head = b"journal 2\nseat 0 mailbox: made 0\n"
         faults = (
             (b"journal 1\nend 0\n", 1, "another type of messages"),
+            (b"journal 3\nend 0 x\n", 1, "another type of messages"),
             (b"journal 5\n", 1, "another version"),
             (b"hello\n", 1, "no header"),
+            (b"journal 2 x\n", 1, "no header"),
             (b"journal 2\nfrom 5\n", 2, "begins after a cut"),
             (head + b"what\n", 3, "too few words"),
             (head + b"seat 0 sand 0 =a: done\n", 3, "unknown word"),
