@@ -24,7 +24,7 @@ impl Failure {
         let path = path.to_owned();
         match error {
             Error::FileBusy => Failure::InUse(path),
-            Error::FileFailed { words, .. } => Failure::File(path, words),
+            Error::FileFailed(why) => Failure::File(path, why.to_string()),
             Error::NoJournal | Error::OtherVersion | Error::OtherMessages | Error::BeginsLater => {
                 Failure::NoJournal(path, error.to_string())
             }
@@ -36,7 +36,7 @@ impl Failure {
     /// Why a call of a switchboard failed that this file keeps.
     pub fn of_call(path: &Path, board: &Switchboard, error: Error) -> Failure {
         match (&error, board.keeping_error()) {
-            (Error::FileFull | Error::FileLost, Some(why)) => Failure::File(path.to_owned(), why.to_string()),
+            (Error::FileFull(_) | Error::FileLost(_), Some(why)) => Failure::File(path.to_owned(), why.to_string()),
             _ => Failure::Library(error),
         }
     }

@@ -74,9 +74,10 @@ impl Server<'_> {
         connection.linger();
         self.connections.remove(connection);
     }
+
     /// Ends a connection for which a call failed. If the file takes no more, the server ends: no client hears of it before.
     pub fn end_failed(&self, connection: &Connection, error: Error) {
-        if matches!(error, Error::FileFull | Error::FileLost) {
+        if matches!(error, Error::FileFull(_) | Error::FileLost(_)) {
             connection.outbox.cut();
             self.keeper.fail(error);
         } else {
