@@ -85,18 +85,20 @@ fn call_all<M: Message + Written + Debug, Led: Ledger, R: Wait>(
     told: &mut String,
 ) -> Result<(), AllocError> {
     for call in calls {
-        match board.reply(rt, seat, call) {
-            Ok(reply) => write!(told, ", {reply:?}")?,
-            Err(failed) => tell_failed(&failed, told)?,
-        }
+        let made = board.reply(rt, seat, call);
+        tell(&made, told)?;
     }
     Ok(())
 }
 
-fn tell_failed<C, A>(failed: &Failed<C, A>, told: &mut String) -> Result<(), AllocError> {
-    match failed {
-        Failed::Refused(refusal, _) => write!(told, ", {refusal:?}"),
-        Failed::Unmade(fault, _) => write!(told, ", unmade: {fault}"),
-        Failed::Unstored(fault, _) => write!(told, ", unstored: {fault}"),
+fn tell<T: Debug, C, A>(
+    made: &Result<T, Failed<C, A>>,
+    told: &mut String,
+) -> Result<(), AllocError> {
+    match made {
+        Ok(reply) => write!(told, ", {reply:?}"),
+        Err(Failed::Refused(refusal, _)) => write!(told, ", {refusal:?}"),
+        Err(Failed::Unmade(fault, _)) => write!(told, ", unmade: {fault}"),
+        Err(Failed::Unstored(fault, _)) => write!(told, ", unstored: {fault}"),
     }
 }
