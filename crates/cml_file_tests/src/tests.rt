@@ -95,7 +95,8 @@ fn refuses_by_name(rt: HostRuntime) -> Result<(), Fail> {
         assert_eq!(rt; refused.as_str(), told, "at {text:?}");
         assert_eq!(rt; fs::read_to_string(&rt, "refused.journal")?.as_str(), text);
     }
-    let folder = empty(&rt, ".")?;
+    fs::create_dir(&rt, "folder")?;
+    let folder = empty(&rt, "folder")?;
     assert_eq!(rt; folder.as_str(), "the first line is none of a journal");
     Ok(())
 }
