@@ -24,14 +24,14 @@ IsCause (halt.Fault line fault) BeginsLater = (line ≡ 2) × (fault ≡ what.Ga
 IsCause (halt.Fault line fault) (Changed number told) = (number ≡ line) × (told ≡ fault)
 IsCause halted told = ⊥
 
--- a piece that comes behind one with this sum, if that is sealed
-abbrev pub piece_behind : Option Sum → More
-piece_behind None = Plain
-piece_behind (Some sum) = Sealed sum
+-- the piece that follows one with this sum, if that is sealed
+abbrev pub piece_after : Option Sum → More
+piece_after None = Plain
+piece_after (Some sum) = Sealed sum
 
--- what comes behind a text that ends so, whose last piece has this sum if it is sealed
+-- what follows a text that ends so, whose last piece has this sum if it is sealed
 abbrev pub next_of : Option Unended → Option Sum → More
-next_of None sum = piece_behind sum
+next_of None sum = piece_after sum
 next_of (Some (Torn lines)) sum = if lines == 0 then Plain else Entries
 next_of (Some (Open lines)) sum = Entries
 next_of (Some none) sum = Entries
@@ -53,7 +53,7 @@ module _ {M : Type 0} (version : ℕ) (meaning : List ℕ → Option M) where
       ⊎ ((reason ≡ NoJournal) × (is_front_text version meaning (printed bytes) ≡ false))
       ⊎ ((reason ≡ NoJournal) × (printed bytes ≡ []) × (10 < length bytes))
 
-  -- a text that is kept has so many entries, and this comes behind it
+  -- a text that is kept has so many entries, and this follows it
   pub record IsNext (text : List ℕ) (count : ℕ) (next : More) : Type 0 where
     pub state : State
     pub entries : List (Entry M)

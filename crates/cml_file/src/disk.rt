@@ -22,7 +22,7 @@ pub(crate) struct Disk {
 enum Until {
     Stored,
     Synced,
-    /// Synced, and the zeros behind the text are cut off.
+    /// Synced, and the zeros after the text are cut off.
     Closed,
 }
 
@@ -51,7 +51,7 @@ impl Disk {
         self.check_synced(filing)
     }
 
-    /// Stores and syncs all text, and cuts off the zeros behind it.
+    /// Stores and syncs all text, and cuts off the zeros after it.
     pub(crate) fn close<M: Written>(&self, filing: &mut Filing<M>) -> Result<(), Fault>
         ensures stored { OnOk result (filing.new.store.accepted ≤ filing.new.store.stored) }
         ensures synced { OnOk result (filing.new.store.accepted ≤ filing.new.store.synced) }

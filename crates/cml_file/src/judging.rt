@@ -4,7 +4,7 @@ ghost use Rattle.cml_journal.specs.{IsRestored, IsSoFar, printed};
 ghost use Rattle.cml_store.specs.Recovery.{recovered};
 ghost use Rattle.cml_store.specs.Texts.{is_front_text, is_whole_text};
 ghost use Rattle.cml_file.specs.declared.refused.Refused.TheVariants.{NoMemory};
-ghost use Rattle.cml_file.specs.{IsNext, Refuses, Stops, next_of, piece_behind};
+ghost use Rattle.cml_file.specs.{IsNext, Refuses, Stops, next_of, piece_after};
 
 use crate::refused::Refused;
 use cml_board::{Message, Restored};
@@ -23,7 +23,7 @@ pub enum More {
     Entries,
     /// A plain piece begins.
     Plain,
-    /// A sealed piece begins, behind one that has this sum.
+    /// A sealed piece follows one with this sum.
     Sealed(Sum),
 }
 
@@ -36,9 +36,9 @@ pub struct Judged<M: Message, L: MessageLog<M>> {
     pub entries: u64,
     /// How many bytes are kept.
     pub kept: usize,
-    /// How many bytes behind them are cut off, without zeros at the end.
+    /// How many bytes after them are cut off, without zeros at the end.
     pub cut: usize,
-    /// What comes behind them.
+    /// What follows them.
     pub more: More,
 }
 
@@ -215,20 +215,20 @@ fn go_on<M: Message + Written, L: MessageLog<M>>(
     }
 }
 
-/// What comes behind a text that ends so, whose last piece has this sum if it is sealed.
+/// What follows a text that ends so. Its last piece has this sum, if it is sealed.
 fn next_of(unended: Option<Unended>, sum: Option<Sum>) -> More
     ensures { result ≡ next_of unended sum }
 {
     match unended {
-        None => piece_behind(sum),
+        None => piece_after(sum),
         Some(Unended::Torn(lines)) if lines == 0 => More::Plain,
         Some(_) => More::Entries,
     }
 }
 
-/// The piece that comes behind one with this sum, if that is sealed.
-fn piece_behind(sum: Option<Sum>) -> More
-    ensures { result ≡ piece_behind sum }
+/// The piece that follows one with this sum, if that is sealed.
+fn piece_after(sum: Option<Sum>) -> More
+    ensures { result ≡ piece_after sum }
 {
     match sum {
         None => More::Plain,

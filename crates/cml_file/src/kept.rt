@@ -134,7 +134,7 @@ impl<M: Message + Written, L: MessageLog<M>, Led: Ledger> KeptSwitchboard<M, L, 
         self.disk.sync(&mut filing)
     }
 
-    /// Closes the file, once all threads are joined: stores and syncs all, and cuts off the zeros behind the text. If it fails, it
+    /// Closes the file, once all threads are joined: stores and syncs all, and cuts off the zeros after the text. If it fails, it
     /// returns the switchboard: call it again, or drop it.
     pub fn close<R: Wait>(self, rt: &R) -> Result<(), (KeptSwitchboard<M, L, Led>, Fault)> {
         match self.finish(rt) {

@@ -30,7 +30,7 @@ fn empty<R: Files<File = File> + AllocGlobal + Wait>(
     run::<u64, R>(rt, path, Vec::new(rt.alloc()), End::Closed)
 }
 
-/// A file is made. After a kill it has each call, and zeros behind them. A program goes on, and closes it without them.
+/// A file is made. After a kill it has each call, and then zeros. A program goes on, and closes it without the zeros.
 #[test]
 fn goes_on_after_a_kill(rt: HostRuntime) -> Result<(), Fail> {
     let made = run(&rt, "a.journal", first(rt.alloc())?, End::Killed)?;
