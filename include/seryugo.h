@@ -77,7 +77,7 @@ enum seryugo_code {
     SERYUGO_FAULT = 18,
     /* The text of a journal ends within a line, or has none. */
     SERYUGO_TORN = 19,
-    /* A line of a journal's text would have more than 1,114,112 bytes, which no reading takes. */
+    /* A line of a journal's text would have more than 4,194,304 bytes, which no reading takes. */
     SERYUGO_TOO_LONG = 20,
     /* The deadline has passed, and the call did nothing. Only the calls of seryugo_switchboard.h return it. */
     SERYUGO_TIMED_OUT = 21,
@@ -651,8 +651,8 @@ static inline uint32_t seryugo_compact_and_cut(struct seryugo *room, struct sery
  *
  * The call writes nothing if it returns one of these. SERYUGO_NO_MEMORY: there is no memory for the text, or it would have more
  * than 2^32 - 1 bytes. SERYUGO_OUT_OF_BOUNDS: the position after the last entry would be 2^64 or more. SERYUGO_TOO_LONG: a line
- * would have more than 1,114,112 bytes, which no reading takes. In a message, each byte outside 0x21 to 0x7E, and each `%`, takes
- * three bytes of the line. So a server that keeps its journal sends no message of more than 371,000 bytes.
+ * would have more than 4,194,304 bytes, which no reading takes. In a message, each byte outside 0x21 to 0x7E, and each `%`, takes
+ * three bytes of the line. So a server that keeps its journal sends no message of more than 1,398,000 bytes.
  */
 uint32_t seryugo_journal_text(const struct seryugo *journal, uint64_t from, struct seryugo_bytes *text);
 
@@ -661,7 +661,7 @@ uint32_t seryugo_journal_text(const struct seryugo *journal, uint64_t from, stru
  * room stays as it was, and nothing is handed over. *count is how many lines these are, and *length how many bytes they have. The
  * bytes after them stay. A reading takes these lines in a piece: the text has no header and no last line.
  *
- * SERYUGO_DONE: no entry is left. SERYUGO_FULL: the next line doesn't fit. SERYUGO_TOO_LONG: it would have more than 1,114,112 bytes.
+ * SERYUGO_DONE: no entry is left. SERYUGO_FULL: the next line doesn't fit. SERYUGO_TOO_LONG: it would have more than 4,194,304 bytes.
  * SERYUGO_NO_MEMORY: there is none for a line of more than 1,024 bytes. SERYUGO_NO_SUCH: an entry from `from` on was cut away, and
  * both counts are 0.
  */

@@ -34,7 +34,7 @@ extern "C" {
 struct seryugo_file;
 
 /* The most bytes of a message, and of both messages of a swap, in a room whose journal has a file. So no line is too long. */
-#define SERYUGO_FILE_MESSAGE_MOST 371000
+#define SERYUGO_FILE_MESSAGE_MOST 1398000
 
 enum seryugo_file_flag {
     /* Writes by pwrite(2) on each file system. */

@@ -69,7 +69,7 @@ uint32_t seryugo_store_mark(struct seryugo *store, uint32_t mark, uint64_t *plac
 /* ---- the file ---- */
 
 /* The most bytes of a line, with its line feed. */
-#define SERYUGO_LINE_MOST 1114113
+#define SERYUGO_LINE_MOST 4194305
 
 #define SERYUGO_PAGE ((uint64_t)4096)
 /* From so many unsynced bytes on the helper syncs early. */

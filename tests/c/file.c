@@ -197,7 +197,7 @@ static void recover_each_place(void)
 /* More than a line's length is saved beside, also if the file is exchanged. */
 static void save_what_is_cut_off(bool is_exchanged)
 {
-    size_t length = sizeof whole - 1, far = 1114112 + 10;
+    size_t length = sizeof whole - 1, far = 4194304 + 10;
 
     memset(content, 0, sizeof content);
     memcpy(content, whole, length);

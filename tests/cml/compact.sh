@@ -166,7 +166,7 @@ endings() {
     # Its own line has room for the message. That of the send has not: its seat's number is longer.
     {
         printf 'journal 2\nseat 18446744073709551614 mailbox: made 0\nlane 0 send 0 ='
-        head -c $((1114112 - 21)) /dev/zero | tr '\0' a
+        head -c $((4194304 - 21)) /dev/zero | tr '\0' a
         printf ': done\nend 2\n'
     } > "$work/in"
     run check < "$work/in"

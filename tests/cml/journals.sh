@@ -299,7 +299,7 @@ faults() {
 }
 
 # too_long LINE FRONT: what standard error says of a line that is too long, by its first 80 bytes.
-too_long() { printf 'journal: line %s: line too long\nexpected: at most 1,114,112 bytes\nfound: `%s`..' "$1" "$2"; }
+too_long() { printf 'journal: line %s: line too long\nexpected: at most 4,194,304 bytes\nfound: `%s`..' "$1" "$2"; }
 
 # long_line CASE BYTES: a line of this many bytes, of which few are kept.
 long_line() {
@@ -311,7 +311,7 @@ long_line() {
 }
 
 long_lines() {
-    long_line 'a line of one byte too many' $((1114112 - 21 + 1))
+    long_line 'a line of one byte too many' $((4194304 - 21 + 1))
     long_line 'a line of 10 MB' 10000000
     head -c 10000000 /dev/zero | tr '\0' ' ' > "$work/in"
     run check < "$work/in"

@@ -19,7 +19,7 @@ BEGIN {
 
 function tables() {
     most = "18446744073709551615"
-    longest = 1114112
+    longest = 4194304
 }
 
 function text_of(file,    text, part, parts) {
@@ -73,7 +73,7 @@ function remember() {
 }
 
 function due(fault) {
-    if (fault == "line too long") return "at most 1,114,112 bytes"
+    if (fault == "line too long") return "at most 4,194,304 bytes"
     if (place == "none") return "`journal 1`, `journal 2`, `journal 3` or `journal 4`"
     if (place == "ended") return "`journal " shown (sealed ? " " last : "") "`"
     if (place == "headed" && entries > 0) return "`from " entries "`"

@@ -22,7 +22,7 @@ from ._room import AGAIN, Keeper, Room
 
 Path = Union[str, bytes, "os.PathLike[str]", "os.PathLike[bytes]"]
 
-_TOO_LONG = "a message has more than 371,000 bytes, or both messages of a swap have more"
+_TOO_LONG = "a message has more than 1,398,000 bytes, or both messages of a swap have more"
 
 # The rooms with a file, which a forked child must not use.
 _rooms: weakref.WeakSet[Room] = weakref.WeakSet()

@@ -428,8 +428,8 @@ class Refused(InFolder):
             self.assertRaises(seryugo.TooLong, seat.send, letters, bytes(371_001))
             self.assertRaises(seryugo.TooLong, seat.swap, variable, bytes(171_001))
             self.assertEqual(len(seat.swap(variable, bytes(171_000))), 200_000)
-            seat.send(letters, b"\n" * 371_000)
-            self.assertEqual(end(), b"\n" * 371_000)
+            seat.send(letters, b"\n" * 1_398_000)
+            self.assertEqual(end(), b"\n" * 1_398_000)
 
     def test_a_full_disk(self):
         """The call isn't made, nobody else's call fails, and later it is made."""

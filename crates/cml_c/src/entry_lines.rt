@@ -14,7 +14,7 @@ use cml_journal::write_entry;
 use std::alloc::{AllocError, Global};
 
 /// No reading takes a line of more bytes, without its line end.
-const MOST: usize = 1_114_112;
+const MOST: usize = 4_194_304;
 
 /// Why no more lines were added.
 #[derive(Clone, Copy)]

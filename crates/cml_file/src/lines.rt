@@ -10,10 +10,10 @@ use cml_journal::{Sum, Written, write_entry};
 use std::alloc::{AllocError, Global};
 
 /// No reader takes a line of more bytes, without its line end.
-const MOST: usize = 1_114_112;
+const MOST: usize = 4_194_304;
 
 /// The most bytes of a message's word. Two of them, and what is beside them, fit into a line.
-const WORD_MOST: usize = 556_992;
+const WORD_MOST: usize = 2_097_088;
 
 /// Returns whether each line that has this message, and another of no more bytes, can be read.
 pub(crate) fn fits<M: Written>(alloc: Global, message: Option<&M>) -> Result<bool, AllocError> {

@@ -16,7 +16,7 @@ use std::rt::Files;
 const ENTRIES: u64 = 60;
 
 /// A line has at most so many bytes, and more are saved before they are cut off.
-const LINE_MOST: usize = 1_114_112;
+const LINE_MOST: usize = 4_194_304;
 
 /// A text has at most so many bytes.
 const TEXT_MOST: usize = 1 << 62;

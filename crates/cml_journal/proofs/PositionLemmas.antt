@@ -12,7 +12,7 @@ use Rattle.cml_grammar.specs.{is_bad_byte}
 use Rattle.cml_journal.specs.{Sum, Summed, sum_by, sum_word, sum_in, What, Form, Link, Stage, ◌>>=◌, entry_in, State, Step, waiting_at}
 use Rattle.cml_journal.specs.{end_of, end_by, numbered, tailed, headed, headed_by, header_fault, plain_headed, sealed_headed}
 use Rattle.cml_journal.specs.{sealed_where, begun, entered, ended_by, closed_by, sealed_by, inside, from_by, behind_header, line_step}
-use Rattle.cml_journal.specs.{line_read, sums_line, kept_behind, header_behind, held, turned, no_entry, byte_read, Read, behind, reading}
+use Rattle.cml_journal.specs.{line_read, sums_line, kept_behind, header_behind, held, most, turned, no_entry, byte_read, Read, behind, reading}
 use Rattle.cml_journal.specs.declared.fault.What.TheVariants.{BadNumber, BadBytes, Gap, WrongEnd, WrongSum, TooMany, TooLong}
 use Rattle.cml_journal.specs.declared.reader.Form.TheVariants.{Plain, Sealed}
 use Rattle.cml_journal.specs.declared.reader.Link.TheVariants.{Any, First, Unsealed, Behind}
@@ -201,7 +201,7 @@ module _ {M : Type 0} (version : ℕ) (read : List ℕ → Option M) where
 
       by : (t : Bool) → MovesTo {M = M} p (if t then turned version read state else no_entry (held state b))
       by true = turned_moves p state at
-      by false = longer (nat_lt (length state.line) 1114112)
+      by false = longer (nat_lt (length state.line) most)
 
       over : (done zero ends : Bool) → MovesTo {M = M} p (if done then Ok (state, None)
           else if zero then Ok (record state { over = true }, None)

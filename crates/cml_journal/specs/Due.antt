@@ -53,7 +53,7 @@ stage_due version summed (Inside position form) = due_inside form summed positio
 
 -- what a line may be in place of one with this fault
 abbrev pub due_line : ℕ → State → What → List ℕ
-due_line version state TooLong = codes "at most 1,114,112 bytes"
+due_line version state TooLong = codes "at most 4,194,304 bytes"
 due_line version state what = stage_due version state.summed state.stage
 
 -- a byte, if it is printed or a space, and else `?`

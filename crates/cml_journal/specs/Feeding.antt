@@ -240,7 +240,7 @@ sums_line (Inside position form) summed line = sums form summed (with_line_end l
 
 -- the most bytes of a line
 abbrev pub most : ℕ
-most = 1114112
+most = 4194304
 
 -- a byte of a line
 abbrev pub held : State → ℕ → Result State What

@@ -52,7 +52,7 @@ pub enum What {
     /// There are more than 18,446,744,073,709,551,615 entries.
     #[error("too many entries")]
     TooMany,
-    /// The line has more than 1,114,112 bytes.
+    /// The line has more than 4,194,304 bytes.
     #[error("line too long")]
     TooLong,
 }
@@ -80,7 +80,7 @@ pub enum Unread {
     Fault(What),
 }
 
-/// No reader takes the line of the entry at this place, from 0: it would have more than 1,114,112 bytes. So the piece was not
+/// No reader takes the line of the entry at this place, from 0: it would have more than 4,194,304 bytes. So the piece was not
 /// written.
 #[derive(Clone, Copy, Debug, PartialEq, Eq, Error)]
 #[error("the line of entry {0} is too long")]
@@ -91,7 +91,7 @@ pub struct TooLong(pub u64);
 pub enum Unwritten {
     #[error("no memory")]
     Memory,
-    /// No reader takes the line of the entry at this place, from 0: it would have more than 1,114,112 bytes.
+    /// No reader takes the line of the entry at this place, from 0: it would have more than 4,194,304 bytes.
     #[error("the line of entry {0} is too long")]
     TooLong(u64),
 }

@@ -17,7 +17,7 @@ use std::alloc::{AllocError, Global};
 use std::marker::Model;
 
 /// The most bytes of a line.
-pub(crate) const MOST: usize = 1_114_112;
+pub(crate) const MOST: usize = 4_194_304;
 
 /// Whether a piece has a sum.
 #[derive(Clone, Copy, Debug, PartialEq, Eq)]
@@ -298,7 +298,7 @@ impl Reader {
     {
         let mut due = String::new(alloc);
         match what {
-            What::TooLong => due.push_str("at most 1,114,112 bytes")?,
+            What::TooLong => due.push_str("at most 4,194,304 bytes")?,
             _ => write_due::<M>(&mut due, self.stage, &self.summing)?,
         }
         Ok(due)

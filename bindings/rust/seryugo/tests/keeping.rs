@@ -395,10 +395,10 @@ fn readers_and_writers_may_fail() {
 }
 
 /// A journal with a line that no reader takes isn't written. A message of three bytes a byte may
-/// have 371,000.
+/// have 1,398,000.
 #[test]
 fn no_journal_is_written_that_is_not_read() {
-    for (length, is_short) in [(371_000, true), (371_400, false)] {
+    for (length, is_short) in [(1_398_000, true), (1_398_300, false)] {
         let board = Switchboard::new(LIMIT).unwrap();
         let mut seat = board.seat().unwrap();
         let mailbox = seat.mailbox::<Vec<u8>>().unwrap();

@@ -145,7 +145,7 @@ fn fills_a_file_by_a_lane() {
     let mailbox = seat.mailbox_again::<Vec<u8>>(0).unwrap();
     let mut lane = board.lane(mailbox, 8).unwrap();
     for _ in 0..3 {
-        lane.send(vec![0xFF; 371_000]).unwrap();
+        lane.send(vec![0xFF; 1_398_000]).unwrap();
     }
     let unclosed = lane.close().unwrap_err();
     assert!(is_full(&unclosed.error()) && is_full(&seat.recv(mailbox).unwrap_err()));

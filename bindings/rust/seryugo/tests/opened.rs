@@ -416,7 +416,7 @@ fn a_question_outlives_its_program() {
 
 #[test]
 fn a_message_that_is_too_long_is_refused_before_it_is_sent() {
-    const MOST: usize = 371_000;
+    const MOST: usize = 1_398_000;
 
     let scratch = Scratch::new("long");
     let board = Switchboard::open(scratch.path()).unwrap();

@@ -195,7 +195,7 @@ fn a_piece_that_is_not_written_leaves_the_sum() {
     let board = Switchboard::new(LIMIT).unwrap();
     let mut seat = board.seat().unwrap();
     let mailbox = seat.mailbox::<Vec<u8>>().unwrap();
-    seat.send(mailbox, vec![0xFF; 371_400]).unwrap();
+    seat.send(mailbox, vec![0xFF; 1_398_300]).unwrap();
     let mut text = Vec::new();
     let refused = board.take_journal().unwrap().write_sealed_to(None, &mut text).unwrap_err();
     assert_eq!((refused.kind(), text.len()), (ErrorKind::InvalidData, 0));

@@ -16,7 +16,7 @@ use std::time::Duration;
 const LIMIT: u64 = 65_536;
 
 /// The most bytes of a message, and of both messages of a swap.
-const MESSAGE_MOST: u64 = 371_000;
+const MESSAGE_MOST: u64 = 1_398_000;
 
 /// The errors of a system call that was given a bad argument.
 const EINVAL: i32 = 22;
