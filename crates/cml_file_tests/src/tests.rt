@@ -105,7 +105,7 @@ fn refuses_by_name(rt: HostRuntime) -> Result<(), Fail> {
 #[test]
 fn keeps_bytes(rt: HostRuntime) -> Result<(), Fail> {
     let short = Bytes::from_slice(rt.alloc(), b"a b")?.ok().ok_or("short")?;
-    let long = Bytes::from_slice(rt.alloc(), &Vec::from_elem(rt.alloc(), b'x', 556_992)?)?;
+    let long = Bytes::from_slice(rt.alloc(), &Vec::from_elem(rt.alloc(), b'x', 2_097_088)?)?;
     let long = long.ok().ok_or("long")?;
     let calls = vec![in rt.alloc();
         Call::NewMailbox,
