@@ -24,12 +24,16 @@ use Rattle.cml_board.specs.History.{Lawful, Fits, answer, made, if_made, begun_b
 use Rattle.cml_board.specs.History.{sent, sent_by, got, got_by, owed, received, given, new_name, where_open}
 use Rattle.cml_board.specs.Counts.{is_a, channel_in, channel_of}
 use Rattle.cml_compact.specs.{LeavesTheSame}
-use Rattle.cml_compact.specs.Stages.{unplaced}
 use Rattle.cml_board.proofs.HoldingLemmas.{put_variable, swap_variable, look_variable}
 use Rattle.cml_calls.specs.declared.table.Ask.TheVariants as ask
 use Rattle.cml_board.proofs.UnmadeLemmas.{untold, unmade, unmade_sent, unmade_got}
 use Rattle.cml_board.proofs.SplittingLemmas.{get_behind, origin_split}
 use Rattle.cml_board.proofs.ReceivingLemmas.{open_before, received_open, waiting_since}
+
+-- an object without its place: a port that starts at the front of its channel
+abbrev unplaced : Origin → Origin
+unplaced (port source start) = port source 0
+unplaced origin = origin
 
 kind_unplaced : (origin : Origin) → kind_by (unplaced origin) ≡ kind_by origin
 kind_unplaced (port source start) = refl

@@ -1,10 +1,10 @@
 -- What the calls of a compaction do to the facts of the objects.
-use Rattle.std.proofs.Common.{◌≡◌, ◌≢◌, ℕ, zero, suc, ◌+◌, ◌<◌, ◌≤◌, inl, inr, true, List, [], ◌∷◌, ◌++◌}
-use Rattle.std.proofs.Common.{length, slice_get, Option, Some, None, IsTrue, IsSome, IfSome, refl, sym, ap, subst}
+use Rattle.std.proofs.Common.{◌≡◌, ◌≢◌, ℕ, zero, suc, ◌+◌, ◌-◌, ◌<◌, ◌≤◌, inl, inr, true, List, [], ◌∷◌, ◌++◌}
+use Rattle.std.proofs.Common.{length, take, slice_get, Option, Some, None, IsTrue, IsSome, IfSome, refl, sym, ap, subst}
 use Rattle.std.proofs.Common.{◌∙◌, arith}
 use Rattle.std.specs.Option.{option_map}
 use Rattle.std.proofs.lemmas.Bool.{cases_lt}
-use Rattle.std.proofs.lemmas.List.{length_push}
+use Rattle.std.proofs.lemmas.List.{length_push, length-take}
 use Rattle.std.proofs.lemmas.Option.{same_Some}
 use Rattle.cml_calls.specs.declared.kind.Kind.TheVariants as kind
 use Rattle.cml_calls.specs.Kinds.{is_channel}
@@ -26,7 +26,7 @@ use Rattle.cml_board.specs.History.{Lawful, Fits, answer, new_name, entries_in, 
 use Rattle.cml_board.specs.History.{owed}
 use Rattle.cml_board.specs.Facts.{Facts, facts_of, new_facts}
 use Rattle.cml_board.specs.Shown.{Shown}
-use Rattle.cml_compact.specs.Stages.{fillings, weight, weights, unplaced, begun_anew}
+use Rattle.cml_compact.specs.Stages.{fillings, weight, weights, begun_before, begins_at, placed, stock}
 use Rattle.cml_compact.specs.Stepping.{maker_of, maker_in, Reaches, Halfway, Changes}
 use Rattle.cml_board.specs.{Refusal}
 use Rattle.cml_board.specs.declared.outcome.Refusal.TheVariants as refusal
@@ -39,7 +39,7 @@ use Rattle.cml_board.proofs.LeavingLemmas.{set_here, set_other, spared_made, fil
 use Rattle.cml_board.proofs.AnsweringLemmas.{answer_put, answer_taken}
 use Rattle.cml_board.proofs.HoldingLemmas.{answer_filled}
 use Rattle.cml_compact.proofs.ChannelsLemmas.{port_after}
-use Rattle.cml_compact.proofs.AlikeLemmas.{kind_told}
+use Rattle.cml_compact.proofs.BeginningsLemmas.{kind_placed, fewest_most, sent_port, begun_fresh}
 
 pub none_past : (xs : List Origin) (k : ℕ) → slice_get xs k ≡ None → length xs ≤ k
 none_past [] k none = omega arith
@@ -56,7 +56,7 @@ module _ {M : Type 0} where
       omega arith
 
   -- where only one object changed, so did the sum
-  one_weight : (f g : ℕ → Facts M) (n name : ℕ) → name < n → ((k : ℕ) → k ≢ name → g k ≡ f k)
+  pub one_weight : (f g : ℕ → Facts M) (n name : ℕ) → name < n → ((k : ℕ) → k ≢ name → g k ≡ f k)
       → weights g n + weight (f name) ≡ weights f n + weight (g name)
   one_weight f g zero name within others = absurd (omega arith)
   one_weight f g (suc n) name within others = elim (cases_lt name n) [
@@ -182,14 +182,14 @@ module _ {M : Type 0} where
   }
 
   -- what the call that makes an object is answered, and makes
-  pub record Remakes (h : List (Entry M)) (n : ℕ) (origin : Origin) : Type 0 where
+  pub record Remakes (old h : List (Entry M)) (n : ℕ) (origin : Origin) : Type 0 where
     pub fits : Fits h (maker_of origin)
     pub answered : answer h (maker_of origin) ≡ Some (new_name h)
-    pub makes : Makes h (maker_of origin) (record { 0 = n }) (unplaced origin) None
+    pub makes : Makes h (maker_of origin) (record { 0 = n }) (placed old n origin) None
 
   remakes : (most : ℕ) (old : List (Entry M)) (board : Shown M) (n : ℕ) (origin : Origin) → Lawful old
-      → Reaches most board n (begun_anew old) → origin_of old n ≡ Some origin
-      → Remakes board.history n origin
+      → Reaches most board n (begun_before old (suc n)) → origin_of old n ≡ Some origin
+      → Remakes old board.history n origin
   remakes most old board n mailbox lawful reaches is =
       record { fits = (tt, tt); answered = refl; makes = mailbox_makes board.history (record { 0 = n }) }
   remakes most old board n channel lawful reaches is =
@@ -202,20 +202,24 @@ module _ {M : Type 0} where
       let h = board.history in
       let own = port_after old n source start lawful is in
       let facts = reaches.each source own.0 in
-      let none : length (sent h source) ≡ 0 = ap (λ f. length f.sent) facts in
+      let begins = begins_at old source n in
+      let first : length (take begins (stock old source)) ≡ begins =
+      omega (arith, length-take begins (stock old source), fewest_most old source n (length (made old) - n)) in
+      let sends : length (sent h source) ≡ begins =
+      ap (λ f. length f.sent) facts ∙ ap (λ m. length (take m (stock old source))) (sent_port old n source start is) ∙ first in
       let same : kind_of h source ≡ Some kind.Channel =
-      ap (λ f. option_map kind_by f.origin) facts ∙ kind_told (origin_of old source) ∙ own.1 in
+      ap (λ f. option_map kind_by f.origin) facts ∙ kind_placed old source (origin_of old source) ∙ own.1 in
       record {
         fits = (subst (λ k. IsSome k) (sym same) refl, subst (λ k. IfSome k (λ kind. IsTrue (is_channel kind))) (sym same) refl);
         answered = refl;
         makes =
-            subst (λ at. Makes h (NewPort (record { 0 = source })) (record { 0 = n }) (port source at) None) none
+            subst (λ at. Makes h (NewPort (record { 0 = source })) (record { 0 = n }) (port source at) None) sends
             (port_makes h (record { 0 = source }) (record { 0 = n }));
       }
 
   makes_next : (most : ℕ) (old : List (Entry M)) (was now : Shown M) (who : Who) (n : ℕ) (origin : Origin) → Lawful old
-      → Reaches most was n (begun_anew old)
-      → origin_of old n ≡ Some origin → Tells was now who (maker_of origin) → Reaches most now (n + 1) (begun_anew old)
+      → Reaches most was n (begun_before old (suc n))
+      → origin_of old n ≡ Some origin → Tells was now who (maker_of origin) → Reaches most now (n + 1) (begun_before old (n + 1))
   makes_next most old was now who n origin lawful reaches is tells =
       let h = was.history in
       let name : Name = record { 0 = n } in
@@ -224,14 +228,14 @@ module _ {M : Type 0} where
       again.answered ∙ ap (λ k. Some (Made (record { 0 = k }))) reaches.count in
       let next = told was now who (maker_of origin) (Made name) tells answered in
       let after = noted who (maker_of origin) (Made name) ∷ h in
-      let fresh : facts_of after (length (made h)) ≡ new_facts (unplaced origin) None =
-      makes_here h who (maker_of origin) name (unplaced origin) None reaches.lawful again.makes in
+      let fresh : facts_of after (length (made h)) ≡ new_facts (placed old n origin) None =
+      makes_here h who (maker_of origin) name (placed old n origin) None reaches.lawful again.makes in
       let light : weight (facts_of now.history n) ≡ 0 =
       ap (λ h. weight (facts_of h n)) next ∙ ap (λ k. weight (facts_of after k)) (sym reaches.count) ∙ ap weight fresh in
       let others : weights (facts_of now.history) n ≡ weights (facts_of h) n =
       same_weights (facts_of now.history) (facts_of h) n (λ k before.
       ap (λ h. facts_of h k) next
-      ∙ makes_other h who (maker_of origin) name (unplaced origin) None k again.makes
+      ∙ makes_other h who (maker_of origin) name (placed old n origin) None k again.makes
       (λ same. absurd (omega (arith, same, reaches.count, before)))) in
       let next_is : suc n ≡ n + 1 = omega arith in
       let made_entries : entries_in now.history ≡ weights (facts_of now.history) (suc n) =
@@ -241,22 +245,22 @@ module _ {M : Type 0} where
         limit = tells.limit ∙ reaches.limit;
         lawful = tells.lawful;
         count =
-            ap (λ h. length (made h)) next ∙ makes_more h who (maker_of origin) name (unplaced origin) None again.makes
+            ap (λ h. length (made h)) next ∙ makes_more h who (maker_of origin) name (placed old n origin) None again.makes
             ∙ ap (λ k. k + 1) reaches.count;
         entries = made_entries ∙ ap (weights (facts_of now.history)) next_is;
         each = λ k within. elim (cases_lt k n) [
           | inl before ↦
               ap (λ h. facts_of h k) next
-              ∙ makes_other h who (maker_of origin) name (unplaced origin) None k again.makes
+              ∙ makes_other h who (maker_of origin) name (placed old n origin) None k again.makes
               (λ same. absurd (omega (arith, same, reaches.count, before)))
-              ∙ reaches.each k before
+              ∙ reaches.each k before ∙ ap (λ m. begun_before old m k) next_is
           | inr later ↦
               let same : k ≡ length (made h) = omega (arith, within, later, reaches.count) in
               let here : k ≡ n = omega (arith, within, later) in
               ap (λ h. facts_of h k) next ∙ ap (facts_of (noted who (maker_of origin) (Made name) ∷ h)) same
-              ∙ makes_here h who (maker_of origin) name (unplaced origin) None reaches.lawful again.makes
-              ∙ ap (λ o. record { origin = option_map unplaced o; opened = true; sent = []; got = []; held = None }) (sym is)
-              ∙ ap (begun_anew old) (sym here)
+              ∙ makes_here h who (maker_of origin) name (placed old n origin) None reaches.lawful again.makes
+              ∙ ap (λ o. record { origin = option_map (placed old n) o; opened = true; sent = []; got = []; held = None }) (sym is)
+              ∙ sym (begun_fresh old n lawful) ∙ ap (λ m. begun_before old m n) next_is ∙ ap (begun_before old (n + 1)) (sym here)
         ];
       }
 
@@ -268,22 +272,30 @@ module _ {M : Type 0} where
       by_origin (Some origin) e = (origin, e)
       by_origin None e = absurd (omega (arith, within, none_past (made old) n e))
 
-  pub maker_fits : (most : ℕ) (old : List (Entry M)) (board : Shown M) (n : ℕ) → Lawful old → Reaches most board n (begun_anew old)
+  -- what is sent before it was sent
+  ready : (most : ℕ) (old : List (Entry M)) (board : Shown M) (n : ℕ) → Reaches most board n (begun_before old (n + 1))
+      → Reaches most board n (begun_before old (suc n))
+  ready most old board n reaches =
+      let next_is : n + 1 ≡ suc n = omega arith in subst (λ m. Reaches most board n (begun_before old m)) next_is reaches
+
+  pub maker_fits : (most : ℕ) (old : List (Entry M)) (board : Shown M) (n : ℕ) → Lawful old → Reaches most board n (begun_before old (n + 1))
       → n < length (made old)
       → Fits board.history (maker_in (origin_of old n))
   maker_fits most old board n lawful reaches within =
       let some = some_origin old n within in
-      subst (λ x. Fits board.history (maker_in x)) (sym some.1) (remakes most old board n some.0 lawful reaches some.1).fits
+      subst (λ x. Fits board.history (maker_in x)) (sym some.1)
+      (remakes most old board n some.0 lawful (ready most old board n reaches) some.1).fits
 
   pub maker_next : (most : ℕ) (old : List (Entry M)) (was now : Shown M) (who : Who) (n : ℕ) → Lawful old
-      → Reaches most was n (begun_anew old) → n < length (made old)
-      → Tells was now who (maker_in (origin_of old n)) → Reaches most now (n + 1) (begun_anew old)
+      → Reaches most was n (begun_before old (n + 1)) → n < length (made old)
+      → Tells was now who (maker_in (origin_of old n)) → Reaches most now (n + 1) (begun_before old (n + 1))
   maker_next most old was now who n lawful reaches within tells =
       let some = some_origin old n within in
-      makes_next most old was now who n some.0 lawful reaches some.1 (subst (λ x. Tells was now who (maker_in x)) some.1 tells)
+      makes_next most old was now who n some.0 lawful (ready most old was n reaches) some.1
+      (subst (λ x. Tells was now who (maker_in x)) some.1 tells)
 
   -- more objects need more calls
-  weights_grow : (f : ℕ → Facts M) (n m : ℕ) → n ≤ m → weights f n ≤ weights f m
+  pub weights_grow : (f : ℕ → Facts M) (n m : ℕ) → n ≤ m → weights f n ≤ weights f m
   weights_grow f n zero order =
       let none : n ≡ 0 = omega arith in
       omega (arith, ap (weights f) none)
@@ -293,14 +305,6 @@ module _ {M : Type 0} where
         let same : n ≡ suc m = omega arith in
         omega (arith, ap (weights f) same)
   ]
-
-  -- while objects are still to be made there are fewer entries than there will be
-  pub making_more : (most : ℕ) (old : List (Entry M)) (board : Shown M) (n : ℕ) → Reaches most board n (begun_anew old)
-      → n < length (made old) → entries_in board.history + 1 ≤ weights (begun_anew old) (length (made old))
-  making_more most old board n reaches more =
-      let so_far : weights (facts_of board.history) n ≡ weights (begun_anew old) n =
-      same_weights (facts_of board.history) (begun_anew old) n reaches.each in
-      omega (arith, reaches.entries, so_far, weights_grow (begun_anew old) (suc n) (length (made old)) more)
 
 -- what stops for want of room at a size stops so at a greater one
 pub stops_more : (was limit a b : ℕ) (refusal : Refusal) → was ≡ limit → a ≤ b → Stops was a refusal → Stops limit b refusal

@@ -1,5 +1,5 @@
 -- A variable is filled, and then it is settled. A mailbox and a channel are settled before.
-use Rattle.std.proofs.Common.{◌≡◌, ◌≢◌, ℕ, ◌-◌, inl, inr, Bool, true, false, ◌&&◌, cond, List, [], length, take, Option, Some}
+use Rattle.std.proofs.Common.{◌≡◌, ◌≢◌, ℕ, ◌-◌, inl, inr, Bool, true, false, ◌&&◌, cond, List, [], length, take, drop, Option, Some}
 use Rattle.std.proofs.Common.{None, refl, sym, ap, ◌∙◌}
 use Rattle.std.specs.Option.{option_map_or}
 use Rattle.std.proofs.lemmas.Bool.{cases_Bool, cond-true, cond-false, false≢true}
@@ -13,6 +13,7 @@ use Rattle.cml_board.specs.Shown.{Shown}
 use Rattle.cml_board.proofs.UnmadeLemmas.{facts_equal}
 use Rattle.cml_board.proofs.ClosingLemmas.{closed_is_port}
 use Rattle.cml_compact.specs.{stock, stocked, settled}
+use Rattle.cml_compact.specs.Stages.{begins_at}
 use Rattle.cml_compact.specs.Stepping.{Tells, Changes}
 use Rattle.cml_compact.proofs.AnewLemmas.{changes_none, changes_as, changes_filled}
 
@@ -33,8 +34,10 @@ module _ {M : Type 0} where
       → cond (is_a is_variable old name) (held old name) None ≡ value → record (stocked old name) { held = value } ≡ settled old name
   others_settle old name value lawful isnt holds =
       let stream = stock old (source_by name (origin_of old name)) in
+      let begins = begins_at old (source_by name (origin_of old name)) name in
       facts_equal (record (stocked old name) { held = value }) (settled old name) refl (sym (open_other old name lawful isnt)) refl
-      (sym (cond-false (is_a is_port old name && is_open old name) (take (length stream - length (owed old name)) stream) []
+      (sym (cond-false (is_a is_port old name && is_open old name)
+      (take (length stream - length (owed old name) - begins) (drop begins stream)) []
       (ap (λ t. t && is_open old name) isnt))) (sym holds)
 
   -- a variable that holds nothing, a mailbox or a channel is as it should be

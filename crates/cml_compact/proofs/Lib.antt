@@ -1,5 +1,6 @@
 pub mod AlikeLemmas
 pub mod ChannelsLemmas
+pub mod BeginningsLemmas
 pub mod StockLemmas
 pub mod AnewLemmas
 pub mod SettlingLemmas
@@ -7,3 +8,4 @@ pub mod PassingLemmas
 pub mod FillingLemmas
 pub mod StagesLemmas
 pub mod MeasuringLemmas
+pub mod PlanLemmas

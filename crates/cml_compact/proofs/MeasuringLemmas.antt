@@ -1,21 +1,22 @@
 -- How many calls an object takes once it is made.
-use Rattle.std.proofs.Common.{◌≡◌, ◌≢◌, ℕ, ◌-◌, ◌<◌, ◌≤◌, Bool, true, false, ◌&&◌, cond, List, [], length, take, slice_get, Option}
+use Rattle.std.proofs.Common.{◌≡◌, ◌≢◌, ℕ, ◌-◌, ◌<◌, ◌≤◌, Bool, true, false, ◌&&◌, cond, List, [], length, take, drop, slice_get, Option}
 use Rattle.std.proofs.Common.{Some, None}
 use Rattle.std.proofs.Common.{refl, sym, ap, ◌∙◌, arith}
 use Rattle.std.specs.Option.{option_map, option_map_or}
 use Rattle.std.proofs.lemmas.Bool.{cond-true, cond-false, false≢true}
-use Rattle.std.proofs.lemmas.List.{length-take}
-use Rattle.std.proofs.lemmas.Option.{none-some, same_Some}
+use Rattle.std.proofs.lemmas.List.{length-drop, length-take}
+use Rattle.std.proofs.lemmas.Option.{none-some, same_Some, slice_get_within}
 use Rattle.cml_calls.specs.{Kind, is_receiver, is_mailbox, is_channel, is_port, is_variable}
 use Rattle.cml_calls.specs.declared.kind.Kind.TheVariants as kind
-use Rattle.cml_board.specs.{Entry, Name, Lawful, Origin, kind_by, held, made, origin_of, kind_of, is_open, owed, is_a}
+use Rattle.cml_board.specs.{Entry, Name, Lawful, Origin, port, kind_by, held, made, origin_of, kind_of, is_open, owed, is_a}
 use Rattle.cml_board.specs.{channel_of, owed_to}
 use Rattle.cml_board.specs.{held_by}
 use Rattle.cml_compact.specs.{stock, settled}
-use Rattle.cml_compact.specs.Stages.{weight, closings, fillings, longest_of}
+use Rattle.cml_compact.specs.Planning.{AreBeginnings}
+use Rattle.cml_compact.specs.Stages.{weight, closings, fillings, longest_of, begins_at}
 use Rattle.cml_compact.specs.Slowest.{AreSlowest}
 use Rattle.cml_compact.proofs.ChannelsLemmas.{port_after}
-use Rattle.cml_compact.proofs.StockLemmas.{stock_channel, mailbox_stock, port_stock, port_of, get_within}
+use Rattle.cml_compact.proofs.StockLemmas.{stock_channel, mailbox_stock, port_stock, port_of, get_within, open_begins}
 use Rattle.cml_compact.proofs.SettlingLemmas.{passed_port}
 use Rattle.cml_compact.proofs.PassingLemmas.{holds_none}
 use Rattle.cml_compact.proofs.FillingLemmas.{others_settle}
@@ -61,11 +62,14 @@ module _ {M : Type 0} where
           stock_none h name (ap (λ k. option_map_or is_mailbox k false) e) (ap (λ k. option_map_or is_channel k false) e)
       by_kind other e port_is = absurd (false≢true port_is)
 
-  pub open_weighs : (h : List (Entry M)) (name : ℕ) (from slow : Name) (found : List Name) → Lawful h → AreSlowest h (length (made h)) found
+  pub open_weighs : (h : List (Entry M)) (name : ℕ) (from slow : Name) (found : List Name) (beginnings : List ℕ) (begins : ℕ) → Lawful h
+      → AreSlowest h (length (made h)) found → AreBeginnings h beginnings
       → is_a is_port h name ≡ true → is_open h name ≡ true → channel_of h name ≡ Some from → slice_get found from.0 ≡ Some slow
+      → slice_get beginnings name ≡ Some begins
       → (length (owed_to h name) ≤ length (owed_to h slow.0))
-      × (length (owed_to h slow.0) - length (owed_to h name) ≡ weight (settled h name))
-  open_weighs h name from slow found lawful are is opened channel_is at =
+      × (begins ≤ length (owed_to h slow.0) - length (owed_to h name))
+      × (length (owed_to h slow.0) - length (owed_to h name) - begins ≡ weight (settled h name))
+  open_weighs h name from slow found beginnings begins lawful are begin is opened channel_is at there =
       let own = port_of h name from channel_is in
       let source = from.0 in
       let stream = stock h source in
@@ -75,12 +79,18 @@ module _ {M : Type 0} where
       ap (λ x. option_map_or is_receiver (option_map kind_by x) false && is_open h name) own.1 ∙ opened in
       let here : owed_to h name ≡ owed h name = cond-true (is_a is_receiver h name && is_open h name) (owed h name) [] both in
       let passed = passed_port h name source own.0 own.1 opened in
-      let size : length (take (length stream - length (owed h name)) stream) ≡ length stream - length (owed h name) =
-      omega (arith, length-take (length stream - length (owed h name)) stream) in (
+      let within : name < length (made h) = slice_get_within (made h) name (port source own.0) own.1 in
+      let first = begins_at h source name in
+      let known : begins ≡ first = same_Some begins first (sym there ∙ begin.each name source own.0 own.1) in
+      let less = open_begins h name source own.0 lawful own.1 opened within in
+      let n = length stream - length (owed h name) - first in
+      let size : length (take n (drop first stream)) ≡ n = omega (arith, length-take n (drop first stream), length-drop first stream) in (
         omega (arith, fewer, ap length all, ap length here),
+        omega (arith, fewer, known, less, ap length all, ap length here),
         omega (
           arith,
           fewer,
+          known,
           size,
           ap length all,
           ap length here,

@@ -19,9 +19,9 @@ use Rattle.cml_board.proofs.ListLemmas.{take_next, slice_get_drop}
 use Rattle.cml_board.proofs.UnmadeLemmas.{facts_equal}
 use Rattle.cml_board.proofs.AnsweringLemmas.{answer_taken}
 use Rattle.cml_compact.specs.{stock, stocked, settled}
-use Rattle.cml_compact.specs.Stages.{unplaced}
+use Rattle.cml_compact.specs.Stages.{begins_at, placed}
 use Rattle.cml_compact.specs.Stepping.{Tells, Changes}
-use Rattle.cml_compact.proofs.AlikeLemmas.{kind_told}
+use Rattle.cml_compact.proofs.BeginningsLemmas.{kind_placed}
 use Rattle.cml_compact.proofs.AnewLemmas.{changes_none, changes_as, changes_taken}
 use Rattle.cml_compact.proofs.ChannelsLemmas.{port_after}
 use Rattle.cml_compact.proofs.StockLemmas.{get_within, some_at}
@@ -30,13 +30,18 @@ use Rattle.cml_compact.proofs.SettlingLemmas.{passed_port}
 module _ {M : Type 0} where
   -- an object that was made again has its kind
   pub kind_anew : (old h : List (Entry M)) (name : ℕ) (facts : Facts M) → facts_of h name ≡ facts
-      → facts.origin ≡ option_map unplaced (origin_of old name) → kind_of h name ≡ kind_of old name
+      → facts.origin ≡ option_map (placed old name) (origin_of old name) → kind_of h name ≡ kind_of old name
   kind_anew old h name facts here same =
-      ap (λ f. option_map kind_by f.origin) here ∙ ap (option_map kind_by) same ∙ kind_told (origin_of old name)
+      ap (λ f. option_map kind_by f.origin) here ∙ ap (option_map kind_by) same ∙ kind_placed old name (origin_of old name)
+
+  -- what is sent again on a channel after a port of it was made
+  abbrev pub after_of : List (Entry M) → ℕ → ℕ → List M
+  after_of history source name = drop (begins_at history source name) (stock history source)
 
   -- this many messages were received
   abbrev pub passing : List (Entry M) → ℕ → ℕ → Facts M
-  passing history name n = record (stocked history name) { got = take n (stock history (source_by name (origin_of history name))) }
+  passing history name n =
+      record (stocked history name) { got = take n (after_of history (source_by name (origin_of history name)) name) }
 
   -- what such a port needs of the board that it is on
   pub record Passes (old : List (Entry M)) (start : Shown M) (name source at : ℕ) : Type 0 where
@@ -62,25 +67,27 @@ module _ {M : Type 0} where
       by_origin x e = absurd (false≢true (sym (ap (λ x. option_map_or is_port (option_map kind_by x) false) e) ∙ is))
 
   stream_of : (old : List (Entry M)) (name source at n : ℕ) → origin_of old name ≡ Some (port source at)
-      → take n (stock old (source_by name (origin_of old name))) ≡ take n (stock old source)
-  stream_of old name source at n is = ap (λ x. take n (stock old (source_by name x))) is
+      → take n (after_of old (source_by name (origin_of old name)) name) ≡ take n (after_of old source name)
+  stream_of old name source at n is = ap (λ x. take n (after_of old (source_by name x) name)) is
 
   pub passing_owed : (old : List (Entry M)) (start was : Shown M) (name source at n : ℕ) → Lawful old → Passes old start name source at
-      → n ≤ length (stock old source) → Changes start was name (passing old name n) → owed was.history name ≡ drop n (stock old source)
+      → n ≤ length (after_of old source name) → Changes start was name (passing old name n)
+      → owed was.history name ≡ drop n (after_of old source name)
   passing_owed old start was name source at n lawful own within changes =
       let after = port_after old name source at lawful own.begun in
-      let stream = stock old source in
-      let begun : origin_of was.history name ≡ Some (port source 0) =
-      ap (λ f. f.origin) changes.here ∙ ap (option_map unplaced) own.begun in
+      let stream = after_of old source name in
+      let begun : origin_of was.history name ≡ Some (port source (begins_at old source name)) =
+      ap (λ f. f.origin) changes.here ∙ ap (option_map (placed old name)) own.begun in
       let taken : got was.history name ≡ take n stream = ap (λ f. f.got) changes.here ∙ stream_of old name source at n own.begun in
       let count : length (take n stream) ≡ n = omega (arith, length-take n stream) in
-      let stays : sent was.history source ≡ stream =
+      let stays : sent was.history source ≡ stock old source =
       ap (λ f. f.sent) (changes.others source (λ same. absurd (omega (arith, same, after.0)))) ∙ own.sends in
       ap (λ xs. drop (length xs) (drop (start_by (origin_of was.history name))
       (sent was.history (source_by name (origin_of was.history name))))) taken
       ∙ ap (λ m. drop m (drop (start_by (origin_of was.history name)) (sent was.history (source_by name (origin_of was.history name)))))
       count
-      ∙ ap (λ x. drop n (drop (start_by x) (sent was.history (source_by name x)))) begun ∙ ap (drop n) stays
+      ∙ ap (λ x. drop n (drop (start_by x) (sent was.history (source_by name x)))) begun
+      ∙ ap (λ xs. drop n (drop (begins_at old source name) xs)) stays
 
   pub passing_start : (old : List (Entry M)) (start : Shown M) (name : ℕ) → Lawful start.history
       → facts_of start.history name ≡ stocked old name → Changes start start name (passing old name 0)
@@ -97,7 +104,7 @@ module _ {M : Type 0} where
   pub counts_told : (old : List (Entry M)) (start : Shown M) (name source at more left : ℕ) → Lawful old → Lawful start.history
       → Passes old start name source at → facts_of start.history name ≡ stocked old name
       → more ≡ unwrap_or (owed_count start.history name) 0 → left ≡ unwrap_or (owed_count old name) 0
-      → (more ≡ length (stock old source)) × (left ≡ length (owed old name))
+      → (more ≡ length (after_of old source name)) × (left ≡ length (owed old name))
   counts_told old start name source at more left lawful follows own here counts leaves =
       let begins = passing_start old start name follows here in
       let opened : is_open start.history name ≡ true = ap (λ f. f.opened) here in
@@ -113,10 +120,10 @@ module _ {M : Type 0} where
 
   -- the next message that it receives
   passing_first : (old : List (Entry M)) (start was : Shown M) (name source at n : ℕ) → Lawful old → Passes old start name source at
-      → n < length (stock old source) → Changes start was name (passing old name n)
-      → (message : M) × (slice_get (owed was.history name) 0 ≡ Some message) × (slice_get (stock old source) n ≡ Some message)
+      → n < length (after_of old source name) → Changes start was name (passing old name n)
+      → (message : M) × (slice_get (owed was.history name) 0 ≡ Some message) × (slice_get (after_of old source name) n ≡ Some message)
   passing_first old start was name source at n lawful own more changes =
-      let stream = stock old source in
+      let stream = after_of old source name in
       let some = some_at (slice_get stream n) (get_within stream n more) in
       let last : n + 0 ≡ n = omega arith in
       let here : slice_get (owed was.history name) 0 ≡ slice_get stream n =
@@ -125,7 +132,7 @@ module _ {M : Type 0} where
       (some.0, here ∙ some.1, some.1)
 
   pub passing_answered : (old : List (Entry M)) (start was : Shown M) (name : Name) (source at n : ℕ) → Lawful old
-      → Passes old start name.0 source at → n < length (stock old source) → Changes start was name.0 (passing old name.0 n)
+      → Passes old start name.0 source at → n < length (after_of old source name.0) → Changes start was name.0 (passing old name.0 n)
       → answer was.history (Recv name) ≢ None
   passing_answered old start was name source at n lawful own more changes = λ none.
       let first = passing_first old start was name.0 source at n lawful own more changes in
@@ -133,13 +140,13 @@ module _ {M : Type 0} where
       none-some (Got first.0) (sym none ∙ answer_taken was.history ask.Recv name first.0 refl opened first.1)
 
   pub passing_next : (old : List (Entry M)) (start was now : Shown M) (who : Who) (name : Name) (source at n : ℕ) → Lawful old
-      → Passes old start name.0 source at → n < length (stock old source) → Changes start was name.0 (passing old name.0 n)
+      → Passes old start name.0 source at → n < length (after_of old source name.0) → Changes start was name.0 (passing old name.0 n)
       → Tells was now who (Recv name) → Changes start now name.0 (passing old name.0 (n + 1))
   passing_next old start was now who name source at n lawful own more changes tells =
       let first = passing_first old start was name.0 source at n lawful own more changes in
       let opened : is_open was.history name.0 ≡ true = ap (λ f. f.opened) changes.here in
-      let stream = stock old (source_by name.0 (origin_of old name.0)) in
-      let here : slice_get stream n ≡ Some first.0 = ap (λ x. slice_get (stock old (source_by name.0 x)) n) own.begun ∙ first.2 in
+      let stream = after_of old (source_by name.0 (origin_of old name.0)) name.0 in
+      let here : slice_get stream n ≡ Some first.0 = ap (λ x. slice_get (after_of old (source_by name.0 x) name.0) n) own.begun ∙ first.2 in
       changes_as start now name.0 (record (stocked old name.0) { got = take n stream ++ first.0 ∷ [] }) (passing old name.0 (n + 1))
       (changes_taken start was now who name first.0 (passing old name.0 n) changes opened first.1 tells)
       (ap {A = List M} (λ xs. record (stocked old name.0) { got = xs }) (sym (take_next stream n first.0 here)))
@@ -157,15 +164,16 @@ module _ {M : Type 0} where
       by_kind (Some other) e = absurd (false≢true e)
 
   pub passing_settled : (old : List (Entry M)) (start : Shown M) (name source at n : ℕ) → Passes old start name source at
-      → is_a is_port old name ≡ true → n ≡ length (stock old source) - length (owed old name) → passing old name n ≡ settled old name
+      → is_a is_port old name ≡ true → n ≡ length (stock old source) - length (owed old name) - begins_at old source name
+      → passing old name n ≡ settled old name
   passing_settled old start name source at n own is all =
       facts_equal (passing old name n) (settled old name) refl (sym own.opened) refl
-      (stream_of old name source at n own.begun ∙ ap (λ m. take m (stock old source)) all
+      (stream_of old name source at n own.begun ∙ ap (λ m. take m (after_of old source name)) all
       ∙ sym (passed_port old name source at own.begun own.opened))
       (sym (holds_none old name is))
 
   pub passing_end : (old : List (Entry M)) (start now : Shown M) (name source at n : ℕ) → Passes old start name source at
-      → is_a is_port old name ≡ true → n ≡ length (stock old source) - length (owed old name)
+      → is_a is_port old name ≡ true → n ≡ length (stock old source) - length (owed old name) - begins_at old source name
       → Changes start now name (passing old name n) → Changes start now name (settled old name)
   passing_end old start now name source at n own is all changes =
       changes_as start now name (passing old name n) (settled old name) changes (passing_settled old start name source at n own is all)

@@ -8,9 +8,11 @@ use Rattle.cml_board.specs.{facts_of}
 use Rattle.cml_board.specs.{ShowsTheSame}
 use Rattle.cml_board.specs.Facts.{Facts}
 use Rattle.cml_board.specs.Shown.{Shown}
-use Rattle.cml_compact.specs.{AllBy, begun_anew, stock, stocked, settled, compact_size}
+use Rattle.cml_compact.specs.{AllBy, begun_anew, begun_before, stock, stocked, settled, compact_size}
 use Rattle.cml_compact.specs.Stages.{weight, weights}
-use Rattle.cml_compact.specs.Stepping.{Halfway}
+use Rattle.cml_compact.specs.Stepping.{Halfway, Reaches}
+use Rattle.cml_compact.proofs.AnewLemmas.{same_weights, weights_grow}
+use Rattle.cml_compact.proofs.BeginningsLemmas.{length_begun, sent_most}
 use Rattle.cml_compact.proofs.ChannelsLemmas.{port_after}
 
 module _ {M : Type 0} where
@@ -71,25 +73,52 @@ module _ {M : Type 0} where
       omega (arith, half.entries, weights_one now to all n within each, ap weight (half.rest n (omega arith) within))
 
   -- each stage weighs no less than the one before
+  pub begun_less : (old : List (Entry M)) (n k : ℕ) → weight (begun_before old n k) ≤ weight (settled old k)
+  begun_less old n k = omega (arith, length_begun old n k, sent_most old k n)
+
   pub stocked_more : (old : List (Entry M)) (k : ℕ) → weight (begun_anew old k) ≤ weight (stocked old k)
-  stocked_more old k = omega arith
+  stocked_more old k = omega (arith, length_begun old (length (made old)) k, sent_most old k (length (made old)))
 
   pub settled_more : (old : List (Entry M)) (k : ℕ) → weight (stocked old k) ≤ weight (settled old k)
   settled_more old k = omega arith
 
-  pub begun_weighs : (old : List (Entry M)) (k : ℕ) → weight (stocked old k) - weight (begun_anew old k) ≡ length (stock old k)
+  pub begun_weighs : (old : List (Entry M)) (k : ℕ)
+      → weight (stocked old k) - weight (begun_anew old k) ≡ length (stock old k) - length (begun_anew old k).sent
   begun_weighs old k = omega arith
 
   -- so an earlier stage needs no more calls than the last
   pub stocked_less : (old : List (Entry M)) → weights (stocked old) (length (made old)) ≤ compact_size old
   stocked_less old = weights_more (stocked old) (settled old) (length (made old)) (λ k within. settled_more old k)
 
-  pub begun_less : (old : List (Entry M)) → weights (begun_anew old) (length (made old)) ≤ compact_size old
-  begun_less old =
+  -- while objects are still to be made there are fewer entries than there will be
+  pub making_more : (most : ℕ) (old : List (Entry M)) (board : Shown M) (n m : ℕ) → Reaches most board n (begun_before old m)
+      → n < length (made old) → entries_in board.history + 1 ≤ compact_size old
+  making_more most old board n m reaches more =
       omega (
         arith,
-        stocked_less old,
-        weights_more (begun_anew old) (stocked old) (length (made old)) (λ k within. stocked_more old k),
+        reaches.entries,
+        same_weights (facts_of board.history) (begun_before old m) n reaches.each,
+        weights_more (begun_before old m) (settled old) n (λ k within. begun_less old m k),
+        weights_grow (settled old) (suc n) (length (made old)) more,
+      )
+
+  -- also with what is sent on a channel before
+  pub sending_more : (most : ℕ) (old : List (Entry M)) (board : Shown M) (n m source to : ℕ) → Reaches most board n (begun_before old m)
+      → n ≤ length (made old) → source < n → to ≤ length (stock old source)
+      → entries_in board.history + (to - length (facts_of board.history source).sent) ≤ compact_size old
+  sending_more most old board n m source to reaches within before end =
+      let now = facts_of board.history in
+      let each : (k : ℕ) → k < n → weight (now k) ≤ weight (settled old k) =
+      λ k below. omega (arith, ap weight (reaches.each k below), begun_less old m k) in
+      let here : weight (now source) ≡ length (now source).sent =
+      omega (arith, ap weight (reaches.each source before), ap (λ f. length f.sent) (reaches.each source before)) in
+      omega (
+        arith,
+        end,
+        here,
+        reaches.entries,
+        weights_one now (settled old) n source before each,
+        weights_grow (settled old) n (length (made old)) within,
       )
 
   -- a board that was looked at twice shows the same

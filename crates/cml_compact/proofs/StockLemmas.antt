@@ -13,8 +13,9 @@ use Rattle.cml_board.specs.{kind_of, is_open, sent, got, owed, reads, reads_by, 
 use Rattle.cml_board.specs.Counts.{channel_in}
 use Rattle.cml_board.proofs.ListLemmas.{slice_get-set_same, slice_get-set_other}
 use Rattle.cml_board.proofs.ClosingLemmas.{mailbox_open}
-use Rattle.cml_compact.specs.Stages.{longer, owed_of, longest_of, stock}
+use Rattle.cml_compact.specs.Stages.{longer, owed_of, longest_of, stock, begins_at}
 use Rattle.cml_compact.specs.Slowest.{AreSlowest}
+use Rattle.cml_compact.proofs.BeginningsLemmas.{begins_step}
 use Rattle.cml_compact.proofs.ChannelsLemmas.{port_after}
 
 -- a shorter end of a list is an end of a longer one
@@ -91,7 +92,7 @@ module _ {M : Type 0} where
       longer_either (λ xs. (a : ℕ) × (xs ≡ drop a (sent h source))) (longest_of h source n) (owed_of h source n)
       (longest_end h source n) (owed_end h source n)
 
-  longest_least : (h : List (Entry M)) (source n o : ℕ) → o < n → length (owed_of h source o) ≤ length (longest_of h source n)
+  pub longest_least : (h : List (Entry M)) (source n o : ℕ) → o < n → length (owed_of h source o) ≤ length (longest_of h source n)
   longest_least h source zero o within = absurd (omega arith)
   longest_least h source (suc n) o within =
       let both = longer_both (longest_of h source n) (owed_of h source n) in
@@ -152,8 +153,15 @@ module _ {M : Type 0} where
             ∙ end_of_end (sent h source) end.0 other.0 sizes ∙ sym short,
       )
 
+  -- it begins no later than it reads
+  pub open_begins : (h : List (Entry M)) (o source start : ℕ) → Lawful h → origin_of h o ≡ Some (port source start) → is_open h o ≡ true
+      → o < length (made h) → begins_at h source o ≤ length (stock h source) - length (owed h o)
+  open_begins h o source start lawful is opened within =
+      let one : owed_of h source o ≡ owed h o = cond-true (reads h source o) (owed h o) [] (port_reads h o source start is opened) in
+      omega (arith, begins_step h source o within, ap length one)
+
   -- an object that is no port is owed nothing of a channel
-  owed_outside : (h : List (Entry M)) (source o : ℕ) → kind_of h source ≡ Some kind.Channel
+  pub owed_outside : (h : List (Entry M)) (source o : ℕ) → kind_of h source ≡ Some kind.Channel
       → ((start : ℕ) → origin_of h o ≢ Some (port source start)) → owed_of h source o ≡ []
   owed_outside h source o is outside = elim (cases_Bool (reads h source o)) [
     | inr isnt ↦ cond-false (reads h source o) (owed h o) [] isnt
@@ -172,7 +180,7 @@ module _ {M : Type 0} where
       by_origin x e reading = absurd (false≢true reading)
 
   -- what a port is owed of its channel is what it is owed, closed or not
-  owed_inside : (h : List (Entry M)) (o source start : ℕ) → origin_of h o ≡ Some (port source start) → owed_of h source o ≡ owed_to h o
+  pub owed_inside : (h : List (Entry M)) (o source start : ℕ) → origin_of h o ≡ Some (port source start) → owed_of h source o ≡ owed_to h o
   owed_inside h o source start is = elim (cases_Bool (is_open h o)) [
     | inl opened ↦
         cond-true (reads h source o) (owed h o) [] (port_reads h o source start is opened)

@@ -1,15 +1,16 @@
--- What becomes of each object in a compaction: it is made again, then what is owed of it is sent again, and then it is settled.
-use Rattle.std.specs.Prelude.{ℕ, zero, suc, ◌+◌, ◌-◌, nat_lt, Bool, true, false, ◌&&◌, List, [], length, take, Option, Some, None}
-use Rattle.std.specs.Prelude.{if◌then◌else◌}
+-- What becomes of each object in a compaction: it is made again, then what is owed of it is sent again, and then it is settled. What a
+-- port needs of its channel to begin at its place is sent before the port is made.
+use Rattle.std.specs.Prelude.{ℕ, zero, suc, ◌+◌, ◌-◌, ◌==◌, nat_lt, min, Bool, true, false, ◌&&◌, List, [], length, take, drop}
+use Rattle.std.specs.Prelude.{Option, Some, None, if◌then◌else◌}
 use Rattle.std.specs.Option.{option_map}
 use Rattle.cml_calls.specs.{is_mailbox, is_channel, is_port, is_variable}
 use Rattle.cml_board.specs.{Entry, Origin, port, source_by, held, made, origin_of, is_open, owed, reads, is_a}
 use Rattle.cml_board.specs.Facts.{Facts}
 
--- an object without its place: a port that starts at the front of its channel
-abbrev pub unplaced : Origin → Origin
-unplaced (port source start) = port source 0
-unplaced origin = origin
+-- this is a port of this channel
+abbrev pub is_port_by : Option Origin → ℕ → Bool
+is_port_by (Some (port from start)) source = from == source
+is_port_by origin source = false
 
 -- how many calls close an object: one if it isn't open
 abbrev pub closings : Bool → ℕ
@@ -36,16 +37,52 @@ module _ {M : Type 0} where
       if is_a is_mailbox history name then owed history name
       else if is_a is_channel history name then longest_of history name (length (made history)) else []
 
-  -- what an open port receives of it, until it is owed what it was
+  -- how many of them an object has passed; one that reads none of them has passed all
+  abbrev pub passed_of : List (Entry M) → ℕ → ℕ → ℕ
+  passed_of history source object = length (stock history source) - length (owed_of history source object)
+
+  -- the fewest that one of the k objects from n on has passed
+  abbrev pub fewest_passed : List (Entry M) → ℕ → ℕ → ℕ → ℕ
+  fewest_passed history source n zero = length (stock history source)
+  fewest_passed history source n (suc k) = min (passed_of history source n) (fewest_passed history source (suc n) k)
+
+  -- how many are sent again before a port is made: no more than this port has passed, and no more than a port with a later name has
+  abbrev pub begins_at : List (Entry M) → ℕ → ℕ → ℕ
+  begins_at history source name = fewest_passed history source name (length (made history) - name)
+
+  -- how many are sent again before the object n is made
+  abbrev pub sent_before : List (Entry M) → ℕ → ℕ → ℕ
+  sent_before history source zero = 0
+  sent_before history source (suc n) =
+      if is_port_by (origin_of history n) source then begins_at history source n else sent_before history source n
+
+  -- an object as it is made again
+  abbrev pub placed : List (Entry M) → ℕ → Origin → Origin
+  placed history name (port source start) = port source (begins_at history source name)
+  placed history name origin = origin
+
+  -- what an open port receives, until it is owed what it was
   abbrev pub passed_over : List (Entry M) → ℕ → List M
   passed_over history name =
-      let stream = stock history (source_by name (origin_of history name)) in
-      if is_a is_port history name && is_open history name then take (length stream - length (owed history name)) stream else []
+      let source = source_by name (origin_of history name) in
+      let stream = stock history source in
+      let begins = begins_at history source name in
+      if is_a is_port history name && is_open history name
+      then take (length stream - length (owed history name) - begins) (drop begins stream) else []
 
-  -- the object was just made
+  -- the object was made, and nothing was done since but what is sent before the object n is made
+  abbrev pub begun_before : List (Entry M) → ℕ → ℕ → Facts M
+  begun_before history n name = record {
+    origin = option_map (placed history name) (origin_of history name);
+    opened = true;
+    sent = take (sent_before history name n) (stock history name);
+    got = [];
+    held = None;
+  }
+
+  -- all objects were made
   abbrev pub begun_anew : List (Entry M) → ℕ → Facts M
-  begun_anew history name =
-      record { origin = option_map unplaced (origin_of history name); opened = true; sent = []; got = []; held = None }
+  begun_anew history = begun_before history (length (made history))
 
   -- and what is sent again was sent
   abbrev pub stocked : List (Entry M) → ℕ → Facts M
@@ -54,7 +91,7 @@ module _ {M : Type 0} where
   -- it leaves what it left before
   abbrev pub settled : List (Entry M) → ℕ → Facts M
   settled history name = record {
-    origin = option_map unplaced (origin_of history name);
+    origin = option_map (placed history name) (origin_of history name);
     opened = is_open history name;
     sent = stock history name;
     got = passed_over history name;

@@ -1,8 +1,5 @@
 -- How the calls of a compaction change the board that it makes.
-use Rattle.std.specs.Prelude.{ℕ, ◌≡◌, ◌≢◌, ◌+◌, ◌-◌, ◌<◌, ◌≤◌, length, Option, Some, None}
-use Rattle.cml_calls.specs.{Give, Kind}
-use Rattle.cml_calls.specs.declared.table.Give.TheVariants as give
-use Rattle.cml_calls.specs.declared.kind.Kind.TheVariants as kind
+use Rattle.std.specs.Prelude.{ℕ, ◌≡◌, ◌≢◌, ◌+◌, ◌-◌, ◌<◌, ◌≤◌, List, ◌++◌, length, take, drop, Option, Some, None}
 use Rattle.cml_board.specs.{Call, Refusal, Who, Reply, Origin, mailbox, channel, port, ivar, mvar, Lawful, answer, no_entries, entries_in}
 use Rattle.cml_board.specs.{made, facts_of}
 use Rattle.cml_board.specs.declared.call.Call.TheVariants.{NewMailbox, NewChannel, NewPort, NewIVar, NewMVar}
@@ -11,11 +8,6 @@ use Rattle.cml_board.specs.Facts.{Facts}
 use Rattle.cml_board.specs.Shown.{Shown}
 use Rattle.cml_compact.specs.Stages.{weight, weights}
 use Rattle.cml_compact.specs.Compacting.{Stops}
-
--- the kind of object that takes a message so given
-abbrev pub kind_given : Give → Kind
-kind_given give.Cast = kind.Channel
-kind_given other = kind.Mailbox
 
 module _ {M : Type 0} where
   -- the call that makes such an object; a port begins at its channel's end
@@ -67,6 +59,11 @@ module _ {M : Type 0} where
     pub entries : entries_in new.history + weight (facts_of old.history name) ≡ entries_in old.history + weight facts
     pub here : facts_of new.history name ≡ facts
     pub others : (other : ℕ) → other ≢ name → facts_of new.history other ≡ facts_of old.history other
+
+  -- more was sent on a channel, until there were so many: messages that lie in this list from a place on
+  abbrev pub sent_until : Facts M → ℕ → ℕ → List M → Facts M
+  sent_until facts front to messages =
+      record facts { sent = facts.sent ++ take (to - length facts.sent) (drop (front + length facts.sent) messages) }
 
   -- why it stops before an object with these facts has those: the limit is less than the entries would then be, or for want of memory
   abbrev pub StopsBefore : Shown M → Facts M → Facts M → Refusal → Type 0

@@ -3,6 +3,7 @@ ghost use Rattle.cml_board.specs.{ShowsTheSame, entries_in};
 ghost use Rattle.cml_compact.specs.{AllBy, Compacts, Stops, compact_size};
 
 use crate::making::make_all;
+use crate::planning::plan_of;
 use crate::sending::send_all;
 use crate::settling::settle_all;
 use crate::slowest::slowest;
@@ -10,8 +11,9 @@ use cml_board::{Board, Message, Refusal, Who};
 use cml_log::MessageLog;
 use std::alloc::Global;
 
-/// Makes a board that leaves to later calls what this one leaves. It makes each object and sends again what is owed. Faster
-/// ports receive what they are ahead. Then it closes ports and fills variables. These are `compact_length` calls, all by `who`.
+/// Makes a board that leaves to later calls what this one leaves. It makes each object and sends again what is owed. A port is made
+/// when its channel has come to its place, unless one that is made later reads from an earlier place: then it receives what it
+/// is ahead. Then it closes ports and fills variables. These are `compact_length` calls, all by `who`.
 /// The new journal has no entry before them. What was counted since this board was made begins at 0: positions of entries, and
 /// how many messages an object sent and received. Its time grows with the number of those calls.
 ///
@@ -35,14 +37,17 @@ pub fn compact<M: Message, L: MessageLog<M>>(
     let Ok(slowest) = slowest(alloc, board) else {
         return Err(Refusal::NoMemory);
     };
+    let Ok(plan) = plan_of(alloc, board, &slowest) else {
+        return Err(Refusal::NoMemory);
+    };
     // It has room for what is sure to come, and so moves nothing again and again while it grows.
     let objects = board.object_count();
     let entries = objects.min(limit);
     let Ok(mut new) = Board::with_capacity(alloc, limit, entries as usize, objects as usize) else {
         return Err(Refusal::NoMemory);
     };
-    make_all(board, &mut new, who)?;
-    send_all(board, &mut new, who, &slowest)?;
+    make_all(alloc, board, &mut new, who, &plan)?;
+    send_all(alloc, board, &mut new, who, &slowest, &plan)?;
     settle_all(alloc, board, &mut new, who)?;
     // The contract of `journal` says that a journal has no more entries than its limit.
     let _journal = new.journal();

@@ -5,6 +5,7 @@ mod compacting;
 mod laws;
 mod making;
 mod measuring;
+mod planning;
 mod sending;
 mod settling;
 mod shortening;

@@ -2,9 +2,9 @@
 ghost use Rattle.std.specs.Prelude.{◌≡◌, ◌<◌, true, false, length, OnOk, IfErr};
 ghost use Rattle.cml_calls.specs.{is_port};
 ghost use Rattle.cml_board.specs.{Lawful, made, origin_of, source_by, is_a, is_open, sent, owed, no_entries, facts_of};
-ghost use Rattle.cml_compact.specs.Stages.{weights, stock};
+ghost use Rattle.cml_compact.specs.Stages.{stock};
 ghost use Rattle.cml_compact.specs.Stepping.{Reaches, Halfway, Changes, StopsBefore};
-ghost use Rattle.cml_compact.specs.{AllBy, Stops, stocked, settled};
+ghost use Rattle.cml_compact.specs.{AllBy, Stops, compact_size, stocked, settled};
 
 use crate::telling::tell;
 use cml_board::{Board, Call, Message, Name, Refusal, Who};
@@ -20,7 +20,7 @@ pub fn settle_all<M: Message, L: MessageLog<M>>(
 ) -> Result<(), Refusal>
     requires stocked { Reaches new.old.limit new.old (length (made board.now.history)) (stocked board.now.history) }
     ensures ok { OnOk result (Reaches new.old.limit new.new (length (made board.now.history)) (settled board.now.history)) }
-    ensures err { IfErr result (Stops new.old.limit (weights (settled board.now.history) (length (made board.now.history)))) }
+    ensures err { IfErr result (Stops new.old.limit (compact_size board.now.history)) }
     ensures whose { AllBy who new.old.history → AllBy who new.new.history }
 {
     board.facts();

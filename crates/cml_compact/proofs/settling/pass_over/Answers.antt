@@ -1,6 +1,11 @@
 use Rattle.std.proofs.Common.{◌≡◌, ◌+◌, ◌-◌, unwrap_or, ap, subst, ◌∙◌, arith}
+use Rattle.std.proofs.lemmas.List.{length-drop}
+use Rattle.std.proofs.lemmas.Option.{slice_get_within}
+use Rattle.cml_board.specs.{made, port}
+use Rattle.cml_compact.specs.{stock}
+use Rattle.cml_compact.specs.Stages.{begins_at}
 use Rattle.cml_compact.specs.Stepping.{Changes}
-use Rattle.cml_compact.proofs.StockLemmas.{port_stock}
+use Rattle.cml_compact.proofs.StockLemmas.{open_begins, port_stock}
 use Rattle.cml_compact.proofs.PassingLemmas.{passing, passes_of, counts_told, passing_answered, passing_next, passing_end}
 use Rattle.cml_compact.proofs.settling.pass_over.Goals as goal
 
@@ -42,5 +47,9 @@ returns-clause-ok g c =
     c.requires.kept own.2 c.requires.stocked (c.unwrap_or-more.ensures ∙ ap (λ n. unwrap_or n 0) c.owed_count.ensures)
     (c.unwrap_or-left.ensures ∙ ap (λ n. unwrap_or n 0) c.owed_count-2.ensures) in
     let fewer = (port_stock old c.args.name.0 own.0 own.1 c.requires.lawful own.2.begun c.requires.opened).0 in
+    let stream = stock old own.0 in
+    let begins = begins_at old own.0 c.args.name.0 in
+    let within = slice_get_within (made old) c.args.name.0 (port own.0 own.1) own.2.begun in
+    let less = open_begins old c.args.name.0 own.0 own.1 c.requires.lawful own.2.begun c.requires.opened within in
     passing_end old c.args.new.now c.loop-at.new c.args.name.0 own.0 own.1 (c.loop-at._at - c.unwrap_or-left.result) own.2 c.requires.port
-    (omega (arith, fewer, counts.0, counts.1, c.loop-at-test.false, c.loop-at.auto._at-end)) c.loop-at.invariant.changes
+    (omega (arith, fewer, less, length-drop begins stream, counts.0, counts.1, c.loop-at-test.false, c.loop-at.auto._at-end)) c.loop-at.invariant.changes

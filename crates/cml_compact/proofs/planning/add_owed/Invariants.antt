@@ -1,0 +1,9 @@
+use Rattle.std.proofs.Common.{◌≡◌, ◌++◌}
+use Rattle.cml_board.specs.{ShowsTheSame}
+use Rattle.cml_compact.proofs.planning.add_owed.Given as goal
+
+abbrev pub invariant-loop-message : goal.invariant-loop-message
+invariant-loop-message g l = record {
+  items : l.messages.items ≡ l.fn.messages.items ++ l.yielded;
+  same : ShowsTheSame l.fn.board l.board;
+}
