@@ -33,8 +33,7 @@ by_hand() {
     short 'a channel without a port' 'journal 1 / seat 0 channel: made 0 / end 1' \
         'journal 1 / seat 0 channel: made 0 / seat 0 multicast 0 5: done / end 2'
     short 'ports at several places' "$(printf '%s' 'journal 1 / seat 2 channel: made 0 / seat 2 port 0: made 1 / seat 2 port 0: made 2
- / seat 2 port 0: made 3 / seat 2 multicast 0 6: done / seat 2 multicast 0 7: done / seat 2 recv 1: 6 / seat 2 recv 3: 6
- / seat 2 recv 3: 7 / end 9' | tr -d '\n')" "$(printf '%s' 'journal 1 / seat 0 channel: made 0 / seat 0 port 0: made 1 / seat 0 port 0: made 2
+ / seat 2 multicast 0 6: done / seat 2 multicast 0 7: done / seat 2 port 0: made 3 / seat 2 recv 1: 6 / end 7' | tr -d '\n')" "$(printf '%s' 'journal 1 / seat 0 channel: made 0 / seat 0 port 0: made 1 / seat 0 port 0: made 2
  / seat 1 multicast 0 5: done / seat 1 multicast 0 6: done / seat 1 multicast 0 7: done / seat 2 recv 1: 5 / seat 2 recv 1: 6
  / seat 2 recv 2: 5 / seat 0 port 0: made 3 / end 10' | tr -d '\n')"
     short 'a port that is closed' \
@@ -51,11 +50,19 @@ by_hand() {
  / lane 4 multicast 0 5: done / feed 9 recv 1: 4 / lane 8 send 2 6: done / end 7' | tr -d '\n')"
     short 'several pieces' 'journal 1 / seat 1 mailbox: made 0 / seat 1 send 0 5: done / end 2' \
         'journal 1 / seat 0 mailbox: made 0 / end 1 / journal 1 / from 1 / end 1 / journal 1 / from 1 / seat 1 send 0 5: done / end 2'
-    short 'a port that was made late, whose short journal is longer' \
-        "$(printf '%s' 'journal 1 / seat 0 channel: made 0 / seat 0 port 0: made 1 / seat 0 port 0: made 2 / seat 0 multicast 0 5: done
- / seat 0 multicast 0 6: done / seat 0 recv 2: 5 / seat 0 recv 2: 6 / end 7' | tr -d '\n')" \
+    late='journal 1 / seat 0 channel: made 0 / seat 0 port 0: made 1 / seat 0 multicast 0 5: done / seat 0 port 0: made 2'
+    late="$late / seat 0 multicast 0 6: done / seat 0 port 0: made 3 / seat 0 multicast 0 7: done"
+    short 'ports that were made late' "$late / end 7" "$late / end 7"
+    short 'ports that are closed lie between them' \
+        "$(printf '%s' 'journal 1 / seat 0 channel: made 0 / seat 0 port 0: made 1 / seat 0 multicast 0 5: done / seat 0 multicast 0 6: done
+ / seat 0 multicast 0 7: done / seat 0 port 0: made 2 / seat 0 port 0: made 3 / seat 0 port 0: made 4 / seat 0 close 2: done
+ / seat 0 close 4: done / end 10' | tr -d '\n')" \
+        "$late / seat 0 close 2: done / seat 0 recv 3: 7 / seat 0 port 0: made 4 / seat 0 close 4: done / end 11"
+    short 'a copy of a port that reads late, whose short journal is longer' \
+        "$(printf '%s' 'journal 1 / seat 0 channel: made 0 / seat 0 port 0: made 1 / seat 0 port 0: made 2 / seat 0 port 0: made 3
+ / seat 0 multicast 0 5: done / seat 0 multicast 0 6: done / seat 0 recv 2: 5 / seat 0 recv 2: 6 / end 8' | tr -d '\n')" \
         "$(printf '%s' 'journal 1 / seat 0 channel: made 0 / seat 0 port 0: made 1 / seat 0 multicast 0 5: done
- / seat 0 multicast 0 6: done / seat 0 port 0: made 2 / end 5' | tr -d '\n')"
+ / seat 0 multicast 0 6: done / seat 0 port 0: made 2 / seat 0 copy 1: made 3 / end 6' | tr -d '\n')"
     short_sealed 'sealed pieces' 'journal 3 / seat 1 mailbox: made 0 / seat 1 send 0 5: done / end 2 SUM' \
         'journal 3 / seat 0 mailbox: made 0 / end 1 SUM / journal 3 BEFORE / from 1 / seat 1 send 0 5: done / end 2 SUM'
     short_sealed 'sealed bytes' 'journal 4 / seat 0 mvar: made 0 / seat 0 put 0 =%20: done / end 2 SUM' \
@@ -175,7 +182,7 @@ endings() {
     expect 'a line that would be too long' 2 none 'cml: the line of entry 1 of the short journal is too long'
 }
 
-# 100,001 entries of which 1,000 messages are kept; and 100,000 that are all kept. Each takes a second at the most.
+# 100,001 entries of which 1,000 messages are kept; 100,000 that are all kept; and 2,000 ports that were made one after another.
 long() {
     awk 'BEGIN {
         print "journal 1\nseat 0 mailbox: made 0"
@@ -194,6 +201,13 @@ long() {
     run compact < "$work/in"
     tail -n 1 "$work/out" > "$work/last" && mv "$work/last" "$work/out"
     expect 'a journal all of which is kept' 0 'end 100002' none
+    awk 'BEGIN {
+        print "journal 1\nseat 0 channel: made 0"
+        for (i = 1; i <= 2000; i++) print "seat 0 port 0: made " i "\nseat 0 multicast 0 " i ": done"
+        print "end 4001"
+    }' > "$work/in"
+    run compact < "$work/in"
+    expect 'ports made one after another' 0 "$(cat "$work/in")" none
 }
 
 by_hand
