@@ -50,7 +50,8 @@ struct seryugo_file_options {
     uint32_t flags;
     /* By how many bytes the file grows. 0 is 4 MiB. Tests use less. */
     uint64_t segment;
-    /* Opening exchanges a file of so many bytes for a short one, if that is much shorter. 0 is never. */
+    /* A file of so many bytes is exchanged for a short one, if that is much shorter: as it is opened, and while it is open. 0 is
+     * never. */
     uint64_t short_from;
 };
 
@@ -133,6 +134,19 @@ uint32_t seryugo_file_close(struct seryugo_file *file);
 /* Returns in words why calls fail with SERYUGO_FILE_FULL or SERYUGO_FILE_LOST, or null, and writes the cause as errno or 0.
  * The words are there until the file is closed. */
 const char *seryugo_file_error(struct seryugo_file *file, int *number);
+
+/* What became of exchanges while the file is open. */
+struct seryugo_file_exchanges {
+    /* How many short files took the file's place, and how many tries failed. */
+    uint64_t done;
+    uint64_t failed;
+    /* Why the last one failed, as errno or 0, and in words. */
+    int error;
+    char words[256];
+};
+
+/* Writes what became of exchanges for a short file since the file was opened. */
+void seryugo_file_exchanges(struct seryugo_file *file, struct seryugo_file_exchanges *told);
 
 /* Returns a fault of enum seryugo_fault on this line, counted from 1, in the words of `cml check`. The text is constant. */
 const char *seryugo_fault_text(uint64_t fault, uint64_t line);

@@ -2,7 +2,7 @@
 #ifndef _GNU_SOURCE
 #define _GNU_SOURCE
 #endif
-#include "file.h"
+#include "exchange.h"
 
 #include <errno.h>
 #include <signal.h>
@@ -105,7 +105,7 @@ static bool is_whole(const struct seryugo_file *file)
     uint64_t least = atomic_load(file->is_mapped ? &file->grown : &file->told);
     struct stat now;
 
-    return fstat(file->descriptor, &now) == 0 && (uint64_t)now.st_size >= least;
+    return fstat(file->descriptor, &now) == 0 && (uint64_t)now.st_size >= least - file->shift;
 }
 
 /* Whether what was synced still has its last line end. A file that was cut and has grown since has a 0 there. */
@@ -114,7 +114,7 @@ static bool has_line_end(const struct seryugo_file *file, uint64_t synced)
     char last = 0;
     size_t length = 0;
 
-    return seryugo_read_at(file->descriptor, &last, 1, synced - 1, &length) == 0 && length == 1 && last == '\n';
+    return seryugo_read_at(file->descriptor, &last, 1, synced - file->shift - 1, &length) == 0 && length == 1 && last == '\n';
 }
 
 /* ---- the machine ---- */
@@ -132,7 +132,7 @@ uint64_t seryugo_mark_of(struct seryugo *store, uint32_t mark)
 static void catch_up(struct seryugo_file *file)
 {
     uint64_t told = atomic_load_explicit(&file->told, memory_order_acquire);
-    uint64_t accepted = seryugo_mark_of(&file->store, SERYUGO_MARK_ACCEPTED);
+    uint64_t accepted = seryugo_mark_of(&file->store, SERYUGO_MARK_ACCEPTED) + file->shift;
     struct seryugo_step step = {SERYUGO_STEP_NOTHING, 0, 0};
 
     if (told > accepted && seryugo_store_accept(&file->store, told - accepted) != SERYUGO_DONE) {
@@ -159,7 +159,11 @@ static struct seryugo_step begin_step(struct seryugo_file *file, uint32_t work, 
 
 /* ---- growing ---- */
 
-static uint64_t to_page(uint64_t at) { return (at + SERYUGO_PAGE - 1) / SERYUGO_PAGE * SERYUGO_PAGE; }
+/* The end of a page of the file. */
+static uint64_t to_page(uint64_t at, uint64_t shift)
+{
+    return (at - shift + SERYUGO_PAGE - 1) / SERYUGO_PAGE * SERYUGO_PAGE + shift;
+}
 
 int seryugo_allocate(int descriptor, uint64_t from, uint64_t to)
 {
@@ -182,7 +186,7 @@ static int give_room(struct seryugo_file *file, uint64_t from, uint64_t to)
         seryugo_file_lose(file, "the file was cut by others", 0);
         return EIO;
     }
-    error = seryugo_allocate(file->descriptor, from, to);
+    error = seryugo_allocate(file->descriptor, from - file->shift, to - file->shift);
     /* Where room can't be had ahead, pwrite(2) makes it. */
     return !file->is_mapped && (error == EOPNOTSUPP || error == ENOSYS) ? 0 : error;
 }
@@ -191,7 +195,7 @@ static void end_growing(struct seryugo_file *file, int error)
 {
     pthread_mutex_lock(&file->lock);
     (void)seryugo_store_end(&file->store, false, error == 0);
-    atomic_store(&file->grown, seryugo_mark_of(&file->store, SERYUGO_MARK_GROWN));
+    atomic_store(&file->grown, seryugo_mark_of(&file->store, SERYUGO_MARK_GROWN) + file->shift);
     if (!atomic_load(&file->is_lost)) {
         file->words[0] = 0;
         file->error = 0;
@@ -208,12 +212,12 @@ static int grow_to(struct seryugo_file *file, uint64_t from, uint64_t to)
     int error;
 
     pthread_mutex_lock(&file->lock);
-    step = begin_step(file, SERYUGO_WORK_ROOM, to);
+    step = begin_step(file, SERYUGO_WORK_ROOM, to - file->shift);
     pthread_mutex_unlock(&file->lock);
     if (step.kind != SERYUGO_STEP_GROW) {
         return EIO;
     }
-    error = give_room(file, from, step.to);
+    error = give_room(file, from, to);
     end_growing(file, error);
     return error;
 }
@@ -226,11 +230,11 @@ int seryugo_file_grow(struct seryugo_file *file, uint64_t need)
 
     pthread_mutex_lock(&file->growing);
     while (error == 0 && !atomic_load(&file->is_lost) && (grown = atomic_load(&file->grown)) < need) {
-        uint64_t wanted = to_page(grown + file->segment);
+        uint64_t wanted = to_page(grown + file->segment, file->shift);
 
         error = grow_to(file, grown, wanted);
-        if (error != 0 && to_page(need) < wanted) {
-            error = grow_to(file, grown, to_page(need));
+        if (error != 0 && to_page(need, file->shift) < wanted) {
+            error = grow_to(file, grown, to_page(need, file->shift));
         }
     }
     pthread_mutex_unlock(&file->growing);
@@ -263,7 +267,7 @@ static void populate(struct seryugo_file *file, uint64_t from, uint64_t to)
     pthread_mutex_lock(&file->lock);
     view = file->view;
     pthread_mutex_unlock(&file->lock);
-    from = to_page(from < view.start ? view.start : from);
+    from = to_page(from < view.start ? view.start : from, view.shift);
     to = to < view.end ? to : view.end;
     if (view.base != NULL && from < to) {
         (void)madvise(view.base + (from - view.start), to - from, MADV_POPULATE_WRITE);
@@ -284,18 +288,29 @@ static void unmap_old_views(struct seryugo_file *file)
     }
 }
 
-uint32_t seryugo_file_move_view(struct seryugo_file *file)
+bool seryugo_map_view(struct seryugo_view *view, uint64_t size)
 {
-    struct seryugo_view view = {NULL, file->stored / SERYUGO_PAGE * SERYUGO_PAGE, 0};
-    void *base = mmap(NULL, file->view_size, PROT_READ | PROT_WRITE, MAP_SHARED, file->descriptor, (off_t)view.start);
+    off_t place = (off_t)(view->start - view->shift);
+    void *base = mmap(NULL, size, PROT_READ | PROT_WRITE, MAP_SHARED, view->descriptor, place);
 
     if (base == MAP_FAILED) {
+        return false;
+    }
+    (void)madvise(base, size, MADV_DONTFORK);
+    (void)madvise(base, size, MADV_RANDOM);
+    view->base = (uint8_t *)base;
+    view->end = view->start + size;
+    return true;
+}
+
+uint32_t seryugo_file_move_view(struct seryugo_file *file)
+{
+    struct seryugo_view view = file->view;
+
+    view.start = (file->stored - view.shift) / SERYUGO_PAGE * SERYUGO_PAGE + view.shift;
+    if (!seryugo_map_view(&view, file->view_size)) {
         return SERYUGO_NO_MEMORY;
     }
-    view.base = (uint8_t *)base;
-    view.end = view.start + file->view_size;
-    (void)madvise(base, file->view_size, MADV_DONTFORK);
-    (void)madvise(base, file->view_size, MADV_RANDOM);
     pthread_mutex_lock(&file->lock);
     while (file->old_count == SERYUGO_OLD_VIEWS) {
         pthread_cond_wait(&file->done, &file->lock);
@@ -313,20 +328,13 @@ uint32_t seryugo_file_move_view(struct seryugo_file *file)
 /* ---- syncing ---- */
 
 /* A sync that fails is never made again: the system may have forgotten what it couldn't write. An interrupted one counts as
- * failed. */
-static void sync_once(struct seryugo_file *file)
+ * failed. Needs the lock, and gives it back meanwhile. */
+static void make_sync(struct seryugo_file *file)
 {
-    struct seryugo_step step;
-    uint64_t synced;
+    uint64_t synced = seryugo_mark_of(&file->store, SERYUGO_MARK_SYNCED) + file->shift;
     int error;
 
-    pthread_mutex_lock(&file->lock);
-    step = begin_step(file, SERYUGO_WORK_SYNC, 0);
-    synced = seryugo_mark_of(&file->store, SERYUGO_MARK_SYNCED);
     pthread_mutex_unlock(&file->lock);
-    if (step.kind != SERYUGO_STEP_SYNC) {
-        return;
-    }
     error = fdatasync(file->descriptor) == 0 ? 0 : errno;
     pthread_mutex_lock(&file->lock);
     if (error != 0) {
@@ -335,8 +343,17 @@ static void sync_once(struct seryugo_file *file)
         lose(file, "the file was cut by others", 0);
     }
     (void)seryugo_store_end(&file->store, true, !atomic_load(&file->is_lost));
-    atomic_store(&file->synced, seryugo_mark_of(&file->store, SERYUGO_MARK_SYNCED));
-    pthread_cond_broadcast(&file->done);
+    atomic_store(&file->synced, seryugo_mark_of(&file->store, SERYUGO_MARK_SYNCED) + file->shift);
+}
+
+static void sync_once(struct seryugo_file *file)
+{
+    pthread_mutex_lock(&file->lock);
+    seryugo_hold_syncs(file);
+    if (begin_step(file, SERYUGO_WORK_SYNC, 0).kind == SERYUGO_STEP_SYNC) {
+        make_sync(file);
+    }
+    seryugo_let_syncs(file);
     pthread_mutex_unlock(&file->lock);
 }
 
@@ -436,11 +453,13 @@ static void *help(void *given)
         if (is_time || is_due) {
             sync_once(file);
         }
+        seryugo_exchange_step(file);
         due = is_time ? after(file->period) : due;
         pthread_mutex_lock(&file->lock);
     }
     unmap_old_views(file);
     pthread_mutex_unlock(&file->lock);
+    seryugo_exchange_stop(file);
     return NULL;
 }
 

@@ -2,7 +2,7 @@
 #ifndef _GNU_SOURCE
 #define _GNU_SOURCE
 #endif
-#include "file.h"
+#include "exchange.h"
 
 #include <errno.h>
 #include <stdlib.h>
@@ -44,9 +44,9 @@ static pthread_mutex_t list_lock = PTHREAD_MUTEX_INITIALIZER;
 static pthread_once_t is_listed = PTHREAD_ONCE_INIT;
 static struct seryugo_file *files;
 
-static void before_fork(void) { pthread_mutex_lock(&list_lock); }
+void seryugo_hold_forks(void) { pthread_mutex_lock(&list_lock); }
 
-static void after_fork(void) { pthread_mutex_unlock(&list_lock); }
+void seryugo_let_forks(void) { pthread_mutex_unlock(&list_lock); }
 
 /* To close a copy leaves the parent's lock as it is. */
 static void in_child(void)
@@ -56,11 +56,14 @@ static void in_child(void)
             close(file->descriptor);
         }
         file->descriptor = -1;
+        if (file->exchange != NULL) {
+            seryugo_exchange_close_copies(file->exchange);
+        }
     }
     pthread_mutex_unlock(&list_lock);
 }
 
-static void watch_forks(void) { pthread_atfork(before_fork, after_fork, in_child); }
+static void watch_forks(void) { pthread_atfork(seryugo_hold_forks, seryugo_let_forks, in_child); }
 
 void seryugo_file_list(struct seryugo_file *file)
 {
@@ -104,7 +107,7 @@ struct seryugo_file *seryugo_file_new(int descriptor, bool is_mapped, uint32_t m
     if (file == NULL) {
         return NULL;
     }
-    file->descriptor = descriptor;
+    file->descriptor = file->view.descriptor = descriptor;
     file->is_mapped = is_mapped;
     file->entries_most = limit < CUT_ENTRIES ? limit : CUT_ENTRIES;
     file->margin = messages == SERYUGO_NUMBERS ? NUMBERS_MARGIN : BYTES_MARGIN;
@@ -128,6 +131,9 @@ void seryugo_file_free(struct seryugo_file *file)
     if (file->store.at != NULL) {
         seryugo_close(file->store);
     }
+    if (file->exchange != NULL) {
+        seryugo_exchange_free(file->exchange);
+    }
     free(file->lines);
     free(file);
 }
@@ -142,10 +148,9 @@ uint32_t seryugo_file_state(const struct seryugo_file *file)
 
 static uint64_t least(uint64_t one, uint64_t other) { return one < other ? one : other; }
 
-/* Sees to room for a call's lines, in memory, on the disk, and among what is unsynced. */
-static uint32_t make_room(struct seryugo_file *file)
+/* Finds out how far lines may reach. */
+static uint32_t move_bound(struct seryugo_file *file, uint64_t need)
 {
-    uint64_t need = file->stored + file->margin;
     uint32_t code = SERYUGO_DONE;
 
     if (file->is_mapped && need > file->view.end) {
@@ -159,7 +164,24 @@ static uint32_t make_room(struct seryugo_file *file)
     }
     file->bound = least(atomic_load(&file->grown), atomic_load(&file->synced) + SERYUGO_UNSYNCED_MOST);
     file->bound = file->is_mapped ? least(file->bound, file->view.end) : file->bound;
+    file->bound = file->is_double ? least(file->bound, atomic_load(&file->exchange->end)) : file->bound;
     return seryugo_file_state(file) == SERYUGO_DONE ? code : seryugo_file_state(file);
+}
+
+/* Sees to room for a call's lines, in memory, on the disk, and among what is unsynced. If an exchange ends meanwhile, what was found
+ * out may be true of the other file. */
+static uint32_t make_room(struct seryugo_file *file)
+{
+    uint64_t need = file->stored + file->margin;
+    uint32_t code;
+
+    do {
+        if (file->is_double) {
+            seryugo_exchange_make_way(file, need);
+        }
+        code = move_bound(file, need);
+    } while (code == SERYUGO_DONE && file->is_double && atomic_load(&file->is_wanted));
+    return code;
 }
 
 /* A thread that is cancelled here would leave the locks locked. */
@@ -208,9 +230,9 @@ static uint32_t write_lines(struct seryugo_file *file, uint64_t length)
 
     pthread_setcancelstate(PTHREAD_CANCEL_DISABLE, &state);
     if (length != 0) {
-        error = seryugo_may_reach(file->stored + length)
-                    ? seryugo_write_at(file->descriptor, file->lines, length, file->stored)
-                    : EFBIG;
+        uint64_t place = file->stored - file->view.shift;
+
+        error = seryugo_may_reach(place + length) ? seryugo_write_at(file->view.descriptor, file->lines, length, place) : EFBIG;
     }
     pthread_setcancelstate(state, &state);
     if (error != 0) {
@@ -233,6 +255,9 @@ static uint32_t store_lines(struct seryugo_file *file, const struct seryugo *roo
     /* The next lines' memory was last written by the helper's processor. */
     __builtin_prefetch(to + length + AHEAD, 1);
     if (!file->is_mapped && (code == SERYUGO_DONE || code == SERYUGO_FULL) && write_lines(file, length) != SERYUGO_DONE) {
+        return SERYUGO_FILE_LOST;
+    }
+    if (file->is_double && seryugo_exchange_store(file, to, length) != SERYUGO_DONE) {
         return SERYUGO_FILE_LOST;
     }
     publish(file, file->next + count, length);
@@ -272,6 +297,9 @@ uint32_t seryugo_file_note(struct seryugo_file *file, struct seryugo *room, uint
     file->is_behind = code != SERYUGO_DONE;
     if (code == SERYUGO_DONE) {
         drop_entries(file, room);
+        if (atomic_load_explicit(&file->is_wanted, memory_order_relaxed)) {
+            seryugo_exchange_join(file, room);
+        }
     }
     if (file->stored >= file->mark) {
         file->mark = file->stored + file->segment / 4;

@@ -1,4 +1,7 @@
-/* What the parts of the journal's file share: file.c stores lines, disk.c grows and syncs, open.c opens. */
+/* What the parts of the journal's file share: file.c stores lines, disk.c grows and syncs, open.c opens, exchange.c makes short.
+ *
+ * Places are positions: a position counts all bytes that were stored while the file is open, and only grows. An exchange makes the
+ * file shorter, so a place in the file is a position less a shift. Only the machine and calls of the system take places in the file. */
 #ifndef SERYUGO_LIB_FILE_H
 #define SERYUGO_LIB_FILE_H
 
@@ -78,12 +81,16 @@ uint32_t seryugo_store_mark(struct seryugo *store, uint32_t mark, uint64_t *plac
 
 #define SERYUGO_HIDDEN __attribute__((visibility("hidden")))
 
-/* A part of the file in memory: the bytes from `start` to `end`. */
+/* Where callers store lines: a file, and the part of it in memory from `start` to `end`. */
 struct seryugo_view {
+    int descriptor;
+    uint64_t shift;
     uint8_t *base;
     uint64_t start;
     uint64_t end;
 };
+
+struct seryugo_exchange;
 
 struct seryugo_file {
     /* A page that the system empties in a forked process: 1 in the process that opened the file, and else 0. */
@@ -106,14 +113,19 @@ struct seryugo_file {
     uint8_t *lines;
     bool is_behind;
     bool is_mapped;
+    /* Lines are stored in the new file of an exchange, too. */
+    bool is_double;
 
     /* What all threads read. */
     _Atomic uint64_t told;
     _Atomic uint64_t synced;
     _Atomic uint64_t grown;
     _Atomic bool is_lost;
+    /* An exchange waits for a caller. */
+    _Atomic bool is_wanted;
 
-    /* The next are under `lock`. Whoever grows the file has `growing`. */
+    /* The next are under `lock`. Whoever grows the file has `growing`, and whoever syncs it `is_syncing`: both files don't change places
+     * then. */
     pthread_mutex_t lock;
     pthread_mutex_t growing;
     pthread_cond_t work;
@@ -124,13 +136,18 @@ struct seryugo_file {
     uint64_t wanted_sync;
     uint64_t ahead;
     bool is_asked;
+    bool is_syncing;
     bool stops;
     int error;
     char words[256];
+    /* Null, if the file is never made short. */
+    struct seryugo_exchange *exchange;
 
     /* The process's next open file. */
     struct seryugo_file *following;
+    /* The file that is synced and grows, which has a position less `shift` there. */
     int descriptor;
+    uint64_t shift;
     uint64_t segment;
     uint64_t view_size;
     uint64_t period;
@@ -165,6 +182,9 @@ SERYUGO_HIDDEN uint32_t seryugo_file_wait(struct seryugo_file *file, uint64_t po
 /* Tells the helper that there may be work. */
 SERYUGO_HIDDEN void seryugo_file_ask(struct seryugo_file *file);
 
+/* Maps a view of so many bytes from its start on. */
+SERYUGO_HIDDEN bool seryugo_map_view(struct seryugo_view *view, uint64_t size);
+
 /* Maps the part of the file in which the next line is stored. The one before is the helper's. */
 SERYUGO_HIDDEN uint32_t seryugo_file_move_view(struct seryugo_file *file);
 
@@ -181,6 +201,10 @@ SERYUGO_HIDDEN struct seryugo_file *seryugo_file_new(int descriptor, bool is_map
 
 /* Puts a file on the list of those that a forked child closes. */
 SERYUGO_HIDDEN void seryugo_file_list(struct seryugo_file *file);
+
+/* No fork copies a descriptor between these. */
+SERYUGO_HIDDEN void seryugo_hold_forks(void);
+SERYUGO_HIDDEN void seryugo_let_forks(void);
 
 /* Frees a handle whose helper has ended or never ran, but not its descriptor. */
 SERYUGO_HIDDEN void seryugo_file_free(struct seryugo_file *file);

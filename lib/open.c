@@ -2,7 +2,7 @@
 #ifndef _GNU_SOURCE
 #define _GNU_SOURCE
 #endif
-#include "open.h"
+#include "exchange.h"
 
 #include <errno.h>
 #include <fcntl.h>
@@ -320,6 +320,10 @@ static uint32_t start(struct seryugo_opening *opening, const struct seryugo_file
     atomic_store(&made->told, made->stored);
     atomic_store(&made->synced, seryugo_mark_of(store, SERYUGO_MARK_SYNCED));
     atomic_store(&made->grown, seryugo_mark_of(store, SERYUGO_MARK_GROWN));
+    if (options->short_from != 0 && !seryugo_exchange_new(made, opening, options->short_from)) {
+        seryugo_file_free(made);
+        return seryugo_refuse(opening, SERYUGO_NO_MEMORY, "no memory", 0);
+    }
     if (seryugo_file_start_helper(made) != 0) {
         seryugo_file_free(made);
         return seryugo_refuse(opening, SERYUGO_NO_MEMORY, "no thread can be started", EAGAIN);

@@ -1,5 +1,5 @@
 /* What the parts of an opening share: find.c finds or makes the file, open.c reads it, shorten.c may exchange it, and mend.c goes
- * on with it. */
+ * on with it. exchange.c makes a short file beside as shorten.c does. */
 #ifndef SERYUGO_LIB_OPEN_H
 #define SERYUGO_LIB_OPEN_H
 
@@ -40,6 +40,22 @@ struct seryugo_opening {
     size_t more_length;
 };
 
+/* A file that isn't old is exchanged only if it has more than so many times the bytes of the short one. */
+#define SERYUGO_TIMES_SHORTER 4
+
+/* What may take a file's place. */
+struct seryugo_shorter {
+    /* The new file, as if it alone were opened. */
+    struct seryugo_opening fresh;
+    struct seryugo_file_found found;
+    char beside[sizeof((struct seryugo_opening *)NULL)->name + 4];
+    struct seryugo_bytes text;
+    /* So many bytes of the text are in the file: all but the last line, which would end it. */
+    uint64_t length;
+    /* The file beside is this opening's. */
+    bool is_made;
+};
+
 /* Writes the cause of a refusal, and returns its code. */
 SERYUGO_HIDDEN uint32_t seryugo_refuse(struct seryugo_opening *opening, uint32_t code, const char *words, int error);
 
@@ -52,6 +68,27 @@ SERYUGO_HIDDEN uint32_t seryugo_judge(struct seryugo_opening *opening);
 /* Exchanges the file for a short one, if it is old, or if it has `short_from` bytes and that makes it much shorter. If that
  * can't be done, *found says why, and the opening is as it was. It fails only if others have exchanged the file. */
 SERYUGO_HIDDEN uint32_t seryugo_shorten_file(struct seryugo_opening *opening, uint64_t short_from);
+
+/* Begins with nothing. The folder stays the opening's. */
+SERYUGO_HIDDEN void seryugo_begin_shorter(const struct seryugo_opening *opening, struct seryugo_shorter *made);
+
+/* Writes the text of a short journal, which it closes. */
+SERYUGO_HIDDEN uint32_t seryugo_take_text(struct seryugo *journal, struct seryugo_shorter *made);
+
+/* Makes the new file, or takes one that a killed program left. It is locked, and has the rights of the opening's file. */
+SERYUGO_HIDDEN uint32_t seryugo_make_beside(const struct seryugo_opening *opening, struct seryugo_shorter *made);
+
+/* Marks the new file: a later opening takes it, whatever it has, until it has got the name of this opening's file. */
+SERYUGO_HIDDEN uint32_t seryugo_mark_beside(const struct seryugo_opening *opening, struct seryugo_shorter *made);
+
+/* Gives the new file the name. Others may have given either name to a file of theirs, which stays. */
+SERYUGO_HIDDEN uint32_t seryugo_name_beside(const struct seryugo_opening *opening, struct seryugo_shorter *made);
+
+/* Removes the new file, unless it has got the name or others have its own. */
+SERYUGO_HIDDEN void seryugo_remove_beside(const struct seryugo_shorter *made);
+
+/* Frees what a try has. */
+SERYUGO_HIDDEN void seryugo_free_shorter(struct seryugo_shorter *made);
 
 /* Frees what an opening has. What it gave away it doesn't have any more. */
 SERYUGO_HIDDEN void seryugo_free_opening(struct seryugo_opening *opening);

@@ -13,40 +13,50 @@
 #include <sys/xattr.h>
 #include <unistd.h>
 
-/* A file that isn't old is exchanged only if it has more than so many times the bytes of the short one. */
-#define TIMES_SHORTER 4
+/* The extended attribute of a file that is being made while another one is in use. */
+#define MARK "user.seryugo.beside"
 
-/* What may take the file's place. */
-struct shorter {
-    /* The new file, as if it alone were opened. */
-    struct seryugo_opening fresh;
-    struct seryugo_file_found found;
-    char beside[sizeof((struct seryugo_opening *)NULL)->name + 4];
-    struct seryugo_bytes text;
-    /* So many bytes of the text are in the file: all but the last line, which would end it. */
-    uint64_t length;
-    /* The file beside is this opening's. */
-    bool is_made;
+/* Beside which file it was made. */
+struct mark {
+    uint64_t device;
+    uint64_t inode;
 };
 
-/* Writes what `cml compact` writes of a journal without sums. That is the version of new files. */
-static uint32_t write_text(struct seryugo_opening *opening, struct shorter *made)
+void seryugo_begin_shorter(const struct seryugo_opening *opening, struct seryugo_shorter *made)
 {
-    struct seryugo journal;
-    uint64_t count = 0;
-    uint32_t code = seryugo_compact(&opening->room, &journal, &count);
+    memset(made, 0, sizeof *made);
+    made->fresh.path = opening->path;
+    made->fresh.messages = opening->messages;
+    made->fresh.limit = opening->limit;
+    made->fresh.found = &made->found;
+    made->fresh.folder = opening->folder;
+    made->fresh.descriptor = -1;
+    strcpy(made->fresh.name, opening->name);
+    snprintf(made->beside, sizeof made->beside, "%s.new", opening->name);
+}
+
+/* Writes what `cml compact` writes of a journal without sums. That is the version of new files. */
+uint32_t seryugo_take_text(struct seryugo *journal, struct seryugo_shorter *made)
+{
+    uint32_t code = seryugo_journal_text(journal, 0, &made->text);
     const char *bytes;
 
-    if (code == SERYUGO_DONE) {
-        code = seryugo_journal_text(&journal, 0, &made->text);
-        seryugo_close(journal);
-    }
+    seryugo_close(*journal);
     if (code != SERYUGO_DONE) {
         return seryugo_refuse(&made->fresh, code, code == SERYUGO_TOO_LONG ? "a line would be too long" : "no memory", 0);
     }
     bytes = (const char *)seryugo_bytes_at(&made->text);
     made->length = (uint64_t)((const char *)memrchr(bytes, '\n', made->text.length - 1) + 1 - bytes);
     return SERYUGO_DONE;
+}
+
+static uint32_t write_text(struct seryugo_opening *opening, struct seryugo_shorter *made)
+{
+    struct seryugo journal;
+    uint64_t count = 0;
+    uint32_t code = seryugo_compact(&opening->room, &journal, &count);
+
+    return code == SERYUGO_DONE ? seryugo_take_text(&journal, made) : seryugo_refuse(&made->fresh, code, "no memory", 0);
 }
 
 /* ---- the new file ---- */
@@ -71,22 +81,57 @@ static bool is_own(int old, int descriptor)
            && (is.st_uid == geteuid() || is.st_uid == was.st_uid);
 }
 
-/* A file beside that is already there is taken, if it has nothing that the new one won't have: a program was killed as it made
- * it. */
-static uint32_t take_leftover(const struct seryugo_opening *opening, struct shorter *made)
+static bool mark_of(int old, struct mark *mark)
 {
-    struct seryugo_opening *fresh = &made->fresh;
-    const char *text = (const char *)seryugo_bytes_at(&made->text);
-    uint32_t code = seryugo_open_named(fresh, made->beside);
-    size_t length = 0;
-    bool is_ours = code == SERYUGO_DONE && fresh->length <= made->length && is_own(opening->descriptor, fresh->descriptor);
+    struct stat was;
+    bool is_there = fstat(old, &was) == 0;
 
-    for (uint64_t at = 0; is_ours && at < fresh->length; at += length) {
+    mark->device = is_there ? (uint64_t)was.st_dev : 0;
+    mark->inode = is_there ? (uint64_t)was.st_ino : 0;
+    return is_there;
+}
+
+static bool is_marked(int old, int descriptor)
+{
+    struct mark wanted, found;
+
+    return mark_of(old, &wanted) && fgetxattr(descriptor, MARK, &found, sizeof found) == (ssize_t)sizeof found
+           && memcmp(&wanted, &found, sizeof found) == 0;
+}
+
+uint32_t seryugo_mark_beside(const struct seryugo_opening *opening, struct seryugo_shorter *made)
+{
+    struct mark mark;
+    bool is_done = mark_of(opening->descriptor, &mark) && fsetxattr(made->fresh.descriptor, MARK, &mark, sizeof mark, 0) == 0;
+
+    return is_done ? (uint32_t)SERYUGO_DONE : seryugo_fail(&made->fresh, "mark the new file", errno);
+}
+
+/* Whether a file has nothing that the new one won't have. */
+static bool has_text_alone(const struct seryugo_opening *opening, const struct seryugo_shorter *made)
+{
+    const struct seryugo_opening *fresh = &made->fresh;
+    const char *text = (const char *)seryugo_bytes_at(&made->text);
+    bool is_so = fresh->length <= made->length;
+    size_t length = 0;
+
+    for (uint64_t at = 0; is_so && at < fresh->length; at += length) {
         size_t part = fresh->length - at < SERYUGO_CHUNK ? (size_t)(fresh->length - at) : SERYUGO_CHUNK;
 
-        is_ours = seryugo_read_at(fresh->descriptor, opening->chunk, part, at, &length) == 0 && length != 0;
-        is_ours = is_ours && are_of(text + at, opening->chunk, length);
+        is_so = seryugo_read_at(fresh->descriptor, opening->chunk, part, at, &length) == 0 && length != 0;
+        is_so = is_so && are_of(text + at, opening->chunk, length);
     }
+    return is_so;
+}
+
+/* A file beside that is already there is taken, if a program was killed as it made it. */
+static uint32_t take_leftover(const struct seryugo_opening *opening, struct seryugo_shorter *made)
+{
+    struct seryugo_opening *fresh = &made->fresh;
+    uint32_t code = seryugo_open_named(fresh, made->beside);
+    bool is_ours = code == SERYUGO_DONE && is_own(opening->descriptor, fresh->descriptor)
+                   && (is_marked(opening->descriptor, fresh->descriptor) || has_text_alone(opening, made));
+
     return is_ours ? code : seryugo_fail(fresh, "a file of this name with .new is in the way", EEXIST);
 }
 
@@ -114,7 +159,7 @@ static uint32_t keep_rights(int old, struct seryugo_opening *fresh)
                                                                : seryugo_fail(fresh, "give the new file its mode", errno);
 }
 
-static uint32_t make(const struct seryugo_opening *opening, struct shorter *made)
+uint32_t seryugo_make_beside(const struct seryugo_opening *opening, struct seryugo_shorter *made)
 {
     struct seryugo_opening *fresh = &made->fresh;
     uint32_t code;
@@ -132,7 +177,7 @@ static uint32_t make(const struct seryugo_opening *opening, struct shorter *made
 }
 
 /* Writes and syncs the new file, and reads it as each opening does: so the room is what the file says. */
-static uint32_t fill(struct shorter *made)
+static uint32_t fill(struct seryugo_shorter *made)
 {
     struct seryugo_opening *fresh = &made->fresh;
     int error = fresh->length == 0 || ftruncate(fresh->descriptor, 0) == 0 ? 0 : errno;
@@ -163,9 +208,7 @@ static bool has_name(const struct seryugo_opening *opening, const char *name)
     return fstat(opening->descriptor, &mine) == 0 && seryugo_leads_to(opening, name, &mine);
 }
 
-/* Gives the new file the name. Others may have given either name to a file of theirs, which stays. The machine syncs the folder
- * before a line is added. */
-static uint32_t exchange(struct seryugo_opening *opening, struct shorter *made)
+uint32_t seryugo_name_beside(const struct seryugo_opening *opening, struct seryugo_shorter *made)
 {
     made->is_made = has_name(&made->fresh, made->beside);
     if (!made->is_made || !has_name(opening, opening->name)) {
@@ -175,7 +218,22 @@ static uint32_t exchange(struct seryugo_opening *opening, struct shorter *made)
         return seryugo_fail(&made->fresh, "rename the new file", errno);
     }
     made->is_made = false;
+    (void)fremovexattr(made->fresh.descriptor, MARK);
     return SERYUGO_DONE;
+}
+
+void seryugo_remove_beside(const struct seryugo_shorter *made)
+{
+    if (made->is_made) {
+        unlinkat(made->fresh.folder, made->beside, 0);
+    }
+}
+
+void seryugo_free_shorter(struct seryugo_shorter *made)
+{
+    seryugo_bytes_free(made->text);
+    made->fresh.folder = -1;
+    seryugo_free_opening(&made->fresh);
 }
 
 /* The opening goes on with the new file, which was locked before it had the name. */
@@ -190,13 +248,11 @@ static void take_over(struct seryugo_opening *opening, struct seryugo_opening *f
 }
 
 /* Says why the file wasn't exchanged, and removes what was made. */
-static uint32_t give_up(struct seryugo_opening *opening, const struct shorter *made)
+static uint32_t give_up(struct seryugo_opening *opening, const struct seryugo_shorter *made)
 {
     opening->found->error = made->found.error;
     memcpy(opening->found->words, made->found.words, sizeof made->found.words);
-    if (made->is_made) {
-        unlinkat(opening->folder, made->beside, 0);
-    }
+    seryugo_remove_beside(made);
     /* Lines that were added to a file without a name would be lost. */
     if (!has_name(opening, opening->name)) {
         return seryugo_refuse(opening, SERYUGO_FILE_FAILED, "others have exchanged the file", 0);
@@ -205,15 +261,15 @@ static uint32_t give_up(struct seryugo_opening *opening, const struct shorter *m
 }
 
 /* Makes the new file, and has it take the old one's place. */
-static uint32_t try_exchange(struct seryugo_opening *opening, struct shorter *made)
+static uint32_t try_exchange(struct seryugo_opening *opening, struct seryugo_shorter *made)
 {
-    uint32_t code = make(opening, made);
+    uint32_t code = seryugo_make_beside(opening, made);
 
     if (code == SERYUGO_DONE) {
         code = fill(made);
     }
     if (code == SERYUGO_DONE) {
-        code = exchange(opening, made);
+        code = seryugo_name_beside(opening, made);
     }
     if (code != SERYUGO_DONE) {
         return give_up(opening, made);
@@ -224,26 +280,19 @@ static uint32_t try_exchange(struct seryugo_opening *opening, struct shorter *ma
 
 uint32_t seryugo_shorten_file(struct seryugo_opening *opening, uint64_t short_from)
 {
-    struct shorter made = {.fresh = {.path = opening->path, .messages = opening->messages, .limit = opening->limit}};
+    struct seryugo_shorter made;
     uint32_t code;
 
     if (!opening->is_old && (short_from == 0 || opening->kept < short_from)) {
         return SERYUGO_DONE;
     }
-    made.fresh.found = &made.found;
-    made.fresh.folder = opening->folder;
-    made.fresh.descriptor = -1;
-    strcpy(made.fresh.name, opening->name);
-    snprintf(made.beside, sizeof made.beside, "%s.new", opening->name);
+    seryugo_begin_shorter(opening, &made);
     code = write_text(opening, &made);
     if (code != SERYUGO_DONE) {
-        return give_up(opening, &made);
-    }
-    if (opening->is_old || opening->kept > TIMES_SHORTER * made.length) {
+        code = give_up(opening, &made);
+    } else if (opening->is_old || opening->kept > SERYUGO_TIMES_SHORTER * made.length) {
         code = try_exchange(opening, &made);
     }
-    seryugo_bytes_free(made.text);
-    made.fresh.folder = -1;
-    seryugo_free_opening(&made.fresh);
+    seryugo_free_shorter(&made);
     return code;
 }

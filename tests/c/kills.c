@@ -1,7 +1,6 @@
 /* Four threads on a switchboard whose journal is in a file. Each prints what returned, as soon as it returned: `sent V` or
- * `got V`. A script kills the program, and looks for all of that in the file: kills FILE RUN COUNT [bytes] [writes] [short]
- * [SEGMENT]. Values of a run begin with RUN, and each thread sends COUNT of them. With `short` it exchanges a long file for a
- * short one. It says how many entries it begins with. */
+ * `got V`. A script kills the program, and looks for all of that in the file: kills FILE RUN COUNT [bytes] [writes] [SEGMENT].
+ * Values of a run begin with RUN, and each thread sends COUNT of them. It says how many entries it begins with. */
 #include "seryugo_switchboard.h"
 
 #include <errno.h>
@@ -97,7 +96,6 @@ static void take_words(char **words, struct seryugo_file_options *options)
     for (; *words != NULL; words++) {
         is_bytes = is_bytes || strcmp(*words, "bytes") == 0;
         options->flags |= strcmp(*words, "writes") == 0 ? (uint32_t)SERYUGO_FILE_BY_WRITES : 0;
-        options->short_from = strcmp(*words, "short") == 0 ? 1 : options->short_from;
         options->segment = **words >= '0' && **words <= '9' ? strtoull(*words, NULL, 10) : options->segment;
     }
 }
@@ -128,7 +126,6 @@ int main(int many, char **words)
     struct seryugo_file_options options = {.sync_milliseconds = 20};
     struct seryugo_file_found found;
     const char *told;
-    uint64_t count_left = 0;
     uint32_t code;
     int cause = 0;
 
@@ -142,9 +139,7 @@ int main(int many, char **words)
     if (code != SERYUGO_DONE) {
         return fails("open", code, found.words);
     }
-    (void)seryugo_entries(&board.room, &count_left);
-    fprintf(stderr, "opened entries %llu cut %llu %s %llu\n", (unsigned long long)found.entries,
-            (unsigned long long)found.cut_off, found.is_shortened ? "short" : "long", (unsigned long long)count_left);
+    fprintf(stderr, "opened entries %llu cut %llu\n", (unsigned long long)found.entries, (unsigned long long)found.cut_off);
     code = work_all();
     code = code == SERYUGO_DONE ? worst : code;
     if (code != SERYUGO_DONE) {

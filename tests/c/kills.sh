@@ -2,7 +2,6 @@
 # Kills a program of four threads at random moments: `sh tests/c/kills.sh PROGRAM N [SEED]`, where PROGRAM is built of kills.c.
 # After each kill the journal has all that the program printed, each once, and the next run goes on from it. The file grows by one
 # page, by sixteen, or by megabytes; lines are mapped or written; messages are numbers or bytes. Each third run begins a new file.
-# Half of the others exchange a long file for a short one.
 set -e
 program=$1
 many=$2
@@ -20,24 +19,7 @@ random() {
 # text FILE: its text, up to the first byte 0 and the last line end.
 text() { { cat "$1"; printf '\0'; } | tr '\0\n' '\n\0' | head -n 1 | tr '\0\n' '\n\0' | sed '$d'; }
 
-# add_past: adds the lines of this run to those of the runs before. A file that was exchanged begins with what these left.
-add_past() {
-    left=$(sed -n 's/^opened .* short //p' "$work/error")
-    if [ -n "$left" ]; then
-        seen=$((left + 1))
-        shortened=$((shortened + 1))
-    elif ! cmp -s -n "$(wc -c < "$work/before")" "$work/before" "$work/text"; then
-        # It was killed after the exchange, and before a call.
-        [ "$(wc -l < "$work/text")" -lt "$seen" ] || { echo "run $run: the file has lost its beginning"; exit 1; }
-        seen=$(wc -l < "$work/text")
-    fi
-    tail -n "+$((seen + 1))" "$work/text" >> "$work/past"
-    seen=$(wc -l < "$work/text")
-    cp "$work/text" "$work/before"
-}
-
 told=0
-shortened=0
 again=0
 cut=0
 early=0
@@ -48,15 +30,11 @@ while [ "$run" -le "$many" ]; do
         file=$work/$run.journal
         random 2 && kind=$([ "$drawn" -eq 0 ] || echo bytes)
         : > "$work/all"
-        : > "$work/past"
-        : > "$work/before"
-        seen=0
     fi
-    random 2 && brief=$([ "$drawn" -eq 0 ] || echo short)
     random 3 && segment=$([ "$drawn" -eq 0 ] && echo 4096 || { [ "$drawn" -eq 1 ] && echo 65536 || echo 0; })
     random 4 && way=$([ "$drawn" -ne 0 ] || echo writes)
     : > "$work/pid"
-    { "$program" "$file" "$run" 100000000 $kind $way $brief "$segment" 2> "$work/error" & echo $! > "$work/pid"
+    { "$program" "$file" "$run" 100000000 $kind $way "$segment" 2> "$work/error" & echo $! > "$work/pid"
       status=0; wait $! 2> "$work/wait" || status=$?; echo "$status" > "$work/status"; } | cat > "$work/told" &
     reader=$!
     until [ -s "$work/pid" ]; do sleep 0.01; done
@@ -74,9 +52,8 @@ while [ "$run" -le "$many" ]; do
     [ -s "$work/told" ] || early=$((early + 1))
     if [ -f "$file" ]; then
         text "$file" > "$work/text"
-        add_past
-        awk -f "$here/kept.awk" "$work/all" "$work/past" > "$work/verdict" || {
-            echo "run $run ($kind $way $brief $segment):"; cat "$work/verdict"; cp "$file" "$work/all" /tmp; exit 1; }
+        awk -f "$here/kept.awk" "$work/all" "$work/text" > "$work/verdict" || {
+            echo "run $run ($kind $way $segment):"; cat "$work/verdict"; cp "$file" "$work/all" /tmp; exit 1; }
         [ "$segment" -eq 0 ] || grown=$((grown + 1))
         ! grep -q opened "$work/error" || grep -q 'entries 0 ' "$work/error" || again=$((again + 1))
         ! grep -q 'cut [1-9]' "$work/error" || cut=$((cut + 1))
@@ -87,4 +64,4 @@ while [ "$run" -le "$many" ]; do
     run=$((run + 1))
 done
 echo "$many kills: $told calls returned, none is lost or twice; $again openings went on, $cut of these cut half a line,"
-echo "$early kills before a call returned, $grown while the file grew by pages; $shortened files were exchanged"
+echo "$early kills before a call returned, $grown while the file grew by pages"

@@ -1,7 +1,7 @@
 #!/bin/sh
 # A journal in a file, from C: `sh tests/libraries/file.sh PREFIX [KILLS [FAULTS]]`, where PREFIX is a folder that
-# bindings/install.sh has installed into. It runs the programs of tests/c for it, KILLS kills (else 30), and the first FAULTS
-# calls of each kind (else 1) failing. With FAULTS 0 it leaves these out.
+# bindings/install.sh has installed into. It runs the programs of tests/c for it, KILLS kills (else 30) of a long file and as many of
+# one that stays short, and the first FAULTS calls of each kind (else 1) failing. With FAULTS 0 it leaves these out.
 set -e
 cd "$(dirname "$0")/../.."
 prefix=$1
@@ -13,7 +13,8 @@ trap 'rm -rf "$work"' EXIT
 chmod 755 "$work"
 export SERYUGO_TRY="$work"
 
-for program in tests/c/file.c tests/c/file_traps.c tests/c/shortened.c tests/c/kills.c examples/c/durable.c; do
+for program in tests/c/file.c tests/c/file_traps.c tests/c/shortened.c tests/c/kills.c tests/c/exchanges.c tests/c/exchange_faults.c \
+    examples/c/durable.c; do
     "${CC:-cc}" -std=gnu11 -O2 -Wall -Wextra -Werror -I "$prefix/include" "$program" "$prefix/lib/libseryugo.a" -pthread \
         -ldl -o "$work/$(basename "$program" .c)"
 done
@@ -22,7 +23,7 @@ done
 # A fault has the words of `cml check`: those of the crate, in the same order.
 sed -n '/^pub enum What/,/^}/s/.*#\[error("\(.*\)")\]/\1/p' crates/cml_journal/src/fault.rt > "$work/faults"
 sed -n '/^const char \*seryugo_fault_text/,/^}/s/^ *"\(.*\)",$/\1/p' lib/open.c | cmp - "$work/faults"
-mkdir -m 777 "$work/files" "$work/traps" "$work/short"
+mkdir -m 777 "$work/files" "$work/traps" "$work/short" "$work/exchanged"
 "$work/file" "$work/files"
 "$work/file_traps" "$work/traps"
 "$work/shortened" "$work/short"
@@ -30,5 +31,7 @@ mkdir -m 777 "$work/files" "$work/traps" "$work/short"
 letter 3' ]
 sh tests/c/full_disk.sh "$work/kills"
 sh tests/c/kills.sh "$work/kills" "$kills"
+"$work/exchanges" "$work/exchanged" "$kills"
+[ "$faults" -eq 0 ] || "$work/exchange_faults" "$work/exchanged" "$faults"
 [ "$faults" -eq 0 ] || sh tests/c/faults.sh "$work/kills" "$work/faults.so" "$faults"
 [ "$faults" -eq 0 ] || sh tests/c/shortened.sh "$work/shortened" "$work/faults.so" "$work/refuse.so" "$((faults + 2))"

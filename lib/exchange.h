@@ -1,0 +1,103 @@
+/* A file that is exchanged for a short one while callers go on. */
+#ifndef SERYUGO_LIB_EXCHANGE_H
+#define SERYUGO_LIB_EXCHANGE_H
+
+#include "open.h"
+
+/* What is due next, and who does it: the helper, or the next caller under the room's lock. */
+enum seryugo_stage {
+    /* The helper sees whether the file is long. */
+    SERYUGO_STAGE_NONE,
+    /* A caller takes the room's state. */
+    SERYUGO_STAGE_TAKE,
+    SERYUGO_STAGE_TAKING,
+    /* The helper makes the new file. */
+    SERYUGO_STAGE_MAKE,
+    /* A caller copies the last lines. If they are too many, the helper copies first. */
+    SERYUGO_STAGE_JOIN,
+    SERYUGO_STAGE_COPY,
+    /* Callers store each line in both files. The helper syncs and names the new one. */
+    SERYUGO_STAGE_BOTH,
+    SERYUGO_STAGE_NAMING,
+    /* A caller leaves the old file. */
+    SERYUGO_STAGE_NAMED,
+    /* A caller leaves the new file, because the exchange failed. */
+    SERYUGO_STAGE_FAILED,
+    /* The helper frees what one of them had. */
+    SERYUGO_STAGE_CLEAN
+};
+
+struct seryugo_exchange {
+    /* These are under the file's lock. */
+    enum seryugo_stage stage;
+    struct seryugo_file_exchanges told;
+    /* Why a caller gave it up, or null. */
+    const char *why;
+    /* The next belong to whoever does what is due. A file of so many bytes is tried. */
+    uint64_t short_from;
+    uint64_t next_try;
+    /* The room's state, and the position at which it was taken. */
+    struct seryugo journal;
+    uint64_t taken_at;
+    /* The new file's machine keeps the lines up to `begun`. Those up to `copied` are there, and there is room up to `end`. */
+    uint64_t begun;
+    uint64_t copied;
+    _Atomic uint64_t end;
+    struct seryugo_view view;
+    struct seryugo store;
+    /* The file that is synced and grows is the new one. */
+    bool is_over;
+    struct seryugo_opening old;
+    struct seryugo_shorter made;
+};
+
+/* A caller copies no more than this. */
+#define SERYUGO_LAST_MOST ((uint64_t)64 << 10)
+
+#define SERYUGO_NO_ROOM "give the new file room"
+
+/* exchange.c: the helper's part */
+
+/* Prepares for exchanges of a file that is being opened, whose folder it takes. False: there is no memory. */
+SERYUGO_HIDDEN bool seryugo_exchange_new(struct seryugo_file *file, struct seryugo_opening *opening, uint64_t short_from);
+
+/* Does what is due of the helper. */
+SERYUGO_HIDDEN void seryugo_exchange_step(struct seryugo_file *file);
+
+/* One sync is made at a time, and none while a new file gets the name. Both need the lock. */
+SERYUGO_HIDDEN void seryugo_hold_syncs(struct seryugo_file *file);
+SERYUGO_HIDDEN void seryugo_let_syncs(struct seryugo_file *file);
+
+/* Ends an exchange that is under way. The helper calls it at its end: no caller is left. */
+SERYUGO_HIDDEN void seryugo_exchange_stop(struct seryugo_file *file);
+
+/* Closes the copies that a forked child has. */
+SERYUGO_HIDDEN void seryugo_exchange_close_copies(struct seryugo_exchange *exchange);
+
+SERYUGO_HIDDEN void seryugo_exchange_free(struct seryugo_exchange *exchange);
+
+/* joining.c: the callers' part */
+
+/* Has the one who does what is due then do it. Needs the lock. */
+SERYUGO_HIDDEN void seryugo_exchange_set_stage(struct seryugo_file *file, enum seryugo_stage stage);
+
+/* Copies lines of the old file up to a position. Returns 0 or errno. */
+SERYUGO_HIDDEN int seryugo_exchange_copy(struct seryugo_file *file, uint64_t end);
+
+/* Gives the new file room for lines up to a position, by segments. Returns 0 or errno. EFBIG: callers were too fast. */
+SERYUGO_HIDDEN int seryugo_exchange_give_room(struct seryugo_file *file, uint64_t need);
+
+/* Lines are stored in the new file alone, or in the old one alone. Both need the lock. */
+SERYUGO_HIDDEN void seryugo_exchange_leave_old(struct seryugo_file *file);
+SERYUGO_HIDDEN void seryugo_exchange_leave_new(struct seryugo_file *file, const char *why);
+
+/* Does what is due of a caller, who has stored all entries of the room. */
+SERYUGO_HIDDEN void seryugo_exchange_join(struct seryugo_file *file, struct seryugo *room);
+
+/* Stores a caller's lines in the new file too. SERYUGO_FILE_LOST: that failed, and the new file has the name. */
+SERYUGO_HIDDEN uint32_t seryugo_exchange_store(struct seryugo_file *file, const uint8_t *lines, uint64_t length);
+
+/* Gives the new file room up to `need`. If there is none, or if the exchange has ended, lines are stored in one file again. */
+SERYUGO_HIDDEN void seryugo_exchange_make_way(struct seryugo_file *file, uint64_t need);
+
+#endif
