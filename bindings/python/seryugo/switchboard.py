@@ -434,10 +434,10 @@ def open(
     aren't synced yet. A call waits for the disk only where 64 MiB aren't.
 
     It exchanges a file with sums or a line `end` for a short one, which has what `compact`
-    returns. It does so too with a file of `short_from` bytes or more, if that has more than four
-    times the bytes of the short one. With 0 it doesn't. Positions of entries, and counts of what
-    was sent and received, begin anew. If it can't do so, it goes on with the old file, and
-    `recovered` says why.
+    returns. It does so too with a file of `short_from` bytes or more, also while that is open, if
+    it has more than four times the bytes of the short one. With 0 it doesn't. Positions of
+    entries, and counts of what was sent and received, begin anew once it is opened again. If
+    opening can't do so, it goes on with the old file, and `recovered` says why.
 
     These leave the file as it was: `FileBusy`, `NoJournal`, `OtherVersion`, `OtherMessages`,
     `BeginsLater`, and `Fault` or `Unlawful` if the journal was changed. So does `OutOfBounds`. If

@@ -1,10 +1,14 @@
 """Short journals of a switchboard that is in use."""
 
+import os
 import threading
 import unittest
 from unittest import mock
 
+import seryugo
 from seryugo import Call, CallKind, NoMemory, Switchboard, _library, compacted
+
+from .test_opened import InFolder
 
 
 class Sink:
@@ -286,6 +290,26 @@ class Compacting(unittest.TestCase):
         self.assertEqual(got, list(range(2_000)))
         for text, owed in texts:
             self.assertEqual(len(compacted([text])), 1 + owed)
+
+
+class StaysShort(InFolder):
+    def test_while_it_is_open(self):
+        """Each short file is another one. Only a hang would take so many rounds."""
+        board = self.opened(_library.FileOptions(0, 0, 4_096, 3_000))
+        files, file, last = 0, os.stat(self.path).st_ino, 0
+        with board.seat() as seat:
+            letters = seat.mailbox_again(0, int)
+            while files < 3 and last < 1_000_000:
+                last += 1
+                seat.send(letters, last)
+                self.assertTrue(last == 1 or seat.recv(letters) == last - 1)
+                now = os.stat(self.path).st_ino
+                files, file = files + (now != file), now
+        self.assertEqual((files, len(letters)), (3, 1))
+        board.close()
+        with seryugo.open(self.path) as board, board.seat() as seat:
+            self.assertLess(board.recovered.entries, last)
+            self.assertEqual(seat.recv(seat.mailbox_again(0, int)), last)
 
 
 if __name__ == "__main__":

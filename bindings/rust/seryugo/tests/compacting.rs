@@ -2,10 +2,14 @@
 
 mod common;
 
-use common::{let_them_wait, without_a_hang, Board, Channel, MVar, Mailbox, Port};
-use seryugo::{Checker, Error, Journal, MessageKind, Numbers, Object, Sum, Switchboard, WhenFull};
+use common::{let_them_wait, without_a_hang, Board, Channel, MVar, Mailbox, Port, Scratch};
+use seryugo::{
+    Checker, Error, Journal, JournalFile, MessageKind, Numbers, Object, Sum, Switchboard, WhenFull,
+};
 use std::future::Future;
+use std::fs;
 use std::io::{self, ErrorKind};
+use std::os::unix::fs::MetadataExt;
 use std::panic::{catch_unwind, AssertUnwindSafe};
 use std::pin::pin;
 use std::sync::atomic::{AtomicBool, AtomicU64, Ordering};
@@ -428,4 +432,33 @@ fn round(board: &Board, seats: &mut [common::Seat<'_>], objects: Objects, text: 
         }
     });
     seats[0].close(fed).unwrap();
+}
+
+/// Each short file is another one. Only a hang would take so many rounds.
+#[test]
+fn a_file_stays_short_while_it_is_open() {
+    let scratch = Scratch::new("stays_short");
+    let options = JournalFile::new().sync_by_hand().short_from(3_000).grow_by(4_096);
+    let board = options.open_numbers(scratch.path()).unwrap();
+    let mut seat = board.seat().unwrap();
+    let numbers = seat.mailbox_again(0).unwrap();
+    let inode = || fs::metadata(scratch.path()).unwrap().ino();
+    let (mut files, mut file, mut last) = (0, inode(), 0);
+    while files < 5 && last < 10_000_000 {
+        last += 1;
+        seat.send(numbers, last).unwrap();
+        assert!(last == 1 || seat.recv(numbers) == Ok(last - 1));
+        let now = inode();
+        files += u32::from(now != file);
+        file = now;
+    }
+    assert_eq!((files, board.owed(numbers)), (5, Ok(1)));
+    drop(seat);
+    board.close().unwrap();
+    let board = Switchboard::open_numbers(scratch.path()).unwrap();
+    assert!(board.recovered().unwrap().entries < last);
+    let mut seat = board.seat().unwrap();
+    let numbers = seat.mailbox_again(0).unwrap();
+    assert_eq!(seat.recv(numbers), Ok(last));
+    assert_eq!(board.owed(numbers), Ok(0));
 }

@@ -20,7 +20,7 @@ A line `/shutdown` on standard input ends it. The end of standard input doesn't.
   --member-limit N      how many names may have a place in a room (10000)
   --owed-limit N        how many messages a member may be behind before it loses its place (10000)
   --history-limit N     how many of a room's last messages the server keeps (1000)
-  --compact-from BYTES  how long the file is at the least before a start makes it short (1000000)
+  --compact-from BYTES  how long the file is at the least before it is made short (1000000)
   --help                prints this
 
 Exit statuses: 0 after /shutdown or --help; 1 a call of the library failed; 2 wrong words; 3 it can't listen;

@@ -19,7 +19,7 @@ pub fn open(path: &Path, compact_from: u64) -> Result<(Switchboard, Left), Failu
     Ok((board, left))
 }
 
-/// A start makes the file short if it has at least `compact_from` bytes, and four times those of its short form.
+/// The file is made short if it has at least `compact_from` bytes, and four times those of its short form.
 fn options(compact_from: u64) -> JournalFile {
     JournalFile::new().short_from(compact_from)
 }

@@ -105,24 +105,22 @@ impl JournalFile {
         self
     }
 
-    /// Has opening exchange a file of this many bytes or more for a short one, if it has more than four
-    /// times the bytes of that. So a program that is started again and again keeps a short file.
-    /// [`Switchboard::open`] says what the short one has. 0 is never.
+    /// Has a file of this many bytes or more be exchanged for a short one, if it has more than four times
+    /// the bytes of that: as it is opened, and while it is open. Meanwhile one call waits until the
+    /// switchboard's state is taken, and the others go on. [`Switchboard::open`] says what the short one
+    /// has. 0 is never.
     ///
     /// ```
     /// # fn main() -> Result<(), seryugo::Error> {
     /// # let path = std::env::temp_dir().join(format!("seryugo-doc-{}.short", std::process::id()));
-    /// let options = seryugo::JournalFile::new().short_from(1_000);
-    /// for _ in 0..9 {
-    ///     let board = options.open(&path)?;
-    ///     let mut seat = board.seat()?;
-    ///     let letters = seat.mailbox_again::<String>(0)?;
-    ///     for _ in 0..9 {
-    ///         seat.send(letters, "Dear Ben")?;
-    ///         seat.recv(letters)?;
-    ///     }
+    /// let options = seryugo::JournalFile::new().short_from(1_000).grow_by(4_096);
+    /// let board = options.open(&path)?;
+    /// let mut seat = board.seat()?;
+    /// let letters = seat.mailbox_again::<String>(0)?;
+    /// for _ in 0..999 {
+    ///     seat.send(letters, "Dear Ben")?;
+    ///     seat.recv(letters)?;
     /// }
-    /// assert!(std::fs::metadata(&path).unwrap().len() < 2_000);
     /// # std::fs::remove_file(&path).unwrap();
     /// # Ok(())
     /// # }
@@ -308,8 +306,8 @@ impl Switchboard {
     ///   [`Feed`](crate::Feed) counts as received once it is pumped.
     ///
     /// This exchanges a file with sums or a line `end` for a short one, which has what
-    /// [`compact`](Switchboard::compact) returns. It does so too with a long file, if you ask for that
-    /// by [`JournalFile::short_from`]. Objects keep their numbers. Positions of entries, and counts of
+    /// [`compact`](Switchboard::compact) returns. A long file too, also while it is open, if you ask for
+    /// that by [`JournalFile::short_from`]. Objects keep their numbers. Positions of entries, and counts of
     /// what was sent and received, begin anew. A kill leaves the old file or the new one whole. If it
     /// can't exchange the file, it goes on with the old one, and [`Recovered`] says why.
     ///
