@@ -1,4 +1,4 @@
-/* What exchanges.c and exchange_faults.c share: four threads on a switchboard whose file stays short, what their calls returned, and a
+/* What exchanges.c, exchange_faults.c and exchange_syncs.c share: four threads on a switchboard whose file stays short, what their calls returned, and a
  * look at what is left of them. */
 #ifndef EXCHANGED_H
 #define EXCHANGED_H
@@ -97,6 +97,7 @@ static void *work(void *given)
 
 static void open_board(const char *path)
 {
+    is_over = false;
     RETURNS(DONE, seryugo_switchboard_open_file(path, messages, &options, &found, &board));
     for (size_t at = 0; at < THREADS; at++) {
         RETURNS(DONE, seryugo_seat_open(&board, &seats[at]));
@@ -106,18 +107,17 @@ static void open_board(const char *path)
     }
 }
 
-/* Has four threads work on the board until so many short files have taken its file's place, so many tries have failed, or calls
- * are refused. Returns how many have failed. */
+/* Has four threads work on the board until so many short files have taken its file's place, so many tries have failed, calls are
+ * refused, or it is over. Returns how many have failed. */
 static uint64_t work_on_it(uint64_t done, uint64_t failed)
 {
     struct seryugo_file_exchanges ended = {.done = 0};
     pthread_t threads[THREADS];
 
-    is_over = false;
     for (size_t at = 0; at < THREADS; at++) {
         HAS(pthread_create(&threads[at], NULL, work, &seats[at]) == 0);
     }
-    while (ended.done < done && ended.failed < failed && !told->is_bad && !told->is_refused) {
+    while (ended.done < done && ended.failed < failed && !told->is_bad && !told->is_refused && !is_over) {
         usleep(500);
         seryugo_file_exchanges(board.file, &ended);
     }
@@ -134,7 +134,7 @@ static uint64_t work_on_it(uint64_t done, uint64_t failed)
 
 /* In a mailbox wait the values from one on up to another one. All before were received once, and not all of these calls returned.
  * Returns how many didn't. */
-static uint64_t count_unsaid(struct seryugo_seat *seat, uint64_t mailbox)
+static inline uint64_t count_unsaid(struct seryugo_seat *seat, uint64_t mailbox)
 {
     uint64_t value = 0, first = 0, next = 0, unsaid = 0;
     bool is_first = true;
@@ -159,7 +159,7 @@ static uint64_t count_unsaid(struct seryugo_seat *seat, uint64_t mailbox)
 }
 
 /* Opens the file after a child's end, and looks at all that is left. What was received now is said to be. */
-static void look_at_it(const char *path)
+static inline void look_at_it(const char *path)
 {
     uint64_t unsaid = 0;
 
@@ -176,7 +176,7 @@ static void look_at_it(const char *path)
 }
 
 /* Nothing is left beside the file. */
-static void has_one_file(const char *name)
+static inline void has_one_file(const char *name)
 {
     DIR *folder = opendir(".");
     struct dirent *entry;

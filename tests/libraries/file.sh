@@ -14,7 +14,7 @@ chmod 755 "$work"
 export SERYUGO_TRY="$work"
 
 for program in tests/c/file.c tests/c/file_traps.c tests/c/shortened.c tests/c/kills.c tests/c/exchanges.c tests/c/exchange_faults.c \
-    examples/c/durable.c; do
+    tests/c/exchange_syncs.c examples/c/durable.c; do
     "${CC:-cc}" -std=gnu11 -O2 -Wall -Wextra -Werror -I "$prefix/include" "$program" "$prefix/lib/libseryugo.a" -pthread \
         -ldl -o "$work/$(basename "$program" .c)"
 done
@@ -32,6 +32,7 @@ letter 3' ]
 sh tests/c/full_disk.sh "$work/kills"
 sh tests/c/kills.sh "$work/kills" "$kills"
 "$work/exchanges" "$work/exchanged" "$kills"
+"$work/exchange_syncs" "$work/exchanged"
 [ "$faults" -eq 0 ] || "$work/exchange_faults" "$work/exchanged" "$faults"
 [ "$faults" -eq 0 ] || sh tests/c/faults.sh "$work/kills" "$work/faults.so" "$faults"
 [ "$faults" -eq 0 ] || sh tests/c/shortened.sh "$work/shortened" "$work/faults.so" "$work/refuse.so" "$((faults + 2))"

@@ -6,8 +6,8 @@ use common::{let_them_wait, without_a_hang, Board, Channel, MVar, Mailbox, Port,
 use seryugo::{
     Checker, Error, Journal, JournalFile, MessageKind, Numbers, Object, Sum, Switchboard, WhenFull,
 };
-use std::future::Future;
 use std::fs;
+use std::future::Future;
 use std::io::{self, ErrorKind};
 use std::os::unix::fs::MetadataExt;
 use std::panic::{catch_unwind, AssertUnwindSafe};
