@@ -1,4 +1,4 @@
-"""A start of the chat server makes its file short, and no client sees it.
+"""The chat server makes its file short, as it starts and while clients talk, and no client sees it.
 
 `test_chat_server.py` runs this too.
 """
@@ -74,7 +74,8 @@ class Compaction(ServerCases):
         self.crash()
         self.becomes_short("many messages", *options)
         self.crash()
-        self.starts_short("many messages", 600, 30000, *options)
+        # It may have four times what its short form has.
+        self.starts_short("many messages", 2400, 120000, *options)
         self.comes_back()
         self.crash()
         self.begin(*options)

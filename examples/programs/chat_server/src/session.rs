@@ -169,12 +169,14 @@ impl<'s, 'a> Session<'s, 'a> {
     }
 
     /// Sends what the client hasn't seen. The server can't know whether the last message that it received for this member reached
-    /// the client. So it sends that one again, if the client doesn't say what it has seen. What the file lacks isn't sent.
+    /// the client. So it sends that one again, if the client doesn't say what it has seen. What the file lacks isn't sent. In a short
+    /// file a place starts after what it had received, which may be more than the client has seen.
     fn come_back(&mut self, name: &Name, place: Place, seen: Option<u64>) -> Result<(), Trouble> {
         let board = self.server.board;
         let last = place.room.last();
         let received = place.received(board)?;
-        let seen = seen.unwrap_or(received.saturating_sub(1)).max(place.start(board)?).min(last);
+        let unsaid = received.saturating_sub(1).max(place.start(board)?);
+        let seen = seen.unwrap_or(unsaid).min(last);
         self.server.keeper.keep_all();
         let past = place.room.history.between(seen + 1, received);
         let seen = past.first().map_or(seen.max(received), |first| first.number - 1);
