@@ -1,4 +1,4 @@
-/* Calls of the system fail, or the program is killed before or after them, while a file is exchanged for a short one under four threads:
+/* Calls of the system fail, or the program is killed before or after them, while four threads use a file that stays short:
  * `exchange_faults FOLDER [MOST]`. The K-th call of each kind is met, for K up to MOST (else 2), alone or with all later ones.
  * What returned is in the file then, each once. A try that failed leaves nothing beside, and a later one goes well. */
 #include "exchanged.h"
@@ -9,8 +9,8 @@
 
 enum kind { FAILS, FAILS_ALL, KILLS_BEFORE, KILLS_AFTER, KINDS };
 
-static const char *const calls[] = {"openat", "flock", "fchmod", "fsetxattr", "ftruncate", "pwrite", "pread", "posix_fallocate", "mmap",
-                                    "fsync", "fdatasync", "renameat", "unlinkat"};
+static const char *const calls[] = {"openat", "flock", "fchmod", "fsetxattr", "ftruncate", "pwrite", "pread", "posix_fallocate",
+                                    "mmap", "fsync", "fdatasync", "renameat", "unlinkat"};
 
 /* Which call is met. None before the threads begin. */
 static const char *met_call = "";
@@ -64,16 +64,18 @@ CALL(int, fchmod, -1, (int, mode_t), (int descriptor, mode_t mode), descriptor, 
 CALL(int, fsetxattr, -1, (int, const char *, const void *, size_t, int),
      (int descriptor, const char *name, const void *value, size_t size, int flags), descriptor, name, value, size, flags)
 CALL(int, ftruncate, -1, (int, off_t), (int descriptor, off_t length), descriptor, length)
-CALL(ssize_t, pwrite, -1, (int, const void *, size_t, off_t), (int descriptor, const void *from, size_t size, off_t at), descriptor,
-     from, size, at)
-CALL(ssize_t, pread, -1, (int, void *, size_t, off_t), (int descriptor, void *to, size_t size, off_t at), descriptor, to, size, at)
+CALL(ssize_t, pwrite, -1, (int, const void *, size_t, off_t), (int descriptor, const void *from, size_t size, off_t at),
+     descriptor, from, size, at)
+CALL(ssize_t, pread, -1, (int, void *, size_t, off_t), (int descriptor, void *to, size_t size, off_t at), descriptor, to, size,
+     at)
 CALL(int, posix_fallocate, EIO, (int, off_t, off_t), (int descriptor, off_t from, off_t length), descriptor, from, length)
 CALL(void *, mmap, MAP_FAILED, (void *, size_t, int, int, int, off_t),
-     (void *place, size_t length, int protection, int flags, int descriptor, off_t at), place, length, protection, flags, descriptor, at)
+     (void *place, size_t length, int protection, int flags, int descriptor, off_t at), place, length, protection, flags,
+     descriptor, at)
 CALL(int, fsync, -1, (int), (int descriptor), descriptor)
 CALL(int, fdatasync, -1, (int), (int descriptor), descriptor)
-CALL(int, renameat, -1, (int, const char *, int, const char *), (int folder, const char *old, int other, const char *name), folder, old,
-     other, name)
+CALL(int, renameat, -1, (int, const char *, int, const char *), (int folder, const char *old, int other, const char *name),
+     folder, old, other, name)
 CALL(int, unlinkat, -1, (int, const char *, int), (int folder, const char *name, int flags), folder, name, flags)
 
 /* ---- one fault ---- */
@@ -102,7 +104,8 @@ static bool meet(const char *call, enum kind kind, uint64_t at)
     }
     HAS(waitpid(child, &status, 0) == child);
     is_met = told->is_met;
-    has(WIFEXITED(status) ? WEXITSTATUS(status) == 0 : WTERMSIG(status) == SIGKILL && is_met && kind >= KILLS_BEFORE, call, __LINE__);
+    has(WIFEXITED(status) ? WEXITSTATUS(status) == 0 : WTERMSIG(status) == SIGKILL && is_met && kind >= KILLS_BEFORE, call,
+        __LINE__);
     if (WIFEXITED(status) && strcmp(call, "unlinkat") != 0) {
         has_one_file("met");
     }

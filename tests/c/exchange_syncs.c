@@ -1,6 +1,6 @@
-/* What is said to be synced survives a loss of power, also in the midst of an exchange: `exchange_syncs FOLDER [SYNCS]`. The program has
- * a disk that it knows: of each file what it had as the last sync began that ended well, and where the name may lead. Each value that
- * was sent before a sync is on that disk after it, in whichever file the name leads to. */
+/* What is said to be synced survives a loss of power, also in the midst of an exchange: `exchange_syncs FOLDER [SYNCS]`. The
+ * program has a disk that it knows: of each file what it had as the last sync began that ended well, and where the name may
+ * lead. Each value that was sent before a sync is on that disk after it, in whichever file the name leads to. */
 #include "exchanged.h"
 
 #include <dlfcn.h>
@@ -90,7 +90,8 @@ int fdatasync(int descriptor) { return sync_file(descriptor, "fdatasync"); }
 /* From here on the name may lead to either file. */
 int renameat(int folder, const char *old, int other, const char *name)
 {
-    int (*real)(int, const char *, int, const char *) = (int (*)(int, const char *, int, const char *))dlsym(RTLD_NEXT, "renameat");
+    typedef int renamer(int, const char *, int, const char *);
+    renamer *real = (renamer *)dlsym(RTLD_NEXT, "renameat");
     struct stat state;
     int result;
 

@@ -1,5 +1,5 @@
-/* What exchanges.c, exchange_faults.c and exchange_syncs.c share: four threads on a switchboard whose file stays short, what their calls returned, and a
- * look at what is left of them. */
+/* What exchanges.c, exchange_faults.c and exchange_syncs.c share: four threads on a switchboard whose file stays short, what
+ * their calls returned, and a look at what is left of them. */
 #ifndef EXCHANGED_H
 #define EXCHANGED_H
 

@@ -1,5 +1,6 @@
-/* A journal's file that stays short while four threads use it. `exchanges FOLDER [KILLS]` has the folder for itself. A child is killed
- * so many times (else 30), a third of the times while it makes a short file. Each time the file opens and has what returned. */
+/* A journal's file that stays short while four threads use it. `exchanges FOLDER [KILLS]` has the folder for itself. A child
+ * is killed so many times (else 30), a third of the times while it makes a short file. Each time the file opens and has what
+ * returned. */
 #include "exchanged.h"
 
 #define CHILDREN 20
@@ -25,6 +26,41 @@ static void stay_short(uint64_t way)
     unlink("link");
     unlink("elsewhere/target");
     rmdir("elsewhere");
+}
+
+/* ---- what keeps it long ---- */
+
+/* The exchange fails with these words, and callers go on. */
+static void stays_long(const char *words, int line)
+{
+    is(work_on_it(UINT64_MAX, 2), 2, line);
+    has(strstr(found.words, words) != NULL, words, line);
+    RETURNS(DONE, seryugo_switchboard_close(&board));
+}
+
+static void leave_what_is_in_the_way(void)
+{
+    choose(0);
+    open_board("long");
+    put("long.new", "precious", 8);
+    stays_long("in the way", __LINE__);
+    HAS(get("long.new") == 8);
+    unlink("long.new");
+    open_board("long");
+    HAS(link("long", "second") == 0);
+    stays_long("two names", __LINE__);
+    unlink("second");
+    HAS(!is_there("long.new"));
+    look_at_it("long");
+    /* Others have given the name to another file. */
+    open_board("long");
+    HAS(rename("long", "moved") == 0);
+    put("long", "precious", 8);
+    stays_long("others have exchanged the file", __LINE__);
+    HAS(get("long") == 8 && !is_there("long.new"));
+    look_at_it("moved");
+    unlink("moved");
+    unlink("long");
 }
 
 /* ---- forks ---- */
@@ -134,6 +170,7 @@ int main(int many, char **words)
     for (uint64_t way = 0; way < 8; way++) {
         stay_short(way);
     }
+    leave_what_is_in_the_way();
     fork_meanwhile();
     kill_many(kills);
     return 0;
