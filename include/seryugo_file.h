@@ -94,6 +94,17 @@ struct seryugo_file_found {
  * - If it can't exchange the file, opening removes the new one, and says why in *found. It goes on with the old one, after a line
  *   `end` by a new piece. It fails with SERYUGO_FILE_FAILED if others have exchanged the file, or if it can't sync the folder.
  *
+ * With `short_from` the file stays short while it is open, too. It is tried once it has so many bytes, and more than four times
+ * what it had after the last exchange. A caller of seryugo_file_note takes the room's state, as seryugo_compact does, and the
+ * others wait for that alone. The library's thread makes the new file beside, as above.
+ *
+ * - Each line is stored in both files, until the new one has the name on the disk. So after a kill the name leads to a file that
+ *   has each call that returned. What is synced is on the disk in each file to which the name may lead.
+ * - A `.new` that a kill leaves has a mark, by which the next exchange takes it. The mark is an extended attribute of the user's:
+ *   on a file system without them the file gets long.
+ * - If an exchange fails, the old file goes on until it has twice the bytes, and seryugo_file_exchanges says why. But if the
+ *   folder or the new file can't be synced once that has the name, calls fail with SERYUGO_FILE_LOST.
+ *
  * These refusals leave the file as it was. SERYUGO_FILE_BUSY, SERYUGO_NO_JOURNAL, SERYUGO_OTHER_VERSION,
  * SERYUGO_OTHER_MESSAGES and SERYUGO_BEGINS_LATER: as they say. SERYUGO_FAULT, SERYUGO_UNLAWFUL: the journal was changed.
  * SERYUGO_OUT_OF_BOUNDS: the limit isn't from 1 to 2^32, or there are no such messages.
@@ -112,8 +123,8 @@ uint32_t seryugo_file_open(const char *path, uint32_t messages, uint64_t limit, 
 uint32_t seryugo_file_reserve(struct seryugo_file *file, struct seryugo *room, uint64_t bytes);
 
 /* Stores the lines of all entries since the last note, before the lock is released. Those of a call for which
- * seryugo_file_reserve made room always fit. Writes how many bytes the file has then, unless `position` is null. The entries
- * leave the room.
+ * seryugo_file_reserve made room always fit. Writes a position, unless `position` is null: how many bytes were stored so far,
+ * also those that an exchange dropped. The entries leave the room.
  *
  * SERYUGO_FILE_FULL: some entries aren't stored yet (many calls were made before this one). They stay in the room, and the
  * next seryugo_file_reserve or seryugo_file_note stores them. SERYUGO_FILE_LOST or SERYUGO_FORKED: they aren't stored. */

@@ -1,5 +1,6 @@
-/* A journal's file, part 7: while callers go on, it is exchanged for a short one, which the helper makes beside. Until the new file
- * has the name, nothing of the old one is changed. Lines are in both files from before that until callers leave the old one. */
+/* A journal's file, part 7: while callers go on, it is exchanged for a short one, which the helper makes beside. Until the new
+ * file has the name, nothing of the old one is changed. Lines are in both files from before that until callers leave the old
+ * one. */
 #ifndef _GNU_SOURCE
 #define _GNU_SOURCE
 #endif
@@ -138,7 +139,6 @@ static bool make_room(struct seryugo_file *file)
 {
     struct seryugo_exchange *exchange = file->exchange;
     struct seryugo_view *view = &exchange->view;
-    uint64_t ahead = file->margin + file->segment;
     int error;
 
     exchange->begun = exchange->copied;
@@ -154,8 +154,9 @@ static bool make_room(struct seryugo_file *file)
     if (file->is_mapped && !seryugo_map_view(view, SERYUGO_UNSYNCED_MOST + 2 * SERYUGO_PAGE)) {
         return fails(exchange, "mmap", errno);
     }
+    /* What is zeroed in memory is written by the next sync, so that is little. */
     if (view->base != NULL) {
-        (void)madvise(view->base, ahead, MADV_POPULATE_WRITE);
+        (void)madvise(view->base, file->segment / 4, MADV_POPULATE_WRITE);
     }
     return true;
 }

@@ -168,8 +168,8 @@ static uint32_t move_bound(struct seryugo_file *file, uint64_t need)
     return seryugo_file_state(file) == SERYUGO_DONE ? code : seryugo_file_state(file);
 }
 
-/* Sees to room for a call's lines, in memory, on the disk, and among what is unsynced. If an exchange ends meanwhile, what was found
- * out may be true of the other file. */
+/* Sees to room for a call's lines, in memory, on the disk, and among what is unsynced. If an exchange ends meanwhile, the
+ * bound may be that of the other file. */
 static uint32_t make_room(struct seryugo_file *file)
 {
     uint64_t need = file->stored + file->margin;

@@ -1,7 +1,8 @@
-/* What the parts of the journal's file share: file.c stores lines, disk.c grows and syncs, open.c opens, exchange.c makes short.
+/* What the parts of the journal's file share: file.c stores lines, disk.c grows and syncs, open.c opens, exchange.c shortens.
  *
- * Places are positions: a position counts all bytes that were stored while the file is open, and only grows. An exchange makes the
- * file shorter, so a place in the file is a position less a shift. Only the machine and calls of the system take places in the file. */
+ * Places are positions. A position counts all bytes that were stored while the file is open, and only grows. An exchange makes
+ * the file shorter, so a place in the file is a position less a shift. Only the machine and the system are given places in the
+ * file. */
 #ifndef SERYUGO_LIB_FILE_H
 #define SERYUGO_LIB_FILE_H
 
@@ -124,8 +125,8 @@ struct seryugo_file {
     /* An exchange waits for a caller. */
     _Atomic bool is_wanted;
 
-    /* The next are under `lock`. Whoever grows the file has `growing`, and whoever syncs it `is_syncing`: both files don't change places
-     * then. */
+    /* The next are under `lock`. A thread that grows the file has `growing`, and one that syncs it `is_syncing`. An exchange
+     * takes both before it gives the file a new descriptor. */
     pthread_mutex_t lock;
     pthread_mutex_t growing;
     pthread_cond_t work;
