@@ -261,14 +261,16 @@ static bool sync_first(struct seryugo_exchange *exchange)
 static void go_over(struct seryugo_file *file)
 {
     struct seryugo_exchange *exchange = file->exchange;
-    struct seryugo store = file->store;
-    int descriptor = file->descriptor;
+    struct seryugo store;
+    int descriptor;
 
     seryugo_hold_forks();
     pthread_mutex_lock(&file->growing);
     pthread_mutex_lock(&file->lock);
     /* A caller who reads what is grown sees that it is wanted. */
     seryugo_exchange_set_stage(file, SERYUGO_STAGE_NAMED);
+    descriptor = file->descriptor;
+    store = file->store;
     file->descriptor = exchange->made.fresh.descriptor;
     exchange->made.fresh.descriptor = descriptor;
     file->store = exchange->store;
@@ -330,7 +332,7 @@ static void look(struct seryugo_file *file)
 {
     struct seryugo_exchange *exchange = file->exchange;
 
-    if (atomic_load(&file->told) - file->shift >= exchange->next_try && !atomic_load(&file->is_lost)) {
+    if (atomic_load(&file->told) - file->shift >= exchange->next_try) {
         seryugo_begin_shorter(&exchange->old, &exchange->made);
         memset(&exchange->view, 0, sizeof exchange->view);
         exchange->why = NULL;
@@ -385,7 +387,8 @@ void seryugo_exchange_step(struct seryugo_file *file)
 {
     enum seryugo_stage stage = SERYUGO_STAGE_TAKING;
 
-    if (file->exchange != NULL) {
+    /* A lost file is never exchanged: nobody knows what it has. */
+    if (file->exchange != NULL && !atomic_load(&file->is_lost)) {
         pthread_mutex_lock(&file->lock);
         stage = file->exchange->stage;
         pthread_mutex_unlock(&file->lock);

@@ -49,9 +49,11 @@ int seryugo_exchange_copy(struct seryugo_file *file, uint64_t end)
         size_t length = 0, part = rest < SERYUGO_CHUNK ? (size_t)rest : SERYUGO_CHUNK;
 
         error = seryugo_read_at(file->descriptor, exchange->old.chunk, part, exchange->copied - file->shift, &length);
-        if (error == 0) {
-            error = length == part ? put_beside(file, exchange->copied, exchange->old.chunk, length) : EIO;
+        /* A file that was cut by others has a 0 there, or nothing. */
+        if (error == 0 && (length != part || memchr(exchange->old.chunk, 0, part) != NULL)) {
+            error = EIO;
         }
+        error = error == 0 ? put_beside(file, exchange->copied, exchange->old.chunk, length) : error;
         exchange->copied += error == 0 ? length : 0;
     }
     return error;
