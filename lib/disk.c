@@ -447,24 +447,23 @@ static void *help(void *given)
         sleep_until_asked(file, &due);
         unmap_old_views(file);
         is_due = is_sync_due(file);
+        seryugo_exchange_look(file);
         is_time = file->period != 0 && has_passed(&due);
         pthread_mutex_unlock(&file->lock);
         grow_ahead(file);
         if (is_time || is_due) {
             sync_once(file);
         }
-        seryugo_exchange_step(file);
         due = is_time ? after(file->period) : due;
         pthread_mutex_lock(&file->lock);
     }
     unmap_old_views(file);
     pthread_mutex_unlock(&file->lock);
-    seryugo_exchange_stop(file);
     return NULL;
 }
 
-/* Signals are the program's, so the helper takes none but those that its own faults raise. */
-int seryugo_file_start_helper(struct seryugo_file *file)
+/* Signals are the program's, so the library's threads take none but those that their own faults raise. */
+int seryugo_start_thread(pthread_t *thread, void *(*run)(void *), void *given)
 {
     sigset_t blocked, before;
     int error;
@@ -473,10 +472,12 @@ int seryugo_file_start_helper(struct seryugo_file *file)
     sigdelset(&blocked, SIGBUS);
     sigdelset(&blocked, SIGSEGV);
     pthread_sigmask(SIG_SETMASK, &blocked, &before);
-    error = pthread_create(&file->helper, NULL, help, file);
+    error = pthread_create(thread, NULL, run, given);
     pthread_sigmask(SIG_SETMASK, &before, NULL);
     return error;
 }
+
+int seryugo_file_start_helper(struct seryugo_file *file) { return seryugo_start_thread(&file->helper, help, file); }
 
 void seryugo_file_stop_helper(struct seryugo_file *file)
 {
@@ -485,4 +486,5 @@ void seryugo_file_stop_helper(struct seryugo_file *file)
     pthread_cond_signal(&file->work);
     pthread_mutex_unlock(&file->lock);
     pthread_join(file->helper, NULL);
+    seryugo_exchange_stop(file);
 }

@@ -1,4 +1,4 @@
-/* A journal's file, part 7: while callers go on, it is exchanged for a short one, which the helper makes beside. Until the new
+/* A journal's file, part 7: while callers go on, it is exchanged for a short one, which a thread makes beside. Until the new
  * file has the name, nothing of the old one is changed. Lines are in both files from before that until callers leave the old
  * one. */
 #ifndef _GNU_SOURCE
@@ -18,28 +18,13 @@
 #endif
 
 
-bool seryugo_exchange_new(struct seryugo_file *file, struct seryugo_opening *opening, uint64_t short_from)
+/* Begins with nothing. */
+static void begin(struct seryugo_exchange *exchange)
 {
-    struct seryugo_exchange *exchange = (struct seryugo_exchange *)calloc(1, sizeof *exchange);
-
-    if (exchange == NULL) {
-        return false;
-    }
-    exchange->short_from = exchange->next_try = short_from;
-    if (opening->found->is_shortened) {
-        exchange->next_try = SERYUGO_TIMES_SHORTER * opening->kept;
-    } else if (opening->kept >= short_from) {
-        /* The opening has tried. */
-        exchange->next_try = 2 * opening->kept;
-    }
-    exchange->old.messages = opening->messages;
-    exchange->old.limit = opening->limit;
-    exchange->old.folder = opening->folder;
-    strcpy(exchange->old.name, opening->name);
-    exchange->made.fresh.descriptor = -1;
-    opening->folder = -1;
-    file->exchange = exchange;
-    return true;
+    seryugo_begin_shorter(&exchange->old, &exchange->made);
+    memset(&exchange->view, 0, sizeof exchange->view);
+    exchange->why = NULL;
+    exchange->is_over = false;
 }
 
 void seryugo_exchange_close_copies(struct seryugo_exchange *exchange)
@@ -325,19 +310,15 @@ static void name_held(struct seryugo_file *file)
     pthread_mutex_unlock(&file->lock);
 }
 
-/* ---- the helper's part ---- */
+/* ---- the thread ---- */
 
-/* Begins with nothing, once the file is long. */
-static void look(struct seryugo_file *file)
+void seryugo_exchange_look(struct seryugo_file *file)
 {
     struct seryugo_exchange *exchange = file->exchange;
 
-    if (atomic_load(&file->told) - file->shift >= exchange->next_try) {
-        seryugo_begin_shorter(&exchange->old, &exchange->made);
-        memset(&exchange->view, 0, sizeof exchange->view);
-        exchange->why = NULL;
-        exchange->is_over = false;
-        (void)go_on(file, SERYUGO_STAGE_NONE, SERYUGO_STAGE_TAKE);
+    if (exchange != NULL && exchange->stage == SERYUGO_STAGE_NONE
+        && atomic_load(&file->told) - file->shift >= exchange->next_try) {
+        seryugo_exchange_set_stage(file, SERYUGO_STAGE_TAKE);
     }
 }
 
@@ -372,46 +353,82 @@ static void clean(struct seryugo_file *file)
     uint64_t length = atomic_load(&file->told) - file->shift, next = (exchange->is_over ? SERYUGO_TIMES_SHORTER : 2) * length;
 
     free_other(exchange);
-    exchange->next_try = next < exchange->short_from ? exchange->short_from : next;
     pthread_mutex_lock(&file->lock);
     if (!exchange->is_over && words[0] != 0) {
         told->failed++;
         told->error = exchange->made.found.error;
         snprintf(told->words, sizeof told->words, "%s", words);
     }
+    exchange->next_try = next < exchange->short_from ? exchange->short_from : next;
+    begin(exchange);
     seryugo_exchange_set_stage(file, SERYUGO_STAGE_NONE);
     pthread_mutex_unlock(&file->lock);
 }
 
-void seryugo_exchange_step(struct seryugo_file *file)
+/* Does what is due. Returns false if that is another's. */
+static bool step(struct seryugo_file *file, enum seryugo_stage stage)
 {
-    enum seryugo_stage stage = SERYUGO_STAGE_TAKING;
-
-    /* A lost file is never exchanged: nobody knows what it has. */
-    if (file->exchange != NULL && !atomic_load(&file->is_lost)) {
-        pthread_mutex_lock(&file->lock);
-        stage = file->exchange->stage;
-        pthread_mutex_unlock(&file->lock);
-    }
     switch (stage) {
-    case SERYUGO_STAGE_NONE:
-        look(file);
-        break;
     case SERYUGO_STAGE_MAKE:
         (void)go_on(file, stage, make(file) ? SERYUGO_STAGE_JOIN : SERYUGO_STAGE_CLEAN);
-        break;
+        return true;
     case SERYUGO_STAGE_COPY:
         (void)go_on(file, stage, catch_up(file) ? SERYUGO_STAGE_JOIN : SERYUGO_STAGE_CLEAN);
-        break;
+        return true;
     case SERYUGO_STAGE_BOTH:
         name_held(file);
-        break;
+        return true;
     case SERYUGO_STAGE_CLEAN:
         clean(file);
-        break;
+        return true;
     default:
-        break;
+        return false;
     }
+}
+
+/* A lost file is never exchanged: nobody knows what it has. */
+static void *run(void *given)
+{
+    struct seryugo_file *file = (struct seryugo_file *)given;
+
+    pthread_mutex_lock(&file->lock);
+    while (!file->stops) {
+        enum seryugo_stage stage = file->exchange->stage;
+        bool is_done;
+
+        pthread_mutex_unlock(&file->lock);
+        is_done = !atomic_load(&file->is_lost) && step(file, stage);
+        pthread_mutex_lock(&file->lock);
+        if (!is_done && stage == file->exchange->stage && !file->stops) {
+            pthread_cond_wait(&file->exchange->due, &file->lock);
+        }
+    }
+    pthread_mutex_unlock(&file->lock);
+    return NULL;
+}
+
+bool seryugo_exchange_new(struct seryugo_file *file, struct seryugo_opening *opening, uint64_t short_from)
+{
+    struct seryugo_exchange *exchange = (struct seryugo_exchange *)calloc(1, sizeof *exchange);
+
+    if (exchange == NULL) {
+        return false;
+    }
+    exchange->short_from = exchange->next_try = short_from;
+    if (opening->found->is_shortened) {
+        exchange->next_try = SERYUGO_TIMES_SHORTER * opening->kept;
+    } else if (opening->kept >= short_from) {
+        /* The opening has tried. */
+        exchange->next_try = 2 * opening->kept;
+    }
+    exchange->old.messages = opening->messages;
+    exchange->old.limit = opening->limit;
+    exchange->old.folder = opening->folder;
+    strcpy(exchange->old.name, opening->name);
+    begin(exchange);
+    opening->folder = -1;
+    file->exchange = exchange;
+    return pthread_cond_init(&exchange->due, NULL) == 0 && seryugo_start_thread(&exchange->thread, run, file) == 0;
 }
 
 void seryugo_exchange_stop(struct seryugo_file *file)
@@ -421,6 +438,11 @@ void seryugo_exchange_stop(struct seryugo_file *file)
     if (exchange == NULL) {
         return;
     }
+    pthread_mutex_lock(&file->lock);
+    file->stops = true;
+    pthread_cond_signal(&exchange->due);
+    pthread_mutex_unlock(&file->lock);
+    pthread_join(exchange->thread, NULL);
     pthread_mutex_lock(&file->lock);
     if (exchange->stage == SERYUGO_STAGE_NAMED) {
         seryugo_exchange_leave_old(file);

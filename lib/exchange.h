@@ -4,26 +4,26 @@
 
 #include "open.h"
 
-/* What is due next, and who does it: the helper, or the next caller under the room's lock. */
+/* What is due next, and who does it: the exchange's thread, or the next caller under the room's lock. */
 enum seryugo_stage {
-    /* The helper sees whether the file is long. */
+    /* The helper sees whether the file is long. The thread does the rest. */
     SERYUGO_STAGE_NONE,
     /* A caller takes the room's state. */
     SERYUGO_STAGE_TAKE,
     SERYUGO_STAGE_TAKING,
-    /* The helper makes the new file. */
+    /* The thread makes the new file. */
     SERYUGO_STAGE_MAKE,
-    /* A caller copies the last lines. If they are too many, the helper copies first. */
+    /* A caller copies the last lines. If they are too many, the thread copies first. */
     SERYUGO_STAGE_JOIN,
     SERYUGO_STAGE_COPY,
-    /* Callers store each line in both files. The helper syncs and names the new one. */
+    /* Callers store each line in both files. The thread syncs and names the new one. */
     SERYUGO_STAGE_BOTH,
     SERYUGO_STAGE_NAMING,
     /* A caller leaves the old file. */
     SERYUGO_STAGE_NAMED,
     /* A caller leaves the new file, because the exchange failed. */
     SERYUGO_STAGE_FAILED,
-    /* The helper frees what one of them had. */
+    /* The thread frees what one of them had. */
     SERYUGO_STAGE_CLEAN
 };
 
@@ -33,9 +33,12 @@ struct seryugo_exchange {
     struct seryugo_file_exchanges told;
     /* Why a caller gave it up, or null. */
     const char *why;
-    /* The next belong to whoever does what is due. A file of so many bytes is tried. */
-    uint64_t short_from;
+    /* A file of so many bytes is tried. */
     uint64_t next_try;
+    uint64_t short_from;
+    pthread_cond_t due;
+    pthread_t thread;
+    /* The next belong to the one who does what is due. */
     /* The room's state, and the position at which it was taken. */
     struct seryugo journal;
     uint64_t taken_at;
@@ -56,19 +59,19 @@ struct seryugo_exchange {
 
 #define SERYUGO_NO_ROOM "give the new file room"
 
-/* exchange.c: the helper's part */
+/* exchange.c: the thread's part */
 
-/* Prepares for exchanges of a file that is being opened, whose folder it takes. False: there is no memory. */
+/* Starts the thread for exchanges of a file that is being opened, whose folder it takes. False: there is no memory for it. */
 SERYUGO_HIDDEN bool seryugo_exchange_new(struct seryugo_file *file, struct seryugo_opening *opening, uint64_t short_from);
 
-/* Does what is due of the helper. */
-SERYUGO_HIDDEN void seryugo_exchange_step(struct seryugo_file *file);
+/* Begins an exchange, once the file is long. Needs the lock. */
+SERYUGO_HIDDEN void seryugo_exchange_look(struct seryugo_file *file);
 
 /* One sync is made at a time, and none while a new file gets the name. Both need the lock. */
 SERYUGO_HIDDEN void seryugo_hold_syncs(struct seryugo_file *file);
 SERYUGO_HIDDEN void seryugo_let_syncs(struct seryugo_file *file);
 
-/* Ends an exchange that is under way. The helper calls it at its end: no caller is left. */
+/* Ends the thread, and an exchange that is under way. No caller is left, and no helper. */
 SERYUGO_HIDDEN void seryugo_exchange_stop(struct seryugo_file *file);
 
 /* Closes the copies that a forked child has. */

@@ -192,6 +192,7 @@ SERYUGO_HIDDEN uint32_t seryugo_file_move_view(struct seryugo_file *file);
 /* Once all is synced: cuts off the zeros behind the text. Returns 0 or errno. */
 SERYUGO_HIDDEN int seryugo_file_cut_zeros(struct seryugo_file *file);
 
+SERYUGO_HIDDEN int seryugo_start_thread(pthread_t *thread, void *(*run)(void *), void *given);
 SERYUGO_HIDDEN int seryugo_file_start_helper(struct seryugo_file *file);
 SERYUGO_HIDDEN void seryugo_file_stop_helper(struct seryugo_file *file);
 

@@ -17,10 +17,7 @@ void seryugo_exchange_set_stage(struct seryugo_file *file, enum seryugo_stage st
 
     file->exchange->stage = stage;
     atomic_store(&file->is_wanted, is_wanted);
-    if (!is_wanted) {
-        file->is_asked = true;
-        pthread_cond_signal(&file->work);
-    }
+    pthread_cond_signal(&file->exchange->due);
     pthread_cond_broadcast(&file->done);
 }
 

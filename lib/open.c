@@ -325,6 +325,7 @@ static uint32_t start(struct seryugo_opening *opening, const struct seryugo_file
         return seryugo_refuse(opening, SERYUGO_NO_MEMORY, "no memory", 0);
     }
     if (seryugo_file_start_helper(made) != 0) {
+        seryugo_exchange_stop(made);
         seryugo_file_free(made);
         return seryugo_refuse(opening, SERYUGO_NO_MEMORY, "no thread can be started", EAGAIN);
     }
