@@ -7,7 +7,7 @@
  *
  * - After a kill, a panic or an abort: each call that returned before. This costs a store into memory for each call.
  * - After a loss of power: what was synced, and a beginning of the rest. A thread syncs each second. seryugo_file_sync waits
- *   until all before it is on the disk.
+ *   until all before it is on the disk. With SERYUGO_KEEP_DISK each call waits so: each call that returned is there.
  *
  * The text in the file ends before its first byte 0, at its last line end. docs/FORMATS.md, "Journals", has the lines. The
  * file is mapped on ext4 and xfs. Elsewhere, as on NFS, lines are written by pwrite(2), and there a full disk may show only
@@ -41,6 +41,14 @@ enum seryugo_file_flag {
     SERYUGO_FILE_BY_WRITES = 1
 };
 
+/* What a call waits for, before it returns. */
+enum seryugo_file_keep {
+    /* Its entry is stored: it survives the end of the process. */
+    SERYUGO_KEEP_PROCESS = 0,
+    /* Its entry is on the disk, and each entry that its answer rests on: they survive a loss of power. */
+    SERYUGO_KEEP_DISK = 1
+};
+
 /* How a file is kept. Pass null for: each second. */
 struct seryugo_file_options {
     /* Milliseconds from one sync to the next. With 0 the file is synced only by seryugo_file_sync, by seryugo_file_close, and
@@ -53,6 +61,8 @@ struct seryugo_file_options {
     /* A file of so many bytes is exchanged for a short one, if that is much shorter: as it is opened, and while it is open. 0 is
      * never. */
     uint64_t short_from;
+    /* Of seryugo_file_keep. */
+    uint32_t keep;
 };
 
 /* What opening found, before it exchanged the file. If it failed, the cause. */
@@ -107,7 +117,7 @@ struct seryugo_file_found {
  *
  * These refusals leave the file as it was. SERYUGO_FILE_BUSY, SERYUGO_NO_JOURNAL, SERYUGO_OTHER_VERSION,
  * SERYUGO_OTHER_MESSAGES and SERYUGO_BEGINS_LATER: as they say. SERYUGO_FAULT, SERYUGO_UNLAWFUL: the journal was changed.
- * SERYUGO_OUT_OF_BOUNDS: the limit isn't from 1 to 2^32, or there are no such messages.
+ * SERYUGO_OUT_OF_BOUNDS: the limit isn't from 1 to 2^32, or there are no such messages or no such level.
  *
  * SERYUGO_FILE_FAILED or SERYUGO_NO_MEMORY: what the file had is still there, but its end may be cut off, and the file may be
  * new or exchanged.
@@ -136,6 +146,32 @@ uint32_t seryugo_file_state(const struct seryugo_file *file);
 
 /* Waits until all that was stored before is on the disk. SERYUGO_FILE_LOST: a sync has failed, so nobody knows what is there. */
 uint32_t seryugo_file_sync(struct seryugo_file *file);
+
+/* Returns what a call waits for that was noted, or that read the room: the position up to which the file has lines now. If you
+ * ask once the room's lock is free, calls of other threads may be before it. With SERYUGO_KEEP_PROCESS it is 0: such a call waits
+ * for nothing. */
+uint64_t seryugo_file_position(const struct seryugo_file *file);
+
+/* Waits until the file is on the disk up to a position, without the room's lock. If no other thread makes a sync, the caller
+ * does. Else it waits for the next one, which counts for all threads that wait. It can't be cancelled.
+ *
+ * SERYUGO_FILE_LOST: a sync has failed. SERYUGO_OUT_OF_BOUNDS: no line is there yet. SERYUGO_FORKED. */
+uint32_t seryugo_file_wait(struct seryugo_file *file, uint64_t position);
+
+/* Who is told that the file is on the disk up to a position, instead of a thread that waits. The memory is the caller's, and
+ * stays where it is until `wake` is called. */
+struct seryugo_file_waiter {
+    uint64_t position;
+    void (*wake)(struct seryugo_file_waiter *waiter);
+    /* The file's own. */
+    struct seryugo_file_waiter *following;
+};
+
+/* Has `wake` called once, by a thread of the file's: after a sync, or once the file is lost. It is called before the file is
+ * closed. Ask seryugo_file_wait then which it was. `wake` must not wait for the room's lock.
+ *
+ * SERYUGO_PARKED: it will be called. With each other code it won't be, and that is what seryugo_file_wait returns at once. */
+uint32_t seryugo_file_when(struct seryugo_file *file, struct seryugo_file_waiter *waiter);
 
 /* Syncs the file, cuts off the zeros behind its text, and closes it. It returns as seryugo_file_sync, and the handle is closed
  * in any case. Since nobody can ask the handle then, errno is the cause, or 0. In a child of a fork it only frees what the child

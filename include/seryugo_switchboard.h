@@ -45,7 +45,10 @@
  * - With SERYUGO_STALLED, if each other seat waits or has left: nobody could answer it. A seat that was opened and doesn't wait may
  *   still send. So open the seats of all threads before the first one waits. If threads come later, keep a seat open meanwhile.
  *
- * pthread_cancel ends a thread that waits in a call: the call did nothing, and its seat is free. Let the seat leave in a cleanup function
+ * With SERYUGO_KEEP_DISK each of these comes once the disk has what it rests on. A deadline bounds the wait for a message alone.
+ *
+ * pthread_cancel ends a thread that waits in a call: the call did nothing, and its seat is free. A thread that waits for the disk isn't
+ * cancelled: its call returns. Let the seat leave in a cleanup function
  * of the thread (pthread_cleanup_push). While a sink runs, its thread isn't cancelled. Between seryugo_switchboard_lock and
  * seryugo_switchboard_unlock, disable cancellation yourself.
  *
@@ -150,7 +153,10 @@ static inline uint32_t seryugo_bytes_switchboard_open(uint64_t limit, struct ser
  *
  * Each call may fail with SERYUGO_FILE_FULL, and then wasn't made. It may fail with SERYUGO_FILE_LOST, which wakes all who
  * wait: nobody knows whether it is in the file. A message of more than SERYUGO_FILE_MESSAGE_MOST bytes is SERYUGO_TOO_LONG. A
- * lane's message is kept once the lane is drained. */
+ * lane's message is kept once the lane is drained.
+ *
+ * With SERYUGO_KEEP_DISK in `options` a call returns once its entry is on the disk. Then lock and unlock the switchboard before you
+ * use a message of a feed: seryugo_switchboard_unlock waits for the entry by which the feed has it. */
 static inline uint32_t seryugo_switchboard_open_file(const char *path, uint32_t messages,
                                                      const struct seryugo_file_options *options, struct seryugo_file_found *found,
                                                      struct seryugo_switchboard *board)
@@ -258,9 +264,30 @@ static inline uint32_t seryugo_note(struct seryugo_switchboard *board)
     return code;
 }
 
-/* Wakes all threads whose calls may go on now, and unlocks the switchboard. With a file it returns whether the entries of your
- * calls are kept, as seryugo_file_note does. */
-static inline uint32_t seryugo_switchboard_unlock(struct seryugo_switchboard *board)
+/* Returns what the calls under this lock rest on. They wait for that position once the switchboard is unlocked. 0: for nothing. */
+static inline uint64_t seryugo_rests_on(const struct seryugo_switchboard *board)
+{
+    return board->file == NULL ? 0 : seryugo_file_position(board->file);
+}
+
+/* Waits until that is on the disk, without the lock. Calls of other threads go on meanwhile. */
+static inline uint32_t seryugo_settle(struct seryugo_switchboard *board, uint64_t position)
+{
+    uint32_t code = position == 0 ? (uint32_t)SERYUGO_DONE : seryugo_file_wait(board->file, position);
+    int state = 0;
+
+    if (code == SERYUGO_FILE_LOST) {
+        pthread_setcancelstate(PTHREAD_CANCEL_DISABLE, &state);
+        pthread_mutex_lock(&board->lock);
+        seryugo_lose(board);
+        pthread_mutex_unlock(&board->lock);
+        pthread_setcancelstate(state, &state);
+    }
+    return code;
+}
+
+/* Keeps the entries, wakes all threads whose calls may go on now, and unlocks the switchboard. */
+static inline uint32_t seryugo_unlock_unsettled(struct seryugo_switchboard *board)
 {
     uint32_t code = seryugo_note(board);
 
@@ -270,11 +297,24 @@ static inline uint32_t seryugo_switchboard_unlock(struct seryugo_switchboard *bo
     return code;
 }
 
-/* Does so after one call of a seat: it wakes one thread, and that thread's call wakes the next. */
-static inline void seryugo_let_go(struct seryugo_switchboard *board)
+/* Wakes all threads whose calls may go on now, and unlocks the switchboard. With a file it returns whether the entries of your
+ * calls are kept, as seryugo_file_note does. With SERYUGO_KEEP_DISK it waits for the disk: use what your calls have read only once
+ * it has returned SERYUGO_DONE. */
+static inline uint32_t seryugo_switchboard_unlock(struct seryugo_switchboard *board)
 {
+    uint32_t code = seryugo_unlock_unsettled(board);
+
+    return code == SERYUGO_DONE ? seryugo_settle(board, seryugo_rests_on(board)) : code;
+}
+
+/* Does so after one call of a seat: it wakes one thread, and that thread's call wakes the next. Returns what the call rests on. */
+static inline uint64_t seryugo_let_go(struct seryugo_switchboard *board)
+{
+    uint64_t position = seryugo_rests_on(board);
+
     (void)seryugo_wakes_next(board);
     pthread_mutex_unlock(&board->lock);
+    return position;
 }
 
 /* Hands the entries since the last cut to the sink, at the end or before a pause. It fails as seryugo_keep does. It fails with
@@ -291,7 +331,7 @@ static inline uint32_t seryugo_switchboard_keep(struct seryugo_switchboard *boar
     pthread_setcancelstate(PTHREAD_CANCEL_DISABLE, &state);
     seryugo_switchboard_lock(board);
     code = seryugo_keep(&board->keeper, &board->room);
-    seryugo_switchboard_unlock(board);
+    (void)seryugo_unlock_unsettled(board);
     pthread_setcancelstate(state, &state);
     return code;
 }
@@ -356,7 +396,7 @@ static inline uint32_t seryugo_seat_open(struct seryugo_switchboard *board, stru
         seat->board = board;
         board->seats[seat->number - board->first] = seat;
     }
-    seryugo_switchboard_unlock(board);
+    (void)seryugo_unlock_unsettled(board);
     if (code != SERYUGO_DONE) {
         pthread_cond_destroy(&seat->due);
     }
@@ -371,7 +411,7 @@ static inline void seryugo_seat_leave(struct seryugo_seat *seat)
     seryugo_switchboard_lock(board);
     (void)seryugo_leave(&board->room, seat->number);
     board->seats[seat->number - board->first] = NULL;
-    seryugo_switchboard_unlock(board);
+    (void)seryugo_unlock_unsettled(board);
     pthread_cond_destroy(&seat->due);
 }
 
@@ -426,7 +466,7 @@ static inline void seryugo_take_back(void *given)
     struct seryugo_seat *seat = (struct seryugo_seat *)given;
 
     (void)seryugo_withdraw(&seat->board->room, seat->number);
-    seryugo_let_go(seat->board);
+    (void)seryugo_let_go(seat->board);
 }
 
 /* Sleeps until the seat's thread is signalled. Returns false at the deadline. */
@@ -507,6 +547,19 @@ static inline bool seryugo_is_kept(struct seryugo_turn *turn)
     return false;
 }
 
+/* Unlocks the switchboard after a call, and waits until its answer is on the disk. If that fails, so does the call. */
+static inline void seryugo_finish(struct seryugo_turn *turn)
+{
+    struct seryugo_switchboard *board = turn->seat->board;
+    uint64_t position = seryugo_let_go(board);
+    uint32_t code = seryugo_settle(board, position);
+
+    if (code != SERYUGO_DONE) {
+        turn->is_unkept = turn->is_unkept || turn->code == SERYUGO_DONE;
+        turn->code = code;
+    }
+}
+
 /* Returns true if the call has to be made again: the journal was full and has room now, or the call had to wait. Else it unlocks the
  * switchboard. */
 static inline bool seryugo_finish_or_repeat(struct seryugo_turn *turn)
@@ -519,7 +572,7 @@ static inline bool seryugo_finish_or_repeat(struct seryugo_turn *turn)
         return false;
     }
     if (board->file != NULL && !seryugo_is_kept(turn)) {
-        seryugo_let_go(board);
+        (void)seryugo_let_go(board);
         return false;
     }
     if (seryugo_cut_if_full(turn)) {
@@ -538,7 +591,7 @@ static inline bool seryugo_finish_or_repeat(struct seryugo_turn *turn)
     if (turn->code == SERYUGO_NO_MEMORY && was_again) {
         (void)seryugo_withdraw(&board->room, turn->seat->number);
     }
-    seryugo_let_go(board);
+    seryugo_finish(turn);
     return false;
 }
 

@@ -1,11 +1,10 @@
-/* A journal's file, part 2: it grows ahead and is synced, in a thread of its own. */
+/* A journal's file, part 2: it grows ahead, and its helper's thread sees to that and to syncs. */
 #ifndef _GNU_SOURCE
 #define _GNU_SOURCE
 #endif
 #include "exchange.h"
 
 #include <errno.h>
-#include <signal.h>
 #include <stdio.h>
 #include <string.h>
 #include <sys/mman.h>
@@ -82,39 +81,30 @@ static void tell(struct seryugo_file *file, const char *words, int error)
     }
 }
 
-/* Needs the lock. */
-static void lose(struct seryugo_file *file, const char *words, int error)
+void seryugo_file_lose_locked(struct seryugo_file *file, const char *words, int error)
 {
     if (!atomic_load(&file->is_lost)) {
         tell(file, words, error);
         atomic_store(&file->is_lost, true);
     }
     pthread_cond_broadcast(&file->done);
+    seryugo_file_ask_locked(file);
 }
 
 void seryugo_file_lose(struct seryugo_file *file, const char *words, int error)
 {
     pthread_mutex_lock(&file->lock);
-    lose(file, words, error);
+    seryugo_file_lose_locked(file, words, error);
     pthread_mutex_unlock(&file->lock);
 }
 
-/* Whether the file still has all that it was given. A store behind its end would be a SIGBUS, and lines would be lost. */
-static bool is_whole(const struct seryugo_file *file)
+/* A store behind its end would be a SIGBUS, and lines would be lost. */
+bool seryugo_file_is_whole(const struct seryugo_file *file)
 {
     uint64_t least = atomic_load(file->is_mapped ? &file->grown : &file->told);
     struct stat now;
 
     return fstat(file->descriptor, &now) == 0 && (uint64_t)now.st_size >= least - file->shift;
-}
-
-/* Whether what was synced still has its last line end. A file that was cut and has grown since has a 0 there. */
-static bool has_line_end(const struct seryugo_file *file, uint64_t synced)
-{
-    char last = 0;
-    size_t length = 0;
-
-    return seryugo_read_at(file->descriptor, &last, 1, synced - file->shift - 1, &length) == 0 && length == 1 && last == '\n';
 }
 
 /* ---- the machine ---- */
@@ -136,7 +126,7 @@ static void catch_up(struct seryugo_file *file)
     struct seryugo_step step = {SERYUGO_STEP_NOTHING, 0, 0};
 
     if (told > accepted && seryugo_store_accept(&file->store, told - accepted) != SERYUGO_DONE) {
-        lose(file, "more is stored than may be unsynced", 0);
+        seryugo_file_lose_locked(file, "more is stored than may be unsynced", 0);
         return;
     }
     (void)seryugo_store_begin(&file->store, SERYUGO_WORK_BYTES, 0, &step);
@@ -145,8 +135,7 @@ static void catch_up(struct seryugo_file *file)
     }
 }
 
-/* Begins a step, if the file isn't lost. Needs the lock. */
-static struct seryugo_step begin_step(struct seryugo_file *file, uint32_t work, uint64_t to)
+struct seryugo_step seryugo_file_begin(struct seryugo_file *file, uint32_t work, uint64_t to)
 {
     struct seryugo_step step = {SERYUGO_STEP_NOTHING, 0, 0};
 
@@ -182,7 +171,7 @@ static int give_room(struct seryugo_file *file, uint64_t from, uint64_t to)
 {
     int error;
 
-    if (!is_whole(file)) {
+    if (!seryugo_file_is_whole(file)) {
         seryugo_file_lose(file, "the file was cut by others", 0);
         return EIO;
     }
@@ -203,6 +192,8 @@ static void end_growing(struct seryugo_file *file, int error)
             tell(file, "posix_fallocate", error);
         }
     }
+    /* What was stored meanwhile may be synced now. */
+    pthread_cond_broadcast(&file->done);
     pthread_mutex_unlock(&file->lock);
 }
 
@@ -212,7 +203,7 @@ static int grow_to(struct seryugo_file *file, uint64_t from, uint64_t to)
     int error;
 
     pthread_mutex_lock(&file->lock);
-    step = begin_step(file, SERYUGO_WORK_ROOM, to - file->shift);
+    step = seryugo_file_begin(file, SERYUGO_WORK_ROOM, to - file->shift);
     pthread_mutex_unlock(&file->lock);
     if (step.kind != SERYUGO_STEP_GROW) {
         return EIO;
@@ -247,7 +238,7 @@ int seryugo_file_cut_zeros(struct seryugo_file *file)
     int error = 0;
 
     pthread_mutex_lock(&file->lock);
-    step = begin_step(file, SERYUGO_WORK_CLOSING, 0);
+    step = seryugo_file_begin(file, SERYUGO_WORK_CLOSING, 0);
     if (step.kind == SERYUGO_STEP_CUT) {
         error = ftruncate(file->descriptor, (off_t)step.to) == 0 && fsync(file->descriptor) == 0 ? 0 : errno;
         (void)seryugo_store_end(&file->store, false, error == 0);
@@ -319,69 +310,25 @@ uint32_t seryugo_file_move_view(struct seryugo_file *file)
         file->old[file->old_count++] = file->view;
     }
     file->view = view;
-    file->is_asked = true;
-    pthread_cond_signal(&file->work);
+    seryugo_file_ask_locked(file);
     pthread_mutex_unlock(&file->lock);
     return SERYUGO_DONE;
 }
 
-/* ---- syncing ---- */
+/* ---- the helper ---- */
 
-/* A sync that fails is never made again: the system may have forgotten what it couldn't write. An interrupted one counts as
- * failed. Needs the lock, and gives it back meanwhile. */
-static void make_sync(struct seryugo_file *file)
+void seryugo_file_ask_locked(struct seryugo_file *file)
 {
-    uint64_t synced = seryugo_mark_of(&file->store, SERYUGO_MARK_SYNCED) + file->shift;
-    int error;
-
-    pthread_mutex_unlock(&file->lock);
-    error = fdatasync(file->descriptor) == 0 ? 0 : errno;
-    pthread_mutex_lock(&file->lock);
-    if (error != 0) {
-        lose(file, "fdatasync", error);
-    } else if (!is_whole(file) || !has_line_end(file, synced)) {
-        lose(file, "the file was cut by others", 0);
-    }
-    (void)seryugo_store_end(&file->store, true, !atomic_load(&file->is_lost));
-    atomic_store(&file->synced, seryugo_mark_of(&file->store, SERYUGO_MARK_SYNCED) + file->shift);
-}
-
-static void sync_once(struct seryugo_file *file)
-{
-    pthread_mutex_lock(&file->lock);
-    seryugo_hold_syncs(file);
-    if (begin_step(file, SERYUGO_WORK_SYNC, 0).kind == SERYUGO_STEP_SYNC) {
-        make_sync(file);
-    }
-    seryugo_let_syncs(file);
-    pthread_mutex_unlock(&file->lock);
+    file->is_asked = true;
+    pthread_cond_signal(&file->work);
 }
 
 void seryugo_file_ask(struct seryugo_file *file)
 {
     pthread_mutex_lock(&file->lock);
-    file->is_asked = true;
-    pthread_cond_signal(&file->work);
+    seryugo_file_ask_locked(file);
     pthread_mutex_unlock(&file->lock);
 }
-
-uint32_t seryugo_file_wait(struct seryugo_file *file, uint64_t position)
-{
-    uint32_t code;
-
-    pthread_mutex_lock(&file->lock);
-    while (atomic_load(&file->synced) < position && !atomic_load(&file->is_lost)) {
-        file->wanted_sync = position > file->wanted_sync ? position : file->wanted_sync;
-        file->is_asked = true;
-        pthread_cond_signal(&file->work);
-        pthread_cond_wait(&file->done, &file->lock);
-    }
-    code = atomic_load(&file->is_lost) ? SERYUGO_FILE_LOST : SERYUGO_DONE;
-    pthread_mutex_unlock(&file->lock);
-    return code;
-}
-
-/* ---- the helper ---- */
 
 static struct timespec after(uint64_t milliseconds)
 {
@@ -428,11 +375,12 @@ static void grow_ahead(struct seryugo_file *file)
     }
 }
 
+/* Those who were on the list and are on the disk were told before. Needs the lock. */
 static bool is_sync_due(struct seryugo_file *file)
 {
     uint64_t told = atomic_load(&file->told), synced = atomic_load(&file->synced);
 
-    return told - synced >= SERYUGO_UNSYNCED_EARLY || file->wanted_sync > synced;
+    return told - synced >= SERYUGO_UNSYNCED_EARLY || file->waiters != NULL;
 }
 
 static void *help(void *given)
@@ -446,18 +394,20 @@ static void *help(void *given)
 
         sleep_until_asked(file, &due);
         unmap_old_views(file);
+        seryugo_file_tell_settled(file);
         is_due = is_sync_due(file);
         seryugo_exchange_look(file);
         is_time = file->period != 0 && has_passed(&due);
         pthread_mutex_unlock(&file->lock);
         grow_ahead(file);
         if (is_time || is_due) {
-            sync_once(file);
+            (void)seryugo_file_sync(file);
         }
         due = is_time ? after(file->period) : due;
         pthread_mutex_lock(&file->lock);
     }
     unmap_old_views(file);
+    seryugo_file_tell_settled(file);
     pthread_mutex_unlock(&file->lock);
     return NULL;
 }
@@ -465,13 +415,10 @@ static void *help(void *given)
 /* Signals are the program's, so the library's threads take none but those that their own faults raise. */
 int seryugo_start_thread(pthread_t *thread, void *(*run)(void *), void *given)
 {
-    sigset_t blocked, before;
+    sigset_t before;
     int error;
 
-    sigfillset(&blocked);
-    sigdelset(&blocked, SIGBUS);
-    sigdelset(&blocked, SIGSEGV);
-    pthread_sigmask(SIG_SETMASK, &blocked, &before);
+    seryugo_block_signals(&before);
     error = pthread_create(thread, NULL, run, given);
     pthread_sigmask(SIG_SETMASK, &before, NULL);
     return error;

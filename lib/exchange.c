@@ -1,4 +1,4 @@
-/* A journal's file, part 7: while callers go on, it is exchanged for a short one, which a thread makes beside. Until the new
+/* A journal's file, part 8: while callers go on, it is exchanged for a short one, which a thread makes beside. Until the new
  * file has the name, nothing of the old one is changed. Lines are in both files from before that until callers leave the old
  * one. */
 #ifndef _GNU_SOURCE
@@ -194,20 +194,6 @@ static bool make(struct seryugo_file *file)
 }
 
 /* ---- its name ---- */
-
-void seryugo_hold_syncs(struct seryugo_file *file)
-{
-    while (file->is_syncing) {
-        pthread_cond_wait(&file->done, &file->lock);
-    }
-    file->is_syncing = true;
-}
-
-void seryugo_let_syncs(struct seryugo_file *file)
-{
-    file->is_syncing = false;
-    pthread_cond_broadcast(&file->done);
-}
 
 /* Syncs the new file up to what was told, as its machine says. It is open, so its name is on the disk. */
 static int sync_beside(struct seryugo_file *file)

@@ -67,10 +67,6 @@ SERYUGO_HIDDEN bool seryugo_exchange_new(struct seryugo_file *file, struct seryu
 /* Begins an exchange, once the file is long. Needs the lock. */
 SERYUGO_HIDDEN void seryugo_exchange_look(struct seryugo_file *file);
 
-/* One sync is made at a time, and none while a new file gets the name. Both need the lock. */
-SERYUGO_HIDDEN void seryugo_hold_syncs(struct seryugo_file *file);
-SERYUGO_HIDDEN void seryugo_let_syncs(struct seryugo_file *file);
-
 /* Ends the thread, and an exchange that is under way. No caller is left, and no helper. */
 SERYUGO_HIDDEN void seryugo_exchange_stop(struct seryugo_file *file);
 

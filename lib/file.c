@@ -160,7 +160,7 @@ static uint32_t move_bound(struct seryugo_file *file, uint64_t need)
         code = SERYUGO_FILE_FULL;
     }
     if (code == SERYUGO_DONE && need > atomic_load(&file->synced) + SERYUGO_UNSYNCED_MOST) {
-        code = seryugo_file_wait(file, file->stored);
+        code = seryugo_file_sync(file);
     }
     file->bound = least(atomic_load(&file->grown), atomic_load(&file->synced) + SERYUGO_UNSYNCED_MOST);
     file->bound = file->is_mapped ? least(file->bound, file->view.end) : file->bound;
@@ -306,20 +306,7 @@ uint32_t seryugo_file_note(struct seryugo_file *file, struct seryugo *room, uint
         seryugo_file_ask(file);
     }
     if (position != NULL) {
-        *position = file->stored;
-    }
-    return code;
-}
-
-uint32_t seryugo_file_sync(struct seryugo_file *file)
-{
-    int state = 0;
-    uint32_t code = *file->alive == 0 ? SERYUGO_FORKED : SERYUGO_DONE;
-
-    if (code == SERYUGO_DONE) {
-        pthread_setcancelstate(PTHREAD_CANCEL_DISABLE, &state);
-        code = seryugo_file_wait(file, atomic_load(&file->told));
-        pthread_setcancelstate(state, &state);
+        *position = atomic_load(&file->told);
     }
     return code;
 }
@@ -327,7 +314,7 @@ uint32_t seryugo_file_sync(struct seryugo_file *file)
 /* Syncs, and cuts off the zeros behind the text: they say nothing. A file that is lost stays as it is. */
 static uint32_t finish(struct seryugo_file *file)
 {
-    uint32_t code = seryugo_file_wait(file, atomic_load(&file->told));
+    uint32_t code = seryugo_file_sync(file);
     int error;
 
     seryugo_file_stop_helper(file);

@@ -1,4 +1,5 @@
-/* What the parts of the journal's file share: file.c stores lines, disk.c grows and syncs, open.c opens, exchange.c shortens.
+/* What the parts of the journal's file share: file.c stores lines, disk.c grows and maps the file and has the helper's
+ * thread, sync.c syncs and waits for that, open.c opens, exchange.c shortens.
  *
  * Places are positions. A position counts all bytes that were stored while the file is open, and only grows. An exchange makes
  * the file shorter, so a place in the file is a position less a shift. Only the machine and the system are given places in the
@@ -9,6 +10,7 @@
 #include "seryugo_file.h"
 
 #include <pthread.h>
+#include <signal.h>
 #include <stdatomic.h>
 
 /* ---- the rule ---- */
@@ -117,7 +119,7 @@ struct seryugo_file {
     /* Lines are stored in the new file of an exchange, too. */
     bool is_double;
 
-    /* What all threads read. */
+    /* What all threads read. Positions are counts of bytes that only grow: `told` was stored, and `synced` is on the disk. */
     _Atomic uint64_t told;
     _Atomic uint64_t synced;
     _Atomic uint64_t grown;
@@ -134,7 +136,7 @@ struct seryugo_file {
     struct seryugo store;
     struct seryugo_view old[SERYUGO_OLD_VIEWS];
     size_t old_count;
-    uint64_t wanted_sync;
+    struct seryugo_file_waiter *waiters;
     uint64_t ahead;
     bool is_asked;
     bool is_syncing;
@@ -152,6 +154,8 @@ struct seryugo_file {
     uint64_t segment;
     uint64_t view_size;
     uint64_t period;
+    /* Of seryugo_file_keep. */
+    uint32_t keep;
     pthread_t helper;
 };
 
@@ -171,17 +175,18 @@ SERYUGO_HIDDEN int seryugo_allocate(int descriptor, uint64_t from, uint64_t to);
 
 SERYUGO_HIDDEN uint64_t seryugo_mark_of(struct seryugo *store, uint32_t mark);
 
-/* Marks the file as lost for good, with the first cause. */
+/* Marks the file as lost for good, with the first cause. The second needs the lock. */
 SERYUGO_HIDDEN void seryugo_file_lose(struct seryugo_file *file, const char *words, int error);
+SERYUGO_HIDDEN void seryugo_file_lose_locked(struct seryugo_file *file, const char *words, int error);
+
+/* Whether the file still has all that it was given. */
+SERYUGO_HIDDEN bool seryugo_file_is_whole(const struct seryugo_file *file);
+
+/* Begins a step, if the file isn't lost. Needs the lock. */
+SERYUGO_HIDDEN struct seryugo_step seryugo_file_begin(struct seryugo_file *file, uint32_t work, uint64_t to);
 
 /* Gives the file room up to `need` bytes at least. Returns 0 or errno. */
 SERYUGO_HIDDEN int seryugo_file_grow(struct seryugo_file *file, uint64_t need);
-
-/* Waits until so many bytes are on the disk. */
-SERYUGO_HIDDEN uint32_t seryugo_file_wait(struct seryugo_file *file, uint64_t position);
-
-/* Tells the helper that there may be work. */
-SERYUGO_HIDDEN void seryugo_file_ask(struct seryugo_file *file);
 
 /* Maps a view of so many bytes from its start on. */
 SERYUGO_HIDDEN bool seryugo_map_view(struct seryugo_view *view, uint64_t size);
@@ -192,9 +197,26 @@ SERYUGO_HIDDEN uint32_t seryugo_file_move_view(struct seryugo_file *file);
 /* Once all is synced: cuts off the zeros behind the text. Returns 0 or errno. */
 SERYUGO_HIDDEN int seryugo_file_cut_zeros(struct seryugo_file *file);
 
+/* Tells the helper that there may be work. The first needs the lock. */
+SERYUGO_HIDDEN void seryugo_file_ask_locked(struct seryugo_file *file);
+SERYUGO_HIDDEN void seryugo_file_ask(struct seryugo_file *file);
+
 SERYUGO_HIDDEN int seryugo_start_thread(pthread_t *thread, void *(*run)(void *), void *given);
 SERYUGO_HIDDEN int seryugo_file_start_helper(struct seryugo_file *file);
 SERYUGO_HIDDEN void seryugo_file_stop_helper(struct seryugo_file *file);
+
+/* sync.c */
+
+/* Blocks the thread's signals but those that its own faults raise. */
+SERYUGO_HIDDEN void seryugo_block_signals(sigset_t *before);
+
+/* One sync is made at a time, and none while a new file gets the name. Both need the lock. */
+SERYUGO_HIDDEN void seryugo_hold_syncs(struct seryugo_file *file);
+SERYUGO_HIDDEN void seryugo_let_syncs(struct seryugo_file *file);
+
+/* Tells those on the list whose position is on the disk, or all once the file is lost. The helper alone calls this, so that what
+ * is called meets no lock of another thread. Needs the lock, and gives it back meanwhile. */
+SERYUGO_HIDDEN void seryugo_file_tell_settled(struct seryugo_file *file);
 
 /* file.c */
 

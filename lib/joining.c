@@ -1,4 +1,4 @@
-/* A journal's file, part 8: what callers do for an exchange under the room's lock. They take the room's state, store lines in
+/* A journal's file, part 9: what callers do for an exchange under the room's lock. They take the room's state, store lines in
  * both files, and leave one of them. */
 #ifndef _GNU_SOURCE
 #define _GNU_SOURCE

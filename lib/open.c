@@ -316,6 +316,7 @@ static uint32_t start(struct seryugo_opening *opening, const struct seryugo_file
     made->segment = (segment + SERYUGO_PAGE - 1) / SERYUGO_PAGE * SERYUGO_PAGE;
     made->view_size = 16 * made->segment + 2 * made->margin / SERYUGO_PAGE * SERYUGO_PAGE;
     made->period = options->sync_milliseconds;
+    made->keep = options->keep;
     made->is_asked = true;
     atomic_store(&made->told, made->stored);
     atomic_store(&made->synced, seryugo_mark_of(store, SERYUGO_MARK_SYNCED));
@@ -396,11 +397,12 @@ uint32_t seryugo_file_open(const char *path, uint32_t messages, uint64_t limit, 
     opening.limit = limit;
     opening.found = found;
     opening.folder = opening.descriptor = -1;
-    if (messages > SERYUGO_BYTES || limit == 0 || limit > LIMIT_MOST) {
-        return seryugo_refuse(&opening, SERYUGO_OUT_OF_BOUNDS, "no such messages or limit", 0);
+    options = options == NULL ? &each_second : options;
+    if (messages > SERYUGO_BYTES || limit == 0 || limit > LIMIT_MOST || options->keep > SERYUGO_KEEP_DISK) {
+        return seryugo_refuse(&opening, SERYUGO_OUT_OF_BOUNDS, "no such messages, limit or level", 0);
     }
     pthread_setcancelstate(PTHREAD_CANCEL_DISABLE, &state);
-    code = open_all(&opening, options == NULL ? &each_second : options, file);
+    code = open_all(&opening, options, file);
     if (code == SERYUGO_DONE) {
         *room = opening.room;
         opening.has_room = false;

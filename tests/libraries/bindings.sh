@@ -109,12 +109,15 @@ sanitizers_from_c() {
         done
         check 'nothing wrong with an address: requests' sanitized address,undefined requests 20
         mkdir "$work/short" && check 'nothing wrong with an address: shortened' sanitized address,undefined shortened "$work/short"
+        check 'nothing wrong with an address: disk_waits' sanitized address,undefined disk_waits "$work/short"
     fi
     if has_sanitizer thread; then
         for program in threads keep compact switchboard; do
             check "no race: $program" sanitized thread $program
         done
         check 'no race: requests' sanitized thread requests 20
+        mkdir -p "$work/short" && check 'no race: disk_waits' sanitized thread disk_waits "$work/short"
+        check 'no race: crashes' sanitized thread crashes "$work/short" 20
     fi
 }
 

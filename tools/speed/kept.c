@@ -1,8 +1,13 @@
 /* How many messages a second are kept: `kept WAY THREADS SECONDS PLACE`. Each thread sends a message of 64 bytes to a queue of its
  * own and receives it, each call answered before the next. PLACE is a file that isn't there, or the port of a Redis server.
  *
- * Ways: memory and file (this library, without and with a journal in a file), sqlite (a connection for each thread), sqlite_batched
+ * Ways: memory, file and disk (this library, without a file, with a journal in a file, and on the disk before a call returns),
+ * fdatasync (bytes that are written to a file and synced, for a send and for a receive, by each thread for itself), sqlite (a connection for each thread), sqlite_batched
  * (a thread that writes for all), redis, redis_pipelined (16 sends, and then 16 receives, at a time). */
+#ifndef _GNU_SOURCE
+#define _GNU_SOURCE
+#endif
+#include <fcntl.h>
 #include <hiredis/hiredis.h>
 #include <seryugo_switchboard.h>
 #include <sqlite3.h>
@@ -31,18 +36,21 @@ static void need(bool is_so, const char *what)
 
 static struct seryugo_switchboard board;
 
-static void open_board(bool has_file)
+static void open_board(bool has_file, uint32_t keep)
 {
-    uint32_t code = has_file ? seryugo_switchboard_open_file(place, SERYUGO_BYTES, NULL, NULL, &board)
+    struct seryugo_file_options options = {.sync_milliseconds = 1000, .keep = keep};
+    uint32_t code = has_file ? seryugo_switchboard_open_file(place, SERYUGO_BYTES, &options, NULL, &board)
                              : seryugo_bytes_switchboard_open(65536, &board);
 
     need(code == SERYUGO_DONE, "open the switchboard");
     need(has_file || seryugo_switchboard_when_full(&board, NULL, NULL) == SERYUGO_DONE, "drop the journal");
 }
 
-static void open_memory(void) { open_board(false); }
+static void open_memory(void) { open_board(false, SERYUGO_KEEP_PROCESS); }
 
-static void open_file(void) { open_board(true); }
+static void open_file(void) { open_board(true, SERYUGO_KEEP_PROCESS); }
+
+static void open_disk(void) { open_board(true, SERYUGO_KEEP_DISK); }
 
 static uint64_t pass_board(uint64_t thread)
 {
@@ -60,6 +68,29 @@ static uint64_t pass_board(uint64_t thread)
     }
     seryugo_seat_leave(&seat);
     return passed;
+}
+
+/* ---- the system ---- */
+
+#define PLACES ((uint64_t)64 << 10)
+
+static int bare;
+
+static void open_bare(void)
+{
+    bare = open(place, O_CREAT | O_RDWR, 0600);
+    need(bare >= 0 && posix_fallocate(bare, 0, (off_t)(64 * PLACES * LENGTH)) == 0, "make the file");
+}
+
+static uint64_t pass_bare(uint64_t thread)
+{
+    uint64_t at = 0;
+
+    for (; !is_over; at++) {
+        need(pwrite(bare, message, LENGTH, (off_t)((thread * PLACES + at % PLACES) * LENGTH)) == LENGTH, "write");
+        need(fdatasync(bare) == 0, "sync");
+    }
+    return at / 2;
 }
 
 /* ---- SQLite ---- */
@@ -257,6 +288,7 @@ static const struct way {
     uint64_t (*pass)(uint64_t thread);
 } ways[] = {
     {"memory", open_memory, pass_board},       {"file", open_file, pass_board},
+    {"disk", open_disk, pass_board},           {"fdatasync", open_bare, pass_bare},
     {"sqlite", make_base, pass_sqlite},     {"sqlite_batched", open_writer, pass_batched},
     {"redis", open_none, pass_redis},          {"redis_pipelined", open_none, pass_pipelined},
 };

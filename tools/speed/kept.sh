@@ -8,7 +8,7 @@ prefix=$1
 seconds=${2:-3}
 rounds=${3:-5}
 port=7391
-ways='memory file sqlite sqlite_batched redis redis_pipelined'
+ways='memory file disk fdatasync sqlite sqlite_batched redis redis_pipelined'
 work=$(mktemp -d "${TMPDIR:-/tmp}/kept.XXXXXX")
 trap 'redis-cli -p $port shutdown nosave 2> /dev/null || true; rm -rf "$work"' EXIT
 cc -std=gnu11 -O2 -Wall -Wextra -Werror -I "$prefix/include" tools/speed/kept.c "$prefix/lib/libseryugo.a" -lhiredis -lsqlite3 -pthread \

@@ -29,6 +29,15 @@ async def ask(
     return code, data
 
 
+async def settle(room: Room) -> None:
+    """Await that the disk has what a call has seen, if the journal is kept there.
+
+    A thread of the loop's waits for that.
+    """
+    if room.is_on_disk:
+        await asyncio.get_running_loop().run_in_executor(None, room.settle)
+
+
 async def _woken(
     room: Room, seat: int, loop: asyncio.AbstractEventLoop, deadline: Optional[float]
 ) -> bool:

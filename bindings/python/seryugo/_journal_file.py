@@ -27,6 +27,10 @@ _TOO_LONG = "a message has more than 1,398,000 bytes, or both messages of a swap
 # The rooms with a file, which a forked child must not use.
 _rooms: weakref.WeakSet[Room] = weakref.WeakSet()
 
+# As the library numbers the levels at which a call is kept.
+LEVELS = {"process": 0, "disk": 1}
+DISK = LEVELS["disk"]
+
 
 def _after_fork() -> None:
     for room in tuple(_rooms):
@@ -63,6 +67,9 @@ class FileKeeper(Keeper):
     def __init__(self, room: Room, path: Path) -> None:
         """Keep nothing until `open` has opened the file."""
         self.path = os.fsdecode(path)
+        # Up to where the file has entries; and of a closed file why its end isn't on the disk.
+        self._position = c_uint64()
+        self._failure: Optional[errors.SeryugoError] = None
         self._process = os.getpid()
         self._handle = room.handle
         self._room_lock = room.lock
@@ -71,10 +78,9 @@ class FileKeeper(Keeper):
         self._unclosed = {"file": self._at}
         # Set under the room's lock: then no call uses the file.
         self._is_closed = False
-        # A thread that syncs or closes the file holds this. Only then the room's lock may be taken.
+        # A thread that waits for the disk or closes the file holds this. Only then the room's lock
+        # may be taken.
         self._lock = new_lock()
-        # How many syncs have begun, and the last of them that went well.
-        self._begun = self._synced = 0
         self._held = library.Bytes()
         weakref.finalize(room, self._end)
         _rooms.add(room)
@@ -87,6 +93,7 @@ class FileKeeper(Keeper):
         name, found = os.fsencode(self.path), library.FileFound()
         if b"\0" in name:
             raise ValueError("a path has no byte 0")
+        self.is_on_disk = options.keep == DISK
         at = (byref(options), self._handle, byref(found), byref(self._at))
         code = library.file_open(name, library.BYTES, limit, *at)
         if code != DONE:
@@ -132,24 +139,21 @@ class FileKeeper(Keeper):
         if not self._is_closed:
             self._note()
 
-    def sync(self) -> None:
+    def wait(self) -> None:
         """Wait until all that was stored before is on the disk.
 
-        If many threads wait, the second of them syncs for all.
+        Another thread may close the file meanwhile, which syncs it.
         """
         refuse_in_a_call(self._lock, self._room_lock)
-        asked = self._begun
+        position = self._position.value
         try:
             with self._lock:
-                if self._is_closed:
-                    raise errors.BoardClosed
-                if self._synced > asked:
-                    return
-                self._begun = begun = self._begun + 1
-                code = library.file_sync(self._at)
-                if code != DONE:
-                    raise self._error(code)
-                self._synced = begun
+                if not self._is_closed:
+                    code = library.file_wait(self._at, position)
+                    if code != DONE:
+                        raise self._error(code)
+                elif self._failure is not None:
+                    raise self._failure
         except BaseException:
             free(self._lock)
             raise
@@ -195,6 +199,7 @@ class FileKeeper(Keeper):
             words = "the file's end was not cut off or not synced"
             words += f": {os.strerror(cause)}" if cause else ""
             failure = errors.FileLost(words, cause, self.path)
+        self._failure = failure
         return failure
 
     def _end(self) -> None:
@@ -209,7 +214,7 @@ class FileKeeper(Keeper):
 
     def _note(self) -> int:
         """Store all entries that aren't stored yet, and return the code of the library."""
-        return library.file_note(self._at, self._handle, None)
+        return library.file_note(self._at, self._handle, byref(self._position))
 
     def _sleeps_on(self, seat: c_uint64) -> bool:
         """Return whether a seat was woken for nothing, so that the file need not have room."""

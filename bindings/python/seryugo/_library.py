@@ -72,6 +72,7 @@ class FileOptions(Structure):
         ("flags", c_uint32),
         ("segment", c_uint64),
         ("short_from", c_uint64),
+        ("keep", c_uint32),
     ]
 
 
@@ -274,6 +275,7 @@ file_open = _long("file_open", c_char_p, c_uint32, c_uint64, *_AT_FILE)
 file_reserve, file_note = quick("file_reserve", _FREE), quick("file_note", _FREE)
 file_state = quick("file_state")
 file_sync = _long("file_sync", c_void_p)
+file_wait = _long("file_wait", c_void_p, c_uint64)
 file_close = _function(ctypes.CDLL(_PATH, use_errno=True), "file_close")
 file_close.argtypes = (c_void_p,)
 _file_error = _function(_HELD, "file_error")

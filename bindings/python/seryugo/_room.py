@@ -42,6 +42,12 @@ FULL = errors.JournalFull.code
 class Keeper:
     """What keeps the entries of a room's journal. Its caller has the room's lock."""
 
+    # Whether a call returns once the disk has what it has seen.
+    is_on_disk = False
+
+    def wait(self) -> None:
+        """Wait for that, without the room's lock."""
+
     def made(self, room: Room, call: Callable[..., int], arguments: Tuple[Any, ...]) -> int:
         """Make a call of a seat, and return its code. If the journal is full, have that cut first.
 
@@ -140,7 +146,29 @@ class Room:
             raise
         if self._dropped:
             self._let_dropped_leave()
+        self.settle()
         return code
+
+    def settle(self) -> None:
+        """Wait until the disk has what a call has seen, if the journal is kept there."""
+        if self.is_on_disk:
+            self.wait()
+
+    @property
+    def is_on_disk(self) -> bool:
+        """Whether calls wait for the disk."""
+        return self.keeper is not None and self.keeper.is_on_disk
+
+    def wait(self) -> None:
+        """Wait until the entries of all calls that returned are on the disk."""
+        if self.keeper is None:
+            return
+        try:
+            self.keeper.wait()
+        except errors.FileLost:
+            # Nobody's call will be kept, so nobody waits.
+            self.recover()
+            raise
 
     def within(self, action: Callable[[], T]) -> T:
         """Run this with the lock."""
@@ -181,6 +209,7 @@ class Room:
             raise
         if self._dropped:
             self._let_dropped_leave()
+        self.settle()
         return code
 
     def make(
@@ -205,6 +234,7 @@ class Room:
             raise
         if self._dropped:
             self._let_dropped_leave()
+        self.settle()
         if code != DONE:
             raise errors.of_code(code, of)
         self.name_codec(name.value, codec)
@@ -234,6 +264,7 @@ class Room:
             raise
         if self._dropped:
             self._let_dropped_leave()
+        self.settle()
         return code, data
 
     def look(self, call: Callable[..., int], *arguments: Any) -> Tuple[int, bytes]:
@@ -243,14 +274,17 @@ class Room:
             code = call(self.handle, *arguments, self._at_message)
             return code, library.taken_over(self.message) if code == DONE else b""
 
-        return self.within(looked)
+        seen = self.within(looked)
+        self.settle()
+        return seen
 
     def ask(
         self, seat: int, is_again: c_bool, call: Callable[..., int], arguments: Tuple[Any, ...]
     ) -> Tuple[int, bytes]:
         """Make a call that may block, and if it is done hands a message over.
 
-        After an exception its caller calls `recover`.
+        After an exception its caller calls `recover`. Once the call has ended, its caller waits for
+        the disk, by `settle` or without blocking.
         """
         if locks.collector is not None:
             locks.refuse_in_a_call(self.lock)

@@ -9,7 +9,17 @@ import time
 import warnings
 from ctypes import c_size_t, c_uint64
 from types import TracebackType
-from typing import Any, AsyncIterator, Callable, Iterator, Optional, Tuple, Type, Union
+from typing import (
+    Any,
+    AsyncIterator,
+    Callable,
+    Dict,
+    Iterator,
+    Optional,
+    Tuple,
+    Type,
+    Union,
+)
 
 from . import _awaiting, errors
 from . import _calls as calls
@@ -44,6 +54,8 @@ class Seat(Unpicklable):
         self._room = room
         self._seat = c_uint64(number)
         self._bell = bell
+        # What cancelled calls received before the disk had it: by call and object.
+        self._unreturned: Dict[Tuple[Optional[str], int], bytes] = {}
         self._place = fast_calls.seat_of(room.fast, number)
 
     def __enter__(self) -> Seat:
@@ -305,6 +317,10 @@ class Seat(Unpicklable):
         return self._room.call(call, self._seat, name, data, c_size_t(len(data)))
 
     def _poll(self, call: Callable[..., int], source: Object[T]) -> Optional[T]:
+        kept = self._kept(source, call)
+        if kept is not None:
+            self._room.settle()
+            return source._decode(kept)
         code, data = self._room.poll(call, self._seat, name_in(self._room, source))
         if code == NOTHING:
             return None
@@ -321,10 +337,15 @@ class Seat(Unpicklable):
     ) -> bytes:
         """Make a call that may block."""
         deadline = None if timeout is None else time.monotonic() + _checked(timeout)
+        kept = self._kept(named, call)
+        if kept is not None:
+            self._room.settle()
+            return kept
         try:
             code, data = self._room.ask(self.number, FIRST, call, arguments)
             if code == PARKED:
                 code, data = self._wait(call, arguments, deadline)
+            self._room.settle()
         except BaseException:
             self._room.recover(self.number)
             raise
@@ -339,15 +360,39 @@ class Seat(Unpicklable):
     ) -> bytes:
         """Make a call that may block, and await it."""
         limit = None if timeout is None else _checked(timeout)
+        kept = self._kept(named, call)
         try:
-            code, data = await _awaiting.ask(self._room, self.number, call, arguments, limit)
+            if kept is not None:
+                code, data = DONE, kept
+            else:
+                ask = _awaiting.ask(self._room, self.number, call, arguments, limit)
+                code, data = await ask
+            await self._settle_async(named, call, code, data)
         except (asyncio.CancelledError, GeneratorExit):
-            # The call was withdrawn.
+            # The call was withdrawn, or what it received is kept.
             raise
         except BaseException:
             self._room.recover(self.number)
             raise
         return _obtained(named, code, data)
+
+    async def _settle_async(
+        self, named: Object[T], call: Callable[..., int], code: int, data: bytes
+    ) -> None:
+        """Await the disk. If that is cancelled, keep the message for the seat's next call."""
+        try:
+            await _awaiting.settle(self._room)
+        except BaseException:
+            taken = _taken_by(call)
+            if code == DONE and taken is not None:
+                self._unreturned[taken, named.number] = data
+            raise
+
+    def _kept(self, named: Object[T], call: Callable[..., int]) -> Optional[bytes]:
+        """Take the message that a cancelled call of this kind has received from this object."""
+        if not self._unreturned:
+            return None
+        return self._unreturned.pop((_taken_by(call), named.number), None)
 
     def _wait(
         self, call: Callable[..., int], arguments: Tuple[Any, ...], deadline: Optional[float]
@@ -387,6 +432,15 @@ def _obtained(named: Object[Any], code: int, data: bytes) -> bytes:
     if code != DONE:
         raise errors.of_code(code, named)
     return data
+
+
+def _taken_by(call: Callable[..., int]) -> Optional[str]:
+    """Name how a call takes a message out of its object, or return None if it takes none."""
+    if call is calls.recv or call is calls.recv_poll:
+        return "received"
+    if call is calls.take or call is calls.take_poll:
+        return "taken"
+    return None
 
 
 def _is_main() -> bool:

@@ -10,7 +10,7 @@ from typing import Any, Callable, Iterable, Optional, Type, TypeVar, Union
 from . import _library as library
 from . import errors
 from ._calls import CHANNEL, IVAR, MAILBOX, MVAR, PORT
-from ._journal_file import FileKeeper, Path, Recovered
+from ._journal_file import LEVELS, FileKeeper, Path, Recovered
 from ._keeping import Sink, SinkKeeper
 from ._library import DONE, MOST, NOTHING
 from ._messages import Codec, T, codec_of
@@ -181,7 +181,9 @@ class Switchboard(Unpicklable):
             journal._shorten(room.handle, library.compact)
             return journal
 
-        return room.within(compacted)
+        journal = room.within(compacted)
+        room.settle()
+        return journal
 
     def compact_and_cut(self) -> Journal:
         """Return a short journal as `compact` does, and cut the journal at the same moment.
@@ -253,14 +255,7 @@ class Switchboard(Unpicklable):
         """
         if self._room.refusal is not None:
             raise self._room.refusal
-        if self._file is None:
-            return
-        try:
-            self._file.sync()
-        except errors.FileLost:
-            # Nobody's call will be kept, so nobody waits.
-            self._room.recover()
-            raise
+        self._room.wait()
 
     def close(self) -> None:
         """Store what is pending, sync the file, and close it. Later calls fail with `BoardClosed`.
@@ -422,6 +417,7 @@ def open(
     *,
     sync_every: Optional[float] = 1.0,
     short_from: int = 0,
+    keep: str = "process",
 ) -> Switchboard:
     """Open a switchboard whose journal is kept in a file: each call that returned survives a kill.
 
@@ -432,6 +428,10 @@ def open(
     After a loss of power the file has what was synced, and a beginning of the rest. A thread syncs
     it each `sync_every` seconds. With `None` it is synced by `sync` and `close`, and where 32 MiB
     aren't synced yet. A call waits for the disk only where 64 MiB aren't.
+
+    With `keep="disk"` a call returns once its entry is on the disk, and each entry that its answer
+    rests on: each call that returned survives a loss of power. Threads that call at once share a
+    sync. A time limit bounds the wait for a message alone.
 
     It exchanges a file with sums or a line `end` for a short one, which has what `compact`
     returns. It does so too with a file of `short_from` bytes or more, also while that is open, if
@@ -445,7 +445,11 @@ def open(
 
     A call on it may fail with `FileFull`, `FileLost` or `TooLong`. A child of a fork can make none.
     """
-    options = library.FileOptions(_milliseconds(sync_every), 0, 0, _length(short_from))
+    if keep not in LEVELS:
+        raise ValueError(f'a file keeps calls for the "process" or on the "disk", and not {keep!r}')
+    options = library.FileOptions(
+        _milliseconds(sync_every), 0, 0, _length(short_from), LEVELS[keep]
+    )
     return Switchboard._open(path, limit, options)
 
 

@@ -14,7 +14,7 @@ pub enum Give {
 }
 
 /// A call that reads a message of an object.
-#[derive(Clone, Copy)]
+#[derive(Clone, Copy, PartialEq, Eq)]
 pub enum Read {
     Recv,
     Get,
@@ -29,7 +29,7 @@ pub trait Calls: Sized {
     /// A message to send, with its owner.
     type OwnedMessage: Send + Sync;
     /// A message that was received.
-    type Received;
+    type Received: Send + Sync;
 
     /// What a call that receives writes to.
     fn nothing() -> Self::Received;

@@ -4,7 +4,9 @@ pub(crate) mod checker;
 pub(crate) mod entry;
 pub(crate) mod file;
 pub(crate) mod full;
+pub(crate) mod keep;
 pub(crate) mod prefix;
+pub(crate) mod recovered;
 pub(crate) mod restore;
 pub(crate) mod sum;
 

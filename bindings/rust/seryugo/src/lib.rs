@@ -225,11 +225,13 @@ pub use error::cause::FileCause;
 pub use error::{Error, SendError};
 pub use journal::checker::{CheckError, Checker};
 pub use journal::entry::{Call, Entry, Reply, Who};
-pub use journal::file::{JournalFile, Recovered};
+pub use journal::file::JournalFile;
 pub use journal::full::WhenFull;
+pub use journal::keep::Keep;
 #[allow(deprecated)]
 pub use journal::prefix::Kept;
 pub use journal::prefix::ValidPrefix;
+pub use journal::recovered::Recovered;
 pub use journal::restore::RestoreError;
 pub use journal::sum::{BadSum, Sum};
 pub use journal::{Entries, Journal};

@@ -6,6 +6,7 @@
 
 use crate::error::cause::FileCause;
 use crate::error::Error;
+use crate::journal::keep::Keep;
 use crate::journal::sum::RawSum;
 use std::ffi::{c_char, c_int, c_void, CStr};
 use std::io;
@@ -164,6 +165,16 @@ pub struct FileOptions {
     pub segment: u64,
     /// From how many bytes on a long file is exchanged for a short one. 0: never.
     pub short_from: u64,
+    pub keep: Keep,
+}
+
+/// Who is told that a file is on the disk up to a position.
+#[repr(C)]
+pub struct FileWaiter {
+    pub position: u64,
+    pub wake: extern "C" fn(*mut FileWaiter),
+    /// The file's own.
+    pub following: *mut FileWaiter,
 }
 
 const WORDS: usize = 256;
@@ -269,6 +280,26 @@ impl File {
         self.explained(seryugo_file_sync(self.0))
     }
 
+    /// What a call waits for that was noted. 0: for nothing.
+    pub fn position(&self) -> u64 {
+        seryugo_file_position(self.0)
+    }
+
+    /// Blocks until the file is on the disk up to this position.
+    pub fn wait(&self, position: u64) -> u32 {
+        self.explained(seryugo_file_wait(self.0, position))
+    }
+
+    /// Has this waiter told once the file is on the disk up to its position, if this returns `PARKED`.
+    ///
+    /// # Safety
+    ///
+    /// The waiter stays where it is until it is told.
+    pub unsafe fn when(&self, waiter: *mut FileWaiter) -> u32 {
+        // SAFETY: as its caller says.
+        unsafe { seryugo_file_when(self.0, waiter) }
+    }
+
     /// This code. If it is a refusal of the system's, the error that is made of it says why.
     #[inline]
     fn explained(&self, code: u32) -> u32 {
@@ -368,6 +399,9 @@ unsafe extern "C" {
     fn seryugo_file_note(file: FileAt, room: &mut Handle, position: *mut u64) -> u32;
     safe fn seryugo_file_state(file: FileAt) -> u32;
     safe fn seryugo_file_sync(file: FileAt) -> u32;
+    safe fn seryugo_file_position(file: FileAt) -> u64;
+    safe fn seryugo_file_wait(file: FileAt, position: u64) -> u32;
+    fn seryugo_file_when(file: FileAt, waiter: *mut FileWaiter) -> u32;
     safe fn seryugo_file_close(file: FileAt) -> u32;
     safe fn seryugo_file_error(file: FileAt, errno: &mut c_int) -> *const c_char;
     safe fn seryugo_fault_text(fault: u64, line: u64) -> *const c_char;

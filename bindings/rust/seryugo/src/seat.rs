@@ -5,6 +5,7 @@ pub(crate) mod iter;
 pub(crate) mod make;
 pub(crate) mod owned;
 pub(crate) mod pending;
+pub(crate) mod unreturned;
 
 use crate::calls::{received, Give, Read};
 use crate::error::{handing_back, Error, SendError};
@@ -18,6 +19,8 @@ use crate::park::table::ParkerAt;
 use crate::raw::{self, code, done, done_or, Handle};
 use crate::request::answers::Answers;
 use crate::seat::owned::Holds;
+use crate::seat::pending::{held, PendingCall};
+use crate::seat::unreturned::Unreturned;
 use crate::switchboard::call::Line;
 use crate::switchboard::Switchboard;
 use std::fmt;
@@ -85,6 +88,8 @@ pub struct Seat<'a, R: MessageKind = Bytes, H: Holds<R> = &'a Switchboard<R>> {
     pub(crate) is_parked: bool,
     /// Where its questions are answered, once it has asked one.
     pub(crate) answers: Option<Answers>,
+    /// What it received for futures that were dropped before the disk had it.
+    pub(crate) unreturned: Vec<Unreturned<R>>,
     kind: PhantomData<&'a R>,
 }
 
@@ -104,6 +109,7 @@ impl<R: MessageKind, H: Holds<R>> Seat<'_, R, H> {
             parker,
             is_parked: false,
             answers: None,
+            unreturned: Vec::new(),
             kind: PhantomData,
         })
     }
@@ -221,7 +227,7 @@ impl<R: MessageKind, H: Holds<R>> Seat<'_, R, H> {
         R: Carries<S::Message>,
     {
         let source = self.here(source)?;
-        let found = self.poll(Read::Recv.poll_of(source), move |room, seat, to| {
+        let found = self.poll(Read::Recv, source, move |room, seat, to| {
             match R::poll(Read::Recv, room, seat, source, to) {
                 code::CLOSED => code::NOTHING,
                 code => code,
@@ -288,7 +294,7 @@ impl<R: MessageKind, H: Holds<R>> Seat<'_, R, H> {
         R: Carries<V::Message>,
     {
         let variable = self.here(variable)?;
-        self.poll(Read::Get.poll_of(variable), move |room, seat, to| {
+        self.poll(Read::Get, variable, move |room, seat, to| {
             R::poll(Read::Get, room, seat, variable, to)
         })
     }
@@ -314,7 +320,7 @@ impl<R: MessageKind, H: Holds<R>> Seat<'_, R, H> {
         R: Carries<T>,
     {
         let variable = self.here(variable)?;
-        self.poll(Read::Take.poll_of(variable), move |room, seat, to| {
+        self.poll(Read::Take, variable, move |room, seat, to| {
             R::poll(Read::Take, room, seat, variable, to)
         })
     }
@@ -329,13 +335,18 @@ impl<R: MessageKind, H: Holds<R>> Seat<'_, R, H> {
     #[inline]
     fn poll<T>(
         &mut self,
-        step: Step,
+        read: Read,
+        object: u64,
         call: impl FnOnce(&mut Handle, u64, &mut R::Received) -> u32,
     ) -> Result<Option<T>, Error>
     where
         R: Carries<T>,
     {
+        if let Some(answer) = self.unreturned_to(PendingCall::Read(read, object)) {
+            return held::<R, T>(answer).map(Some);
+        }
         let mut found = R::nothing();
+        let step = read.poll_of(object);
         match self.call(step, Line::SHORT, |room, seat| call(room, seat, &mut found))? {
             code::NOTHING => Ok(None),
             code => received::<R, T>(code, &found).map(Some),
@@ -374,7 +385,7 @@ impl<R: MessageKind, H: Holds<R>> Seat<'_, R, H> {
     pub(crate) fn withdraw(&mut self) {
         self.is_parked = false;
         let seat = self.number;
-        self.board.change(Some(&self.parker), |state| state.withdraw(seat));
+        self.board.change_unsettled(Some(&self.parker), |state| state.withdraw(seat));
         self.parker.forget_waker();
     }
 }
@@ -386,7 +397,7 @@ impl<R: MessageKind, H: Holds<R>> Drop for Seat<'_, R, H> {
             self.parker.forget_waker();
         }
         // This is one call: the seat leaves also if the waker of another seat panics.
-        self.board.change(None, |state| {
+        self.board.change_unsettled(None, |state| {
             if self.is_parked {
                 state.withdraw(seat);
             }

@@ -244,7 +244,7 @@ impl<R: MessageKind> Switchboard<R> {
     /// ```
     pub fn lost(&self) -> u64 {
         self.pass_to_look_at_all();
-        self.looked_at().lost()
+        self.looked_at(|state| state.lost())
     }
 
     /// Opens a feed of what is multicast on a channel from now on, whose ring has room for

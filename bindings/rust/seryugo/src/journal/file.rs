@@ -2,13 +2,15 @@
 
 use crate::error::cause::FileCause;
 use crate::error::Error;
+use crate::journal::keep::Keep;
+use crate::journal::recovered::Recovered;
 use crate::message::carries::{MessageKind, Numbers};
 use crate::raw::{code, done, File, FileFound, FileOptions};
 use crate::switchboard::Switchboard;
 use crate::version;
-use std::ffi::{CString, OsStr};
+use std::ffi::CString;
 use std::os::unix::ffi::OsStrExt;
-use std::path::{Path, PathBuf};
+use std::path::Path;
 use std::sync::Arc;
 use std::time::Duration;
 
@@ -41,6 +43,7 @@ pub struct JournalFile {
     sync_milliseconds: u64,
     segment: u64,
     short_from: u64,
+    keep: Keep,
 }
 
 impl Default for JournalFile {
@@ -50,7 +53,8 @@ impl Default for JournalFile {
 }
 
 impl JournalFile {
-    /// The defaults: the file is synced each second, grows by 4 MiB, and stays as long as it is.
+    /// The defaults: the file is synced each second, no call waits for that, it grows by 4 MiB, and
+    /// stays as long as it is.
     ///
     /// ```
     /// assert_eq!(seryugo::JournalFile::new(), seryugo::JournalFile::default());
@@ -61,6 +65,7 @@ impl JournalFile {
             sync_milliseconds: 1_000,
             segment: 0,
             short_from: 0,
+            keep: Keep::Process,
         }
     }
 
@@ -131,6 +136,19 @@ impl JournalFile {
         self
     }
 
+    /// Says what a call waits for before it returns: for its entry on the [disk](Keep::Disk), or in the
+    /// system's memory alone.
+    ///
+    /// ```
+    /// let on_disk = seryugo::JournalFile::new().keep(seryugo::Keep::Disk);
+    /// assert_ne!(on_disk, seryugo::JournalFile::new());
+    /// ```
+    #[must_use]
+    pub fn keep(mut self, keep: Keep) -> JournalFile {
+        self.keep = keep;
+        self
+    }
+
     /// Opens a switchboard of bytes, as [`Switchboard::open`] does.
     ///
     /// ```
@@ -184,6 +202,7 @@ impl JournalFile {
             flags: 0,
             segment: self.segment,
             short_from: self.short_from,
+            keep: self.keep,
         };
         let (found, opened) = File::open(&name, R::MESSAGES, LIMIT, &options);
         let (file, room) = opened.map_err(|code| refusal(code, &found))?;
@@ -204,66 +223,9 @@ fn refusal(code: u32, found: &FileFound) -> Error {
     }
 }
 
-/// What was found as a journal's file was opened, before it was exchanged for a short one.
-///
-/// ```
-/// # fn main() -> Result<(), seryugo::Error> {
-/// # let path = std::env::temp_dir().join(format!("seryugo-doc-{}.found", std::process::id()));
-/// let board = seryugo::Switchboard::open(&path)?;
-/// assert!(board.recovered().unwrap().is_new);
-/// board.seat()?.mailbox_again::<String>(0)?;
-/// board.close()?;
-///
-/// let board = seryugo::Switchboard::open(&path)?;
-/// let recovered = board.recovered().unwrap();
-/// assert_eq!((recovered.entries, recovered.lines, recovered.cut_off), (1, 2, 0));
-/// # drop(board);
-/// # std::fs::remove_file(&path).unwrap();
-/// # Ok(())
-/// # }
-/// ```
-#[derive(Clone, Debug, PartialEq, Eq)]
-#[non_exhaustive]
-pub struct Recovered {
-    /// How many entries the journal has.
-    pub entries: u64,
-    /// How many lines they have, with the first ones of pieces and the like.
-    pub lines: u64,
-    /// How many bytes of the file are kept.
-    pub kept: u64,
-    /// How many bytes after these were cut off, apart from zeros at the end. It is the beginning of a
-    /// line that a kill cut short, or what the system had written ahead before the power was lost.
-    pub cut_off: u64,
-    /// The file that has what was cut off, if that is more than a line.
-    pub saved: Option<PathBuf>,
-    /// There was no file.
-    pub is_new: bool,
-    /// The file was exchanged for a short one.
-    pub is_shortened: bool,
-    /// Why it wasn't, if it should have been. The journal goes on in the old file.
-    pub not_shortened: Option<String>,
-}
-
-impl Recovered {
-    fn of(found: &FileFound, path: &Path) -> Recovered {
-        let saved = Some(found.saved()).filter(|name| !name.is_empty());
-        let not_shortened = Some(found.words()).filter(|words| !words.is_empty());
-        Recovered {
-            entries: found.entries,
-            lines: found.lines,
-            kept: found.kept,
-            cut_off: found.cut_off,
-            saved: saved.map(|name| path.with_file_name(OsStr::from_bytes(name))),
-            is_new: found.is_new,
-            is_shortened: found.is_shortened,
-            not_shortened,
-        }
-    }
-}
-
 /// The file of a switchboard.
 pub(crate) struct OpenFile {
-    file: Arc<File>,
+    pub file: Arc<File>,
     recovered: Recovered,
 }
 
@@ -301,7 +263,8 @@ impl Switchboard {
     ///
     /// - After the end of the program, by a panic or `kill -9` too: each call that returned.
     /// - After a loss of power: what was synced, and a beginning of the rest. The file is synced each
-    ///   second ([`JournalFile::sync_every`]), and by [`sync`](Switchboard::sync).
+    ///   second ([`JournalFile::sync_every`]), and by [`sync`](Switchboard::sync). With [`Keep::Disk`]
+    ///   each call that returned is there too.
     /// - A message of a [`Lane`](crate::Lane) is kept once it is drained. One of a
     ///   [`Feed`](crate::Feed) counts as received once it is pumped.
     ///

@@ -33,6 +33,11 @@ struct Share {
     at: *mut c_void,
 }
 
+// SAFETY: what keeps a message is counted by an `Arc`, and nobody changes the message.
+unsafe impl Send for Received {}
+// SAFETY: as above.
+unsafe impl Sync for Received {}
+
 impl Received {
     /// The empty message, in whose place a call writes another one.
     #[inline]

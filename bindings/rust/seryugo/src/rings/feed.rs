@@ -158,7 +158,10 @@ impl<R: MessageKind, T, H: Holds<R>> Feed<'_, R, T, H> {
         let mut found = R::nothing();
         match R::feed_recv(&mut self.handle, &mut found) {
             code::NOTHING => Ok(None),
-            code => received::<R, T>(code, &found).map(Some),
+            code => {
+                self.board.settle_feed()?;
+                received::<R, T>(code, &found).map(Some)
+            }
         }
     }
 }
@@ -167,7 +170,7 @@ impl<R: MessageKind, T, H: Holds<R>> Drop for Feed<'_, R, T, H> {
     fn drop(&mut self) {
         let number = self.number;
         self.board.pass(StepKind::EndFeed.on(number));
-        self.board.change(None, |state| {
+        self.board.change_unsettled(None, |state| {
             state.fed.remove(&number);
             raw::seryugo_feed_end(&mut state.handle, number)
         });

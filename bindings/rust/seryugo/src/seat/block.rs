@@ -19,6 +19,9 @@ use std::time::{Duration, Instant};
 ///
 /// A call that fails and a future that is dropped have done nothing. If the seat was about to be
 /// answered, the next seat that waits for the same goes on in its place.
+///
+/// On a switchboard that is kept on the [disk](crate::Keep::Disk) each returns once the disk has
+/// what its answer rests on.
 impl<R: MessageKind, H: Holds<R>> Seat<'_, R, H> {
     /// Receives the next message of a mailbox or a port. Blocks while there is none. A mailbox
     /// gives the message. A port gives `Some` message, or `None` once it is closed.

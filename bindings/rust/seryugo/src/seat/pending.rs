@@ -3,6 +3,7 @@
 use crate::calls::{self, Calls, Read};
 use crate::error::Error;
 use crate::explore::{Pass, Step, StepKind};
+use crate::journal::keep::Landing;
 use crate::message::carries::{Carries, MessageKind};
 use crate::message::kind::Misfit;
 use crate::message::names::Source;
@@ -111,7 +112,7 @@ impl<'a, R: MessageKind, H: Holds<R>> Seat<'a, R, H> {
         read: impl FnOnce(u32, &R::Received) -> Result<T, Error>,
     ) -> Result<T, Error> {
         self.ready();
-        if self.board.conductor.is_some() {
+        if self.board.conductor.is_some() || !self.unreturned.is_empty() {
             return self.decided(move |seat| {
                 let (code, message) = seat.answer_to(call)?;
                 read(code, &message)
@@ -122,11 +123,12 @@ impl<'a, R: MessageKind, H: Holds<R>> Seat<'a, R, H> {
         read(code, &message)
     }
 
-    /// Makes a call that may block, also one that an exploration or a rerun decides. Returns its
-    /// answer.
+    /// Makes a call that may block, also one that an exploration or a rerun decides, or that a dropped
+    /// future has left. Returns its answer.
     pub(crate) fn answer_to(&mut self, call: PendingCall<'_, R>) -> Answer<R> {
         self.ready();
-        self.conducted(call, false).unwrap_or_else(|| {
+        let answer = self.unreturned_to(call).or_else(|| self.conducted(call, false));
+        answer.unwrap_or_else(|| {
             let mut message = R::nothing();
             Ok((self.wait_freely(call, &mut message), message))
         })
@@ -144,7 +146,7 @@ impl<'a, R: MessageKind, H: Holds<R>> Seat<'a, R, H> {
     /// more. If that parks the seat, it withdraws the call before others have the lock.
     pub(crate) fn wait_until(&mut self, call: PendingCall<'_, R>, deadline: Instant) -> Answer<R> {
         let seat = self.ready();
-        if let Some(answer) = self.conducted(call, true) {
+        if let Some(answer) = self.unreturned_to(call).or_else(|| self.conducted(call, true)) {
             return answer;
         }
         let mut received = R::nothing();
@@ -180,10 +182,12 @@ impl<'a, R: MessageKind, H: Holds<R>> Seat<'a, R, H> {
             seat: self,
             call,
             is_awaited: false,
+            settling: None,
         }
     }
 
-    /// Makes a call of a switchboard that is explored or rerun. It is its own function, so that
+    /// Makes a call of a switchboard that is explored or rerun, or one whose answer a dropped future may
+    /// have left. It is its own function, so that
     /// the others put nothing into memory for it, and look at no answer twice.
     #[cold]
     fn decided<T>(&mut self, call: impl FnOnce(&mut Self) -> T) -> T {
@@ -229,20 +233,76 @@ pub(crate) struct Waiting<'s, 'a, 'm, R: MessageKind, H: Holds<R>> {
     call: PendingCall<'m, R>,
     /// Whether an exploration has it among those that have no answer.
     is_awaited: bool,
+    /// The answer that isn't on the disk yet. It lies in a box, so that the future may be moved.
+    settling: Option<Box<Settling<R>>>,
+}
+
+/// An answer that rests on the file up to this position.
+struct Settling<R: MessageKind> {
+    answer: Answer<R>,
+    position: u64,
+    landing: Landing,
 }
 
 impl<R: MessageKind, H: Holds<R>> Waiting<'_, '_, '_, R, H> {
-    /// Makes the call, for the first time or again. `None` if its seat is parked.
-    fn ask(&mut self, is_again: bool) -> Option<Answer<R>> {
+    /// Makes the call, for the first time or again. `None` if its seat is parked. Else the answer, and
+    /// the position up to which it rests on the file.
+    fn ask(&mut self, is_again: bool) -> Option<(Answer<R>, u64)> {
         let (seat, call) = (self.seat.number(), self.call);
         let mut received = R::nothing();
         let ask = call.of(seat, is_again);
-        let code = self
-            .seat
-            .board
-            .ask(&self.seat.parker, ask, |room| call.ask(room, seat, is_again, &mut received));
+        let (code, position) = self.seat.board.ask_as::<false>(&self.seat.parker, ask, |room| {
+            call.ask(room, seat, is_again, &mut received)
+        });
         self.seat.is_parked = code == code::PARKED;
-        (!self.seat.is_parked).then_some(Ok((code, received)))
+        (!self.seat.is_parked).then_some((Ok((code, received)), position))
+    }
+
+    /// Hands this answer over, if the disk has what it rests on. Else this keeps it, and has the file
+    /// tell when that is so.
+    fn land(&mut self, answer: Answer<R>, position: u64) -> Option<Answer<R>> {
+        match self.seat.board.landing(position) {
+            None => Some(self.seat.board.settled(position, answer)),
+            Some(landing) => {
+                self.settling = Some(Box::new(Settling {
+                    answer,
+                    position,
+                    landing,
+                }));
+                None
+            }
+        }
+    }
+
+    /// Makes the call until it is answered, or has its seat woken. The answer may be one that a dropped
+    /// future has left.
+    fn answered(&mut self, waker: &Waker) -> Option<(Answer<R>, u64)> {
+        if let Some(left) = self.seat.take_unreturned(self.call) {
+            return Some(left);
+        }
+        let mut is_again = self.seat.is_parked;
+        loop {
+            if is_again && !self.seat.parker.poll(waker) {
+                return None;
+            }
+            if let Some(answer) = self.ask(is_again) {
+                return Some(answer);
+            }
+            is_again = true;
+        }
+    }
+
+    /// Hands over an answer that this keeps, once the disk has what it rests on.
+    fn landed(&mut self, waker: &Waker) -> Poll<Answer<R>> {
+        match self.settling.take() {
+            Some(settling) if settling.landing.poll(waker) => {
+                Poll::Ready(self.seat.board.settled(settling.position, settling.answer))
+            }
+            settling => {
+                self.settling = settling;
+                Poll::Pending
+            }
+        }
     }
 
     #[cold]
@@ -277,15 +337,15 @@ impl<R: MessageKind, H: Holds<R>> Future for Waiting<'_, '_, '_, R, H> {
         if let Some(polled) = self.explored(context.waker()) {
             return polled;
         }
-        let mut is_again = self.seat.is_parked;
-        loop {
-            if is_again && !self.seat.parker.poll(context.waker()) {
-                return Poll::Pending;
-            }
-            if let Some(answer) = self.ask(is_again) {
-                return Poll::Ready(answer);
-            }
-            is_again = true;
+        if self.settling.is_some() {
+            return self.landed(context.waker());
+        }
+        let Some((answer, position)) = self.answered(context.waker()) else {
+            return Poll::Pending;
+        };
+        match self.land(answer, position) {
+            Some(answer) => Poll::Ready(answer),
+            None => self.landed(context.waker()),
         }
     }
 }
@@ -294,6 +354,9 @@ impl<R: MessageKind, H: Holds<R>> Drop for Waiting<'_, '_, '_, R, H> {
     fn drop(&mut self) {
         if self.is_awaited {
             self.withdraw_explored();
+        }
+        if let Some(settling) = self.settling.take() {
+            self.seat.keep_unreturned(self.call, settling.answer, settling.position);
         }
         self.seat.ready();
     }

@@ -51,7 +51,7 @@ impl<R: MessageKind, H: Holds<R>> Guest<'_, R, H> {
 
 impl<R: MessageKind, H: Holds<R>> Drop for Guest<'_, R, H> {
     fn drop(&mut self) {
-        self.board.change(None, State::remove_guest);
+        self.board.change_unsettled(None, State::remove_guest);
     }
 }
 

@@ -7,6 +7,7 @@ use crate::journal::full::WhenFull;
 use crate::journal::Journal;
 use crate::message::carries::MessageKind;
 use crate::raw::{self, done, EntrySource, Reader, Taking};
+use crate::switchboard::state::State;
 use crate::switchboard::Switchboard;
 use std::io;
 
@@ -154,7 +155,7 @@ impl<R: MessageKind> Switchboard<R> {
     /// `NoMemory`.
     pub fn compact(&self) -> Result<Journal<R>, Error> {
         self.pass_to_look_at_all();
-        self.locked()?.compact()
+        self.look(State::compact)?
     }
 
     /// Returns a short journal as [`compact`](Switchboard::compact) does, and cuts the journal at
@@ -273,7 +274,7 @@ impl<R: MessageKind> Switchboard<R> {
     /// ```
     pub fn entry(&self, at: u64) -> Option<Entry<R>> {
         self.pass_to_look_at_all();
-        found(R::entry(&mut self.looked_at().handle, EntrySource::Room, at))
+        found(self.looked_at(|state| R::entry(&mut state.handle, EntrySource::Room, at)))
     }
 
     /// How many calls were accepted since the switchboard was made.
@@ -288,7 +289,7 @@ impl<R: MessageKind> Switchboard<R> {
     /// ```
     pub fn entries(&self) -> u64 {
         self.pass_to_look_at_all();
-        self.looked_at().count(Reader::Entries)
+        self.looked_at(|state| state.count(Reader::Entries))
     }
 
     /// How many of them were cut away.
@@ -304,7 +305,7 @@ impl<R: MessageKind> Switchboard<R> {
     /// ```
     pub fn cut_at(&self) -> u64 {
         self.pass_to_look_at_all();
-        self.looked_at().count(Reader::CutAt)
+        self.looked_at(|state| state.count(Reader::CutAt))
     }
 
     /// Says what becomes of a full journal. Until you say it, a call fails with `JournalFull` if
@@ -386,6 +387,7 @@ impl<R: MessageKind> Switchboard<R> {
     /// # Ok::<(), seryugo::Error>(())
     /// ```
     pub fn keeping_error(&self) -> Option<io::Error> {
-        self.looked_at().keeping_error()
+        let state = self.locked();
+        state.unwrap_or_else(|forked| panic!("{forked}")).keeping_error()
     }
 }

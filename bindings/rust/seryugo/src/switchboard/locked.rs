@@ -5,7 +5,7 @@ use crate::message::carries::MessageKind;
 use crate::park::backoff;
 use crate::park::parker::{Parker, Woken};
 use crate::park::yields::pass_by_yielding;
-use crate::raw::{code, Handle};
+use crate::raw::{code, done, Handle};
 use crate::switchboard::call::{Ask, Outcome};
 use crate::switchboard::lock::Guard;
 use crate::switchboard::state::State;
@@ -21,46 +21,82 @@ const YIELDS: u32 = 4;
 
 impl<R: MessageKind> Switchboard<R> {
     /// Makes a call under the lock, unlocks the room, and then wakes the next seat that is due. If
-    /// the call is that of a seat, `by` is the seat's parker.
+    /// the call is that of a seat, `by` is the seat's parker. Blocks until the disk has what the
+    /// answer rests on, if the file is kept there.
     #[inline]
     pub(crate) fn change<T: Outcome>(
         &self,
         by: Option<&Parker>,
         call: impl FnOnce(&mut State<R>) -> T,
     ) -> T {
+        self.change_as::<true, T>(by, call).0
+    }
+
+    /// Makes such a call, and doesn't wait for the disk: its answer says nothing.
+    pub(crate) fn change_unsettled<T: Outcome>(
+        &self,
+        by: Option<&Parker>,
+        call: impl FnOnce(&mut State<R>) -> T,
+    ) {
+        self.change_as::<false, T>(by, call);
+    }
+
+    /// Makes such a call. If it doesn't settle, this returns the position up to which its answer rests
+    /// on the file. What settles does so where the file is, so that calls without one look at nothing.
+    #[inline]
+    fn change_as<const SETTLES: bool, T: Outcome>(
+        &self,
+        by: Option<&Parker>,
+        call: impl FnOnce(&mut State<R>) -> T,
+    ) -> (T, u64) {
         // It is dropped after the lock.
         let panicking = Panicking { board: self, by };
         let Some(mut state) = self.lock_for_call() else {
             mem::forget(panicking);
-            return T::refused(code::FORKED);
+            return (T::refused(code::FORKED), 0);
         };
         let answer = state.call(call);
         if state.has_file() {
             mem::forget(panicking);
-            return self.keep_call(state, by, answer, None);
+            return self.keep_call::<SETTLES, T>(state, by, answer, None);
         }
         let due = state.next_due();
         drop(state);
         mem::forget(panicking);
         self.wake_at(due, by);
-        answer
+        (answer, 0)
     }
 
-    /// The same for a call that may park the seat, or that of a parked seat again.
+    /// Makes a call that may park the seat, or that of a parked seat again, as `change` does.
     #[inline]
     pub(crate) fn ask(&self, by: &Parker, ask: Ask, call: impl FnOnce(&mut Handle) -> u32) -> u32 {
+        self.ask_as::<true>(by, ask, call).0
+    }
+
+    /// Makes such a call, as `change_as` does.
+    #[inline]
+    pub(crate) fn ask_as<const SETTLES: bool>(
+        &self,
+        by: &Parker,
+        ask: Ask,
+        call: impl FnOnce(&mut Handle) -> u32,
+    ) -> (u32, u64) {
         let panicking = Panicking {
             board: self,
             by: Some(by),
         };
         let Some(mut state) = self.lock_for_call() else {
             mem::forget(panicking);
-            return code::FORKED;
+            return (code::FORKED, 0);
         };
         let code = state.ask_by(by, ask, call);
         if state.has_file() {
             mem::forget(panicking);
-            return self.keep_call(state, Some(by), code, Some(ask.seat));
+            if code == code::PARKED {
+                // It has no answer yet.
+                return self.keep_call::<false, u32>(state, Some(by), code, Some(ask.seat));
+            }
+            return self.keep_call::<SETTLES, u32>(state, Some(by), code, Some(ask.seat));
         }
         // A call that parks a free seat makes no seat due. If others were due before, a call that
         // wakes them is on its way.
@@ -69,24 +105,24 @@ impl<R: MessageKind> Switchboard<R> {
         drop(state);
         mem::forget(panicking);
         self.wake_at(due, Some(by));
-        code
+        (code, 0)
     }
 
     /// Ends a call on a switchboard whose journal has a file. Before the lock is free, the file has
     /// the call's entries. If it hasn't, this refuses the call, and the seat of this number waits no
-    /// longer.
+    /// longer. It settles the answer, or returns the position up to which it rests on the file.
     #[cold]
-    fn keep_call<T: Outcome>(
+    fn keep_call<const SETTLES: bool, T: Outcome>(
         &self,
         mut state: Guard<'_, State<R>>,
         by: Option<&Parker>,
         answer: T,
         seat: Option<u64>,
-    ) -> T {
+    ) -> (T, u64) {
         let answer = match state.note() {
             code::DONE => answer,
             // The threads that wait are the parent's.
-            code::FORKED => return T::refused(code::FORKED),
+            code::FORKED => return (T::refused(code::FORKED), 0),
             refusal => {
                 if let Some(seat) = seat {
                     state.withdraw(seat);
@@ -94,13 +130,40 @@ impl<R: MessageKind> Switchboard<R> {
                 T::refused(refusal)
             }
         };
-        let (due, lost) = (state.next_due(), state.newly_lost());
+        let (due, lost, position) = (state.next_due(), state.newly_lost(), state.position());
         drop(state);
         match lost {
             0 => self.wake_at(due, by),
             seats => self.wake_all(seats, by),
         }
-        answer
+        match SETTLES {
+            true => (self.settled(position, answer), 0),
+            false => (answer, position),
+        }
+    }
+
+    /// This answer, once the file is on the disk up to this position. 0: it waits for nothing.
+    #[inline]
+    pub(crate) fn settled<T: Outcome>(&self, position: u64, answer: T) -> T {
+        match position {
+            0 => answer,
+            _ => self.settle(position, answer),
+        }
+    }
+
+    /// Blocks until the file is on the disk up to there, without the lock. If a sync fails, this
+    /// refuses the answer, and all who wait fail too.
+    #[cold]
+    fn settle<T: Outcome>(&self, position: u64, answer: T) -> T {
+        let code = self.file.as_ref().map_or(code::DONE, |opened| opened.file.wait(position));
+        if code == code::DONE {
+            return answer;
+        }
+        if code == code::FILE_LOST {
+            let seats = self.lock().newly_lost();
+            self.wake_all(seats, None);
+        }
+        T::refused(code)
     }
 
     /// Wakes this many seats: those that wait ask again, and their calls fail too.
@@ -111,21 +174,36 @@ impl<R: MessageKind> Switchboard<R> {
         }
     }
 
-    /// The room, for a look or a call that makes no seat due. `Forked` in a child of a fork.
+    /// Looks at the room. Blocks until the disk has what was seen, if the file is kept there.
+    pub(crate) fn look<T>(&self, look: impl FnOnce(&mut State<R>) -> T) -> Result<T, Error> {
+        let mut state = self.locked()?;
+        let seen = look(&mut state);
+        if state.position() != 0 {
+            // The file may have had no room for the entries of an earlier call.
+            done(state.note())?;
+        }
+        let position = state.position();
+        drop(state);
+        self.settled(position, Ok(seen))
+    }
+
+    /// Looks so where no look can fail.
+    ///
+    /// # Panics
+    ///
+    /// In a child of a fork, if a file keeps the journal; and once a file is lost that is kept on the
+    /// disk, since nobody knows what is there.
+    pub(crate) fn looked_at<T>(&self, look: impl FnOnce(&mut State<R>) -> T) -> T {
+        self.look(look).unwrap_or_else(|error| panic!("{error}"))
+    }
+
+    /// The room, for a call that makes no seat due and tells nothing of it. `Forked` in a child of a
+    /// fork.
     pub(crate) fn locked(&self) -> Result<Guard<'_, State<R>>, Error> {
         match self.is_forked() {
             true => Err(Error::Forked),
             false => Ok(self.lock()),
         }
-    }
-
-    /// The room, for a look that can't fail.
-    ///
-    /// # Panics
-    ///
-    /// In a child of a fork, if a file keeps the journal.
-    pub(crate) fn looked_at(&self) -> Guard<'_, State<R>> {
-        self.locked().unwrap_or_else(|forked| panic!("{forked}"))
     }
 
     /// The room, where no child of a fork comes. A thread that panicked left it between two calls,

@@ -260,7 +260,7 @@ impl<R: MessageKind> Switchboard<R> {
         let variable = self.here(variable)?;
         self.pass_to_look(variable);
         let mut found = R::nothing();
-        let code = R::held(&mut self.locked()?.handle, variable, &mut found);
+        let code = self.look(|state| R::held(&mut state.handle, variable, &mut found))?;
         match code {
             code::NOTHING => Ok(None),
             code => received::<R, _>(code, &found).map(Some),
@@ -287,7 +287,7 @@ impl<R: MessageKind> Switchboard<R> {
     pub fn is_open<T>(&self, port: Port<T>) -> Result<bool, Error> {
         let port = self.here(port)?;
         self.pass_to_look(port);
-        Ok(raw::read(&mut self.locked()?.handle, Reader::IsOpen, port)? != 0)
+        Ok(self.look(|state| raw::read(&mut state.handle, Reader::IsOpen, port))?? != 0)
     }
 
     /// A port's channel.
@@ -339,6 +339,6 @@ impl<R: MessageKind> Switchboard<R> {
     /// A number that the object with this number has.
     fn number_of(&self, object: u64, reader: Reader) -> Result<u64, Error> {
         self.pass_to_look(object);
-        raw::read(&mut self.locked()?.handle, reader, object)
+        self.look(|state| raw::read(&mut state.handle, reader, object))?
     }
 }

@@ -96,6 +96,11 @@ impl<R: MessageKind> State<R> {
         self.file.as_ref().map_or(code::DONE, |file| file.note(&mut self.handle))
     }
 
+    /// What a call waits for that ends now, before it returns: a position in the file. 0: for nothing.
+    pub fn position(&self) -> u64 {
+        self.file.as_ref().map_or(0, |file| file.position())
+    }
+
     /// Returns how many parkers are to be woken, if the file was lost just now: those of all seats.
     pub fn newly_lost(&mut self) -> u64 {
         let is_lost = self.file.as_ref().is_some_and(|file| file.state() == code::FILE_LOST);
