@@ -21,7 +21,7 @@ static struct seryugo_file *file;
 static struct seryugo_file_found found;
 static bool has_room;
 static uint64_t short_from;
-static char content[4 << 20];
+static char content[8 << 20];
 
 static void free_all(void)
 {
