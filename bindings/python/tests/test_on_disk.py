@@ -120,6 +120,7 @@ class OnDisk(InFolder):
             self.disk.hold()
             received = asyncio.ensure_future(self.ben.recv_async(self.letters))
             while not self.disk.waits.is_set():
+                self.assertFalse(received.done())
                 await asyncio.sleep(0.001)
             await asyncio.sleep(A_WHILE)
             self.assertFalse(received.done())
@@ -138,6 +139,7 @@ class OnDisk(InFolder):
             self.disk.hold()
             received = asyncio.ensure_future(call(source))
             while not self.disk.waits.is_set():
+                self.assertFalse(received.done())
                 await asyncio.sleep(0.001)
             received.cancel()
             with self.assertRaises(asyncio.CancelledError):

@@ -3,7 +3,7 @@
 
 mod common;
 
-use common::{block_on, poll_once, Scratch};
+use common::{block_on, poll_once, without_a_hang, Scratch};
 use seryugo::{Error, JournalFile, Keep, Seat, Switchboard};
 use std::ffi::c_int;
 use std::pin::pin;
@@ -119,168 +119,180 @@ fn opened(scratch: &Scratch) -> Switchboard {
 
 #[test]
 fn a_call_and_a_reader_return_what_is_on_the_disk() {
-    let (_turn, scratch) = (Turn::new(), Scratch::new("disk-call"));
-    let board = opened(&scratch);
-    let mut seat = board.seat().unwrap();
-    let letters = seat.mailbox_again::<u64>(0).unwrap();
-    hold();
-    thread::scope(|scope| {
-        let sender = scope.spawn(|| (seat.send(letters, 5), is_free()));
-        await_sync();
-        let owed = scope.spawn(|| (board.owed(letters), is_free()));
-        let entries = scope.spawn(|| (board.entries(), is_free()));
-        let short = scope.spawn(|| (board.compact().map(|short| short.len()), is_free()));
-        free_later();
-        assert_eq!(sender.join().unwrap(), (Ok(()), true));
-        assert_eq!(owed.join().unwrap(), (Ok(1), true));
-        assert_eq!(entries.join().unwrap(), (2, true));
-        assert_eq!(short.join().unwrap(), (Ok(2), true));
+    without_a_hang(|| {
+        let (_turn, scratch) = (Turn::new(), Scratch::new("disk-call"));
+        let board = opened(&scratch);
+        let mut seat = board.seat().unwrap();
+        let letters = seat.mailbox_again::<u64>(0).unwrap();
+        hold();
+        thread::scope(|scope| {
+            let sender = scope.spawn(|| (seat.send(letters, 5), is_free()));
+            await_sync();
+            let owed = scope.spawn(|| (board.owed(letters), is_free()));
+            let entries = scope.spawn(|| (board.entries(), is_free()));
+            let short = scope.spawn(|| (board.compact().map(|short| short.len()), is_free()));
+            free_later();
+            assert_eq!(sender.join().unwrap(), (Ok(()), true));
+            assert_eq!(owed.join().unwrap(), (Ok(1), true));
+            assert_eq!(entries.join().unwrap(), (2, true));
+            assert_eq!(short.join().unwrap(), (Ok(2), true));
+        });
     });
 }
 
 #[test]
 fn a_call_with_a_time_limit_waits_for_the_disk() {
-    let (_turn, scratch) = (Turn::new(), Scratch::new("disk-timed"));
-    let board = opened(&scratch);
-    let (mut ann, mut ben, mut carol) =
-        (board.seat().unwrap(), board.seat().unwrap(), board.seat().unwrap());
-    let letters = ann.mailbox_again::<u64>(0).unwrap();
-    let others = ann.mailbox_again::<u64>(1).unwrap();
-    let limit = Duration::from_millis(1);
-    hold();
-    thread::scope(|scope| {
-        let sender = scope.spawn(|| (ann.send(letters, 5), is_free()));
-        await_sync();
-        let receiver = scope.spawn(|| (ben.recv_timeout(letters, limit), is_free()));
-        let late = scope.spawn(|| (carol.recv_timeout(others, limit), is_free()));
-        free_later();
-        assert_eq!(sender.join().unwrap(), (Ok(()), true));
-        assert_eq!(receiver.join().unwrap(), (Ok(5), true));
-        assert_eq!(late.join().unwrap(), (Err(Error::TimedOut), true));
+    without_a_hang(|| {
+        let (_turn, scratch) = (Turn::new(), Scratch::new("disk-timed"));
+        let board = opened(&scratch);
+        let (mut ann, mut ben, mut carol) =
+            (board.seat().unwrap(), board.seat().unwrap(), board.seat().unwrap());
+        let letters = ann.mailbox_again::<u64>(0).unwrap();
+        let others = ann.mailbox_again::<u64>(1).unwrap();
+        let limit = Duration::from_millis(1);
+        hold();
+        thread::scope(|scope| {
+            let sender = scope.spawn(|| (ann.send(letters, 5), is_free()));
+            await_sync();
+            let receiver = scope.spawn(|| (ben.recv_timeout(letters, limit), is_free()));
+            let late = scope.spawn(|| (carol.recv_timeout(others, limit), is_free()));
+            free_later();
+            assert_eq!(sender.join().unwrap(), (Ok(()), true));
+            assert_eq!(receiver.join().unwrap(), (Ok(5), true));
+            assert_eq!(late.join().unwrap(), (Err(Error::TimedOut), true));
+        });
     });
 }
 
 #[test]
 fn a_future_waits_for_the_disk_and_blocks_no_thread() {
-    let (_turn, scratch) = (Turn::new(), Scratch::new("disk-future"));
-    let board = opened(&scratch);
-    let (mut ann, mut ben) = (board.seat().unwrap(), board.seat().unwrap());
-    let letters = ann.mailbox_again::<u64>(0).unwrap();
-    hold();
-    thread::scope(|scope| {
-        let sender = scope.spawn(|| ann.send(letters, 5));
-        await_sync();
-        let mut received = pin!(ben.recv_async(letters));
-        assert_eq!(poll_once(received.as_mut()), Poll::Pending);
-        assert_eq!(poll_once(received.as_mut()), Poll::Pending);
-        let waiter = scope.spawn(|| {
-            free_later();
-            sender.join().unwrap()
+    without_a_hang(|| {
+        let (_turn, scratch) = (Turn::new(), Scratch::new("disk-future"));
+        let board = opened(&scratch);
+        let (mut ann, mut ben) = (board.seat().unwrap(), board.seat().unwrap());
+        let letters = ann.mailbox_again::<u64>(0).unwrap();
+        hold();
+        thread::scope(|scope| {
+            let sender = scope.spawn(|| ann.send(letters, 5));
+            await_sync();
+            let mut received = pin!(ben.recv_async(letters));
+            assert_eq!(poll_once(received.as_mut()), Poll::Pending);
+            assert_eq!(poll_once(received.as_mut()), Poll::Pending);
+            let waiter = scope.spawn(|| {
+                free_later();
+                sender.join().unwrap()
+            });
+            // It ends only if its waker is called.
+            assert_eq!(block_on(received), Ok(5));
+            assert!(is_free());
+            assert_eq!(waiter.join().unwrap(), Ok(()));
         });
-        // It ends only if its waker is called.
-        assert_eq!(block_on(received), Ok(5));
-        assert!(is_free());
-        assert_eq!(waiter.join().unwrap(), Ok(()));
     });
 }
 
 /// Nobody else has the file synced.
 #[test]
 fn a_future_has_a_sync_made() {
-    let (_turn, scratch) = (Turn::new(), Scratch::new("disk-asked"));
-    let board = opened(&scratch);
-    let mut seat = board.seat().unwrap();
-    let letters = seat.mailbox_again::<u64>(0).unwrap();
-    seat.send(letters, 5).unwrap();
-    let before = disk().syncs;
-    assert_eq!(block_on(seat.recv_async(letters)), Ok(5));
-    assert_eq!(disk().syncs, before + 1);
-    drop(seat);
-    board.close().unwrap();
-    assert_eq!(disk().syncs, before + 1, "all was on the disk");
+    without_a_hang(|| {
+        let (_turn, scratch) = (Turn::new(), Scratch::new("disk-asked"));
+        let board = opened(&scratch);
+        let mut seat = board.seat().unwrap();
+        let letters = seat.mailbox_again::<u64>(0).unwrap();
+        seat.send(letters, 5).unwrap();
+        let before = disk().syncs;
+        assert_eq!(block_on(seat.recv_async(letters)), Ok(5));
+        assert_eq!(disk().syncs, before + 1);
+        drop(seat);
+        board.close().unwrap();
+        assert_eq!(disk().syncs, before + 1, "all was on the disk");
+    });
 }
 
 /// The seat's next call for the same returns what it has received, once that is on the disk.
 #[test]
 fn a_future_that_is_dropped_while_it_waits_for_the_disk_loses_no_message() {
-    let (_turn, scratch) = (Turn::new(), Scratch::new("disk-dropped"));
-    let board = opened(&scratch);
-    let mut seat = board.seat().unwrap();
-    let letters = seat.mailbox_again::<String>(0).unwrap();
-    let others = seat.mailbox_again::<String>(1).unwrap();
-    let last = seat.mvar_again::<u64>(2).unwrap();
-    for letter in ["one", "two", "three", "four", "five", "six"] {
-        seat.send(letters, letter).unwrap();
-    }
-    seat.send(others, "another").unwrap();
-    seat.put(last, 7).unwrap();
-    let drop_one = |seat: &mut Seat<'_>| {
-        hold();
+    without_a_hang(|| {
+        let (_turn, scratch) = (Turn::new(), Scratch::new("disk-dropped"));
+        let board = opened(&scratch);
+        let mut seat = board.seat().unwrap();
+        let letters = seat.mailbox_again::<String>(0).unwrap();
+        let others = seat.mailbox_again::<String>(1).unwrap();
+        let last = seat.mvar_again::<u64>(2).unwrap();
+        for letter in ["one", "two", "three", "four", "five", "six"] {
+            seat.send(letters, letter).unwrap();
+        }
+        seat.send(others, "another").unwrap();
+        seat.put(last, 7).unwrap();
+        let drop_one = |seat: &mut Seat<'_>| {
+            hold();
+            assert_eq!(poll_once(pin!(seat.recv_async(letters))), Poll::Pending);
+        };
+        drop_one(&mut seat);
+        // This one finds the first, and is dropped too.
         assert_eq!(poll_once(pin!(seat.recv_async(letters))), Poll::Pending);
-    };
-    drop_one(&mut seat);
-    // This one finds the first, and is dropped too.
-    assert_eq!(poll_once(pin!(seat.recv_async(letters))), Poll::Pending);
-    free();
-    assert_eq!(seat.recv(others).unwrap(), "another");
-    assert_eq!(block_on(seat.recv_async(letters)).unwrap(), "one");
-    drop_one(&mut seat);
-    free();
-    assert_eq!(seat.recv(letters).unwrap(), "two");
-    drop_one(&mut seat);
-    free();
-    assert_eq!(seat.recv_poll(letters).unwrap().unwrap(), "three");
-    drop_one(&mut seat);
-    free();
-    assert_eq!(seat.recv_timeout(letters, Duration::ZERO).unwrap(), "four");
-    hold();
-    assert_eq!(poll_once(pin!(seat.take_async(last))), Poll::Pending);
-    free();
-    assert_eq!(seat.take_poll(last).unwrap(), Some(7));
-    assert_eq!(seat.recv(letters).unwrap(), "five");
-    // What nobody asked for again goes with the seat.
-    drop_one(&mut seat);
-    free();
-    drop(seat);
-    assert_eq!(board.owed(letters), Ok(0));
-    board.close().unwrap();
+        free();
+        assert_eq!(seat.recv(others).unwrap(), "another");
+        assert_eq!(block_on(seat.recv_async(letters)).unwrap(), "one");
+        drop_one(&mut seat);
+        free();
+        assert_eq!(seat.recv(letters).unwrap(), "two");
+        drop_one(&mut seat);
+        free();
+        assert_eq!(seat.recv_poll(letters).unwrap().unwrap(), "three");
+        drop_one(&mut seat);
+        free();
+        assert_eq!(seat.recv_timeout(letters, Duration::ZERO).unwrap(), "four");
+        hold();
+        assert_eq!(poll_once(pin!(seat.take_async(last))), Poll::Pending);
+        free();
+        assert_eq!(seat.take_poll(last).unwrap(), Some(7));
+        assert_eq!(seat.recv(letters).unwrap(), "five");
+        // What nobody asked for again goes with the seat.
+        drop_one(&mut seat);
+        free();
+        drop(seat);
+        assert_eq!(board.owed(letters), Ok(0));
+        board.close().unwrap();
+    });
 }
 
 #[test]
 fn a_failed_sync_fails_all_who_wait() {
-    let (_turn, scratch) = (Turn::new(), Scratch::new("disk-failed"));
-    let board = opened(&scratch);
-    let (mut ann, mut ben, mut carol) =
-        (board.seat().unwrap(), board.seat().unwrap(), board.seat().unwrap());
-    let letters = ann.mailbox_again::<u64>(0).unwrap();
-    let others = ann.mailbox_again::<u64>(1).unwrap();
-    let channel = ann.channel_again::<u64>(2).unwrap();
-    let mut feed = board.feed(channel, 4).unwrap();
-    ann.multicast(channel, 7).unwrap();
-    hold();
-    thread::scope(|scope| {
-        let waiter = scope.spawn(|| carol.recv(others));
-        let sender = scope.spawn(|| ann.send(letters, 5).map_err(|refused| refused.error));
-        await_sync();
-        let mut received = pin!(ben.recv_async(letters));
-        assert_eq!(poll_once(received.as_mut()), Poll::Pending);
-        let reader = scope.spawn(|| board.owed(letters));
-        let pump = scope.spawn(|| (feed.pump(), feed.recv()));
-        fail_later();
-        for error in [
-            sender.join().unwrap().unwrap_err(),
-            block_on(received).unwrap_err(),
-            reader.join().unwrap().unwrap_err(),
-            waiter.join().unwrap().unwrap_err(),
-        ] {
-            assert!(matches!(error, Error::FileLost(_)), "{error:?}");
-        }
-        let (pumped, fed) = pump.join().unwrap();
-        assert!(matches!(pumped, Err(Error::FileLost(_))), "{pumped:?}");
-        assert!(matches!(fed, Err(Error::FileLost(_)) | Ok(None)), "{fed:?}");
+    without_a_hang(|| {
+        let (_turn, scratch) = (Turn::new(), Scratch::new("disk-failed"));
+        let board = opened(&scratch);
+        let (mut ann, mut ben, mut carol) =
+            (board.seat().unwrap(), board.seat().unwrap(), board.seat().unwrap());
+        let letters = ann.mailbox_again::<u64>(0).unwrap();
+        let others = ann.mailbox_again::<u64>(1).unwrap();
+        let channel = ann.channel_again::<u64>(2).unwrap();
+        let mut feed = board.feed(channel, 4).unwrap();
+        ann.multicast(channel, 7).unwrap();
+        hold();
+        thread::scope(|scope| {
+            let waiter = scope.spawn(|| carol.recv(others));
+            let sender = scope.spawn(|| ann.send(letters, 5).map_err(|refused| refused.error));
+            await_sync();
+            let mut received = pin!(ben.recv_async(letters));
+            assert_eq!(poll_once(received.as_mut()), Poll::Pending);
+            let reader = scope.spawn(|| board.owed(letters));
+            let pump = scope.spawn(|| (feed.pump(), feed.recv()));
+            fail_later();
+            for error in [
+                sender.join().unwrap().unwrap_err(),
+                block_on(received).unwrap_err(),
+                reader.join().unwrap().unwrap_err(),
+                waiter.join().unwrap().unwrap_err(),
+            ] {
+                assert!(matches!(error, Error::FileLost(_)), "{error:?}");
+            }
+            let (pumped, fed) = pump.join().unwrap();
+            assert!(matches!(pumped, Err(Error::FileLost(_))), "{pumped:?}");
+            assert!(matches!(fed, Err(Error::FileLost(_)) | Ok(None)), "{fed:?}");
+        });
+        let cause = board.keeping_error().unwrap().to_string();
+        assert_eq!(cause, "fdatasync: Input/output error");
+        drop((ann, ben, carol, feed));
+        assert!(matches!(board.close(), Err(Error::FileLost(_))));
     });
-    let cause = board.keeping_error().unwrap().to_string();
-    assert_eq!(cause, "fdatasync: Input/output error");
-    drop((ann, ben, carol, feed));
-    assert!(matches!(board.close(), Err(Error::FileLost(_))));
 }
