@@ -308,10 +308,10 @@ static void keep_long_messages(uint32_t flags)
         RETURNS(DONE, seryugo_seat_bytes_send(&seat, 0, bytes, lengths[at]));
     }
     RETURNS(TOO_LONG, seryugo_seat_bytes_send(&seat, 0, bytes, sizeof bytes));
-    RETURNS(DONE, seryugo_seat_bytes_mvar_init(&seat, bytes, 300000, &variable));
-    RETURNS(TOO_LONG, seryugo_seat_bytes_swap(&seat, variable, bytes, 100000, NULL, &message));
-    RETURNS(DONE, seryugo_seat_bytes_swap(&seat, variable, bytes, 70000, NULL, &message));
-    IS(300000, message.length);
+    RETURNS(DONE, seryugo_seat_bytes_mvar_init(&seat, bytes, 1000000, &variable));
+    RETURNS(TOO_LONG, seryugo_seat_bytes_swap(&seat, variable, bytes, 398001, NULL, &message));
+    RETURNS(DONE, seryugo_seat_bytes_swap(&seat, variable, bytes, 398000, NULL, &message));
+    IS(1000000, message.length);
     seryugo_bytes_free(message);
     seryugo_seat_leave(&seat);
     RETURNS(DONE, seryugo_switchboard_close(&board));

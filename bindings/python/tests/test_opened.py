@@ -425,7 +425,7 @@ class Refused(InFolder):
         with board.seat() as seat, board.seat() as other:
             letters, variable = seat.mailbox(bytes), seat.mvar(bytes, bytes(200_000))
             end = self.waiting(board, lambda: other.recv(letters))
-            self.assertRaises(seryugo.TooLong, seat.send, letters, bytes(371_001))
+            self.assertRaises(seryugo.TooLong, seat.send, letters, bytes(1_398_001))
             self.assertRaises(seryugo.TooLong, seat.swap, variable, bytes(171_001))
             self.assertEqual(len(seat.swap(variable, bytes(171_000))), 200_000)
             seat.send(letters, b"\n" * 1_398_000)

@@ -172,7 +172,7 @@ class Texts(unittest.TestCase):
 
     def test_too_long(self):
         mailbox = self.seat.mailbox(str)
-        self.seat.send(mailbox, "\n" * 371_400)
+        self.seat.send(mailbox, "\n" * 1_398_300)
         journal = self.board.take_journal()
         with self.assertRaises(seryugo.TooLong):
             journal.text()

@@ -443,6 +443,6 @@ mod tests {
 
     #[test]
     fn only_a_file_bounds_what_a_lane_takes() {
-        assert!(Switchboard::<Bytes>::new(10).unwrap().takes(&vec![0; 371_001]));
+        assert!(Switchboard::<Bytes>::new(10).unwrap().takes(&vec![0; 1_398_001]));
     }
 }
