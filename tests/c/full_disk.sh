@@ -36,12 +36,12 @@ for system in ext4 tmpfs; do
             mkfs.ext4 -q -F -O ^has_journal "$work/image"
             mount -o loop "$work/image" "$work/disk"
         else
-            mount -t tmpfs -o size=4m tmpfs "$work/disk"
+            mount -t tmpfs -o size=12m tmpfs "$work/disk"
         fi
         : > "$work/all"
-        [ "$kind" = bytes ] && room=1500000 || room=450000
+        [ "$kind" = bytes ] && room=4600000 || room=450000
         run 1 5 0
-        # All but some room is taken: of bytes a line may need more than a megabyte.
+        # All but some room is taken: of bytes a line may need four megabytes.
         free=$(df --output=avail -B 1 "$work/disk" | tail -1)
         head -c $((free - room)) /dev/zero > "$work/disk/filler"
         run 2 1000000 29

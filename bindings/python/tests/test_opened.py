@@ -223,7 +223,7 @@ class Opened(InFolder):
 
     def test_what_a_kill_left_is_cut_off(self):
         self.opened().close()
-        for torn, is_saved in (b"seat 0 mail", False), (b"\0" + b"y" * 1_200_000, True):
+        for torn, is_saved in (b"seat 0 mail", False), (b"\0" + b"y" * 4_300_000, True):
             with open(self.path, "ab") as file:
                 file.write(torn)
             board = self.opened()
@@ -426,7 +426,7 @@ class Refused(InFolder):
             letters, variable = seat.mailbox(bytes), seat.mvar(bytes, bytes(200_000))
             end = self.waiting(board, lambda: other.recv(letters))
             self.assertRaises(seryugo.TooLong, seat.send, letters, bytes(1_398_001))
-            self.assertRaises(seryugo.TooLong, seat.swap, variable, bytes(171_001))
+            self.assertRaises(seryugo.TooLong, seat.swap, variable, bytes(1_198_001))
             self.assertEqual(len(seat.swap(variable, bytes(171_000))), 200_000)
             seat.send(letters, b"\n" * 1_398_000)
             self.assertEqual(end(), b"\n" * 1_398_000)
@@ -439,7 +439,7 @@ class Refused(InFolder):
         with board.seat() as seat, board.seat() as other:
             letters, parcels = seat.mailbox(str), seat.mailbox(bytes)
             end = self.waiting(board, lambda: other.recv(letters))
-            resource.setrlimit(resource.RLIMIT_FSIZE, (3_000_000, limits[1]))
+            resource.setrlimit(resource.RLIMIT_FSIZE, (9_000_000, limits[1]))
             with self.assertRaises(FileFull) as told:
                 for count in range(100):
                     seat.send(parcels, bytes(100_000))
@@ -457,7 +457,7 @@ class Refused(InFolder):
 
     def test_no_space_is_left(self):
         """On a small disk that nobody else sees."""
-        mounts = 'mount -t tmpfs -o size=4m tmpfs "$1" && shift && exec "$@"'
+        mounts = 'mount -t tmpfs -o size=12m tmpfs "$1" && shift && exec "$@"'
         command = ["unshare", "-m", "sh", "-c", mounts, "sh", str(self.folder)]
         if os.getuid() != 0 or subprocess.run([*command, "true"]).returncode != 0:
             self.skipTest("only root can mount a small disk")

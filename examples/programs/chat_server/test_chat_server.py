@@ -397,9 +397,9 @@ class ChatServer(ServerCases):
     def test_no_space(self):
         """The file can't grow: the server ends, and the next one goes on.
 
-        A file has room ahead for the longest line, of more than a megabyte.
+        A file has room ahead for the longest line, of four megabytes.
         """
-        self.begin(wrapper=limited(4096))
+        self.begin(wrapper=limited(12288))
         clients = self.many("--clients", 20, "--messages", 100, "--rooms", 2)
         with self.case("a file that can't grow"):
             self.assertEqual(self.server.ends(), 4, self.server.errors())

@@ -18,7 +18,7 @@ KILLS = 5
 GROWTH = 50000
 
 # A disk of this many kilobytes: a file grows ahead by some megabytes.
-DISK = 12000
+DISK = 24000
 
 GOES_ON = "it can't be made short, and goes on: "
 

@@ -73,7 +73,7 @@ fn a_send_to_a_full_disk_says_that_no_space_is_left() {
         return;
     }
     let scratch = Scratch::new("space");
-    let mounts = format!("mount -t tmpfs -o size=4m tmpfs '{}' &&", scratch.0.display());
+    let mounts = format!("mount -t tmpfs -o size=12m tmpfs '{}' &&", scratch.0.display());
     let run = script_apart("fills_a_disk", &mounts);
     let mut other = Command::new("unshare");
     let other = other.args(["-m", "sh", "-c", &run]).env("SERYUGO_PATH", scratch.path()).output();
@@ -131,7 +131,7 @@ fn closes_in_vain() {
 #[test]
 fn long_messages_of_a_lane_meet_a_full_disk() {
     let scratch = Scratch::new("lane");
-    let other = run_apart("fills_a_file_by_a_lane", "ulimit -S -f 3000 &&", &scratch.path());
+    let other = run_apart("fills_a_file_by_a_lane", "ulimit -S -f 11200 &&", &scratch.path());
     assert!(other.status.success(), "{other:?}");
     let board = Switchboard::open(scratch.path()).unwrap();
     assert_eq!(board.owed(board.mailbox::<Vec<u8>>(0).unwrap()), Ok(3));
