@@ -5,16 +5,13 @@ mod boards;
 mod calls;
 mod clients;
 mod examples;
-mod feeds;
 mod journals;
-mod keeper;
 mod lanes;
 mod passing;
 mod requests;
 mod rooms;
 mod server;
 mod sinks;
-mod stream;
 mod threads;
 
 use std::alloc::Global;
@@ -48,11 +45,10 @@ fn show_boards(rt: &HostRuntime) -> io::Result<()> {
 
 fn show_rest(rt: &HostRuntime) -> io::Result<()> {
     show_each!(rt, (rt.alloc());
-        requests::kept, journals::checked_in_pieces, journals::restored, rooms::received_in_turn)
+        requests::kept, journals::restored, rooms::received_in_turn)
 }
 
 fn show_threads<R: Threads + Wait + Sync + Print>(rt: &R, alloc: Global) -> io::Result<()> {
     show_each!(rt, (rt, alloc);
-        passing::passed_on, requests::passed_on, stream::read_by_three,
-        lanes::collected, feeds::shown, server::ran_on, sinks::counted_by_four)
+        passing::passed_on, lanes::collected, server::ran_on, sinks::counted_by_four)
 }

@@ -3,14 +3,9 @@ ghost use Rattle.std.specs.Prelude.{◌≡◌, false, IfOk, IfErr, OnErr};
 ghost use Rattle.cml_board.specs.{IsAsBefore};
 
 use crate::calls::{BoardOf, SEAT, Trouble, make};
-use crate::passing::pass_on;
-use cml_board::{BoardLog, Call, Message, Name, Outcome, Refusal};
-use cml_threads::{Count, PARTS};
+use cml_board::{Call, Message, Name, Outcome, Refusal};
 use std::alloc::{AllocError, Global};
-use std::marker::{Brand, Model};
-use std::sync::Wait;
-use std::sync::ledger::Blank;
-use std::thread::Threads;
+use std::marker::Model;
 
 /// What a client asks for: a name, which it owns, and a number. Contracts see both, and not where the name lies.
 #[derive(Debug, Drop)]
@@ -68,13 +63,13 @@ pub fn send_or_keep<M: Message>(
     }
 }
 
-/// A board whose journal has room for one request.
-pub fn kept(alloc: Global) -> Result<[Result<(), (Refusal, Request)>; 2], Trouble> {
+/// A board whose journal has room for one request: the second comes back.
+pub fn kept(alloc: Global) -> Result<Result<(), (Refusal, Request)>, Trouble> {
     let mut board = BoardOf::<Request>::new(alloc, 2)?;
     let requests = make(&mut board, Call::NewMailbox)?;
-    let first = send_new(alloc, &mut board, requests, ("coffee", 7))?;
-    let second = send_new(alloc, &mut board, requests, ("tea", 8))?;
-    Ok([first, second])
+    let _sent = send_new(alloc, &mut board, requests, ("coffee", 7))?;
+    let kept = send_new(alloc, &mut board, requests, ("tea", 8))?;
+    Ok(kept)
 }
 
 /// Makes a request and sends it, or keeps it.
@@ -86,15 +81,4 @@ fn send_new(
 ) -> Result<Result<(), (Refusal, Request)>, AllocError> {
     let request = Request::new(alloc, what.0, what.1)?;
     Ok(send_or_keep(board, requests, request))
-}
-
-/// One thread sends a request and another receives it. Returns the request, and how many entries there are at the end.
-pub fn passed_on<R: Threads + Wait + Sync>(
-    rt: &R,
-    alloc: Global,
-) -> Result<(Request, Count), Trouble>
-    ensures counted { IfOk result (λ found. found.1.seats ≡ 3) }
-{
-    let coffee = Request::new(alloc, "coffee", 7)?;
-    pass_on::<Request, BoardLog<Request>, Brand, R>(rt, alloc, coffee, Blank::new(PARTS))
 }

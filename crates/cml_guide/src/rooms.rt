@@ -1,7 +1,7 @@
 //! Seats that one thread plays in turn, or threads that share their own lock: no call of a room blocks.
 
 use crate::calls::{Trouble, message_of, name_of};
-use cml_board::{BoardLog, Call, Outcome, Reply};
+use cml_board::{BoardLog, Call, Message, Outcome, Reply};
 use cml_room::{Room, State};
 use std::alloc::Global;
 
@@ -37,7 +37,7 @@ fn pass_on(
 }
 
 /// The reply of a call that must be answered at once.
-fn reply(outcome: Outcome<u64>) -> Result<Reply<u64>, Trouble> {
+fn reply<M: Message>(outcome: Outcome<M>) -> Result<Reply<M>, Trouble> {
     match outcome {
         Outcome::Answered(answer) => Ok(answer.into_reply()),
         Outcome::WouldWait(_) => Err(Trouble::WouldWait),

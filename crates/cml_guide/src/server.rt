@@ -1,12 +1,11 @@
-//! A server that runs on. It hands out tickets, and takes its journal again and again, so that the journal is never full.
+//! A server that hands out tickets until all its clients have left.
 ghost use Rattle.std.specs.Prelude.{◌≡◌, ◌+◌, IfOk};
 
 use crate::calls::Trouble;
 use crate::clients::{Client, Visit, ask_and_leave};
 use crate::examples::run_on;
-use crate::keeper::Keeper;
-use crate::threads::{Came, Ended, Shared, join_all, made};
-use cml_board::{BoardLog, Call, Name, Refusal, Reply};
+use crate::threads::{Came, Shared, done, join_all, made};
+use cml_board::{BoardLog, Name, Refusal, Reply};
 use cml_log::MessageLog;
 use cml_threads::{Count, Left, PARTS, Seat};
 use std::alloc::Global;
@@ -20,20 +19,8 @@ use std::thread::{JoinHandle, Threads};
 /// How many clients there are.
 const CLIENTS: usize = 3;
 
-/// How many entries the journal takes between two cuts: more than can come before the server takes them.
+/// How many entries the journal takes: more than come.
 pub const LIMIT: u64 = 100_000;
-
-/// The result of a server.
-#[derive(Clone, Copy, Debug)]
-pub struct Served {
-    /// The sum of all tickets that clients got.
-    tickets: u64,
-    is_lawful: bool,
-    was_cut: bool,
-    /// How many entries were checked, piece by piece.
-    entries: u64,
-    count: Count,
-}
 
 /// The server with its mailbox.
 #[derive(Drop)]
@@ -49,29 +36,11 @@ struct Shift<Led: Ledger> {
     left: Left<Led>,
 }
 
-/// Runs the server until all its clients have left, and returns its result.
-pub fn ran_on<R: Threads + Wait + Sync>(rt: &R, alloc: Global) -> Result<Served, Trouble>
-    ensures { IfOk result (λ served. served.count.total ≡ served.count.seats + served.count.rings) }
+/// Runs the server until all its clients have left. Returns the sum of all tickets, and how many entries there are at the end.
+pub fn ran_on<R: Threads + Wait + Sync>(rt: &R, alloc: Global) -> Result<(u64, Count), Trouble>
+    ensures { IfOk result (λ found. found.1.total ≡ found.1.seats + found.1.rings) }
 {
     run_on::<Brand, R>(rt, alloc, Blank::new(PARTS))
-}
-
-/// Checks what has come since the last piece was taken, and reports on all pieces.
-pub fn sum_up<L: MessageLog<u64>>(
-    ended: &Ended<L>,
-    tickets: u64,
-    keeper: &mut Keeper,
-) -> Result<Served, Trouble>
-    ensures { IfOk result (λ served. served.count.total ≡ served.count.seats + served.count.rings) }
-{
-    let is_lawful = keeper.check(ended.board().journal())?;
-    Ok(Served {
-        tickets,
-        is_lawful,
-        was_cut: ended.board().cut_at() > 0,
-        entries: keeper.entries(),
-        count: ended.count(),
-    })
 }
 
 /// Makes all seats, lets the clients in, and serves them until the last has left.
@@ -79,13 +48,12 @@ pub fn open_and_close<Led: Ledger + Send + Sync, R: Threads + Wait + Sync>(
     rt: &R,
     alloc: Global,
     board: &Shared<BoardLog<u64>, Led>,
-    keeper: &mut Keeper,
 ) -> Came<u64, Led> {
     let mut shop = open(rt, board)?;
     let clients = make_clients(rt, alloc, board, &mut shop)?;
     // A thread that runs must be joined, so there is room for all of them before the first starts.
     let running = Vec::with_capacity(alloc, CLIENTS)?;
-    let (visits, shift) = let_in(rt, alloc, board, clients, running, shop, keeper);
+    let (visits, shift) = let_in(rt, alloc, board, clients, running, shop);
     sum_up_day(alloc, visits?, shift)
 }
 
@@ -125,7 +93,6 @@ fn let_in<Led: Ledger + Send + Sync, R: Threads + Wait + Sync>(
     clients: Vec<Client<Led>>,
     running: Vec<JoinHandle<Visit<Led>>>,
     shop: Shop<Led>,
-    keeper: &mut Keeper,
 ) -> (Result<Vec<Visit<Led>>, Trouble>, Shift<Led>) {
     let shut = AtomicBool::new(false);
     let is_shut = &shut;
@@ -141,7 +108,7 @@ fn let_in<Led: Ledger + Send + Sync, R: Threads + Wait + Sync>(
                 }
             };
         }
-        let shift = serve_and_leave(rt, board, shop, keeper);
+        let shift = serve_and_leave(rt, board, shop);
         (join_all(rt, running, visits), shift)
     })
 }
@@ -151,29 +118,26 @@ fn serve_and_leave<L: MessageLog<u64>, Led: Ledger, R: Wait>(
     rt: &R,
     board: &Shared<L, Led>,
     shop: Shop<Led>,
-    keeper: &mut Keeper,
 ) -> Shift<Led> {
     let mut shop = shop;
-    let served = serve(rt, board, &mut shop, keeper);
+    let served = serve(rt, board, &mut shop);
     Shift {
         served,
         left: board.leave(rt, shop.seat),
     }
 }
 
-/// Answers one request after another, and takes the journal as often as it is due, until all clients have left.
+/// Answers one request after another, until all clients have left.
 fn serve<L: MessageLog<u64>, Led: Ledger, R: Wait>(
     rt: &R,
     board: &Shared<L, Led>,
     shop: &mut Shop<Led>,
-    keeper: &mut Keeper,
 ) -> Result<(), Trouble> {
     for ticket in 1..u64::MAX {
         let Some(answers) = next_request(rt, board, shop)? else {
             return Ok(());
         };
-        let answer = board.call(rt, &mut shop.seat, Call::Send(answers, ticket))?;
-        keeper.take_once_due(rt, board, answer.at())?;
+        done(board.send(rt, &mut shop.seat, answers, ticket))?;
     }
     Ok(())
 }
@@ -199,7 +163,8 @@ fn sum_up_day<Led: Ledger>(
     shift: Shift<Led>,
 ) -> Came<u64, Led> {
     shift.served?;
-    let mut lefts = vec![in alloc; shift.left]?;
+    let mut lefts = Vec::new(alloc);
+    lefts.push(shift.left)?;
     let tickets = sum_tickets(visits, &mut lefts)?;
     Ok((tickets, lefts))
 }

@@ -102,7 +102,8 @@ fn begin<L: MessageLog<u64>, Led: Start<u64>, R: Wait>(
 ) -> Result<(Vec<Seat<Led>>, Name), Trouble> {
     let mut first = board.seat(rt)?;
     let counter = name_of(board.reply(rt, &mut first, Call::MVarInit(0))?)?;
-    let mut seats = vec![in alloc; first]?;
+    let mut seats = Vec::new(alloc);
+    seats.push(first)?;
     for _ in 1..THREADS {
         seats.push(board.seat(rt)?)?;
     }

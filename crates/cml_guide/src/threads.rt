@@ -111,7 +111,8 @@ pub fn with_one<T: Drop, Led: Ledger>(
     found: Result<T, Trouble>,
     left: Left<Led>,
 ) -> Came<T, Led> {
-    let lefts = vec![in alloc; left]?;
+    let mut lefts = Vec::new(alloc);
+    lefts.push(left)?;
     Ok((found?, lefts))
 }
 
@@ -125,7 +126,9 @@ pub fn with_both<T: Drop, Led: Ledger>(
     ensures found { IfOk result (λ gave. found ≡ Ok gave.0) }
     ensures seats { IfOk result (λ gave. answers_in gave.1.items ≡ one.share + two.share) }
 {
-    let lefts = vec![in alloc; one, two]?;
+    let mut lefts = Vec::new(alloc);
+    lefts.push(one)?;
+    lefts.push(two)?;
     Ok((found?, lefts))
 }
 
