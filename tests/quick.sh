@@ -18,7 +18,6 @@ steps() {
     echo cml_rows
     echo cml_c
     echo cml_tests
-    echo cml_file_tests
     echo kept_file
     echo refused_bodies
     echo cml_chart
@@ -49,7 +48,7 @@ step() {
         cml_queueing) simulates ;;
         cml_c) calls_from_c ;;
         cml_script_c) replays_from_c ;;
-        cml_tests | cml_file_tests) passes "$1" ;;
+        cml_tests) passes "$1" ;;
         guide | speed) sh "tests/docs/$1.sh" ;;
         refused_bodies) sh tests/libraries/refused_bodies.sh ;;
         kept_file) sh tests/libraries/kept_file.sh ;;
@@ -93,9 +92,7 @@ simulates() {
 
 # passes NAME: the crate's test functions. Here each access to memory is watched too.
 passes() {
-    root=crates/$1/src/lib.rt
-    [ -f "$root" ] || root=crates/$1/src/main.rt
-    compile "$1" "$kit/toolchain" "--test $root" > "$work/$1.ran" 2>&1
+    compile "$1" "$kit/toolchain" "--test crates/$1/src/lib.rt" > "$work/$1.ran" 2>&1
     grep -v '^tests: \| ok$\|^test result: ok\|^run=\|^races: \|^checked: ended' "$work/$1.ran"
     sed -n 's/^test result: .* \([0-9]* passed\); \([0-9]* failed\); .*/\1, \2/p' "$work/$1.ran"
     grep -q '^test result: ok' "$work/$1.ran"

@@ -1,104 +1,108 @@
-//! A seat's calls on a switchboard in a file, and what they tell.
+//! The calls of one seat, each told once it has returned.
 ghost use Rattle.std.specs.Prelude.{◌≡◌, ◌^◌};
 
-use cml_board::{BoardLog, Call, Message};
+use crate::sharing::share;
+use cml_board::{Answer, BoardLog, Call, Message};
 use cml_file::{Failed, KeptSwitchboard, Recovered};
-use cml_journal::Written;
-use cml_threads::{PARTS, Seat};
-use std::alloc::AllocError;
+use cml_journal::{Written, read_entry};
+use cml_threads::Seat;
 use std::fmt::Debug;
-use std::fs::File;
-use std::marker::Brand;
-use std::rt::Files;
+use std::io::{self, ErrorKind};
 use std::sync::Wait;
 use std::sync::ledger::{Blank, Ledger};
+use std::thread::Threads;
 
-/// How a program ends.
-#[derive(Clone, Copy, Debug, PartialEq, Eq)]
-pub enum End {
-    /// It closes the file.
-    Closed,
-    /// It syncs the file, and is killed.
-    Synced,
-    /// It is killed: the switchboard is dropped as it stands.
-    Killed,
-}
+pub type Kept<M, Led> = KeptSwitchboard<M, BoardLog<M>, Led>;
 
-/// Opens a file, makes these calls by one seat, and ends. Tells what was found and what each call returned.
-pub fn run<M: Message + Written + Debug, R: Files<File = File> + AllocGlobal + Wait>(
-    rt: &R,
-    path: &str,
-    calls: Vec<Call<M>>,
-    end: End,
-) -> Result<String, AllocError> {
-    let mut told = String::new(rt.alloc());
-    match Recovered::<M, BoardLog<M>>::open(rt, rt.alloc(), path) {
-        Ok(recovered) => {
-            let (entries, cut) = (recovered.entries(), recovered.cut());
-            write!(told, "{entries} entries, {cut} cut")?;
-            begin(rt, recovered, calls, end, &mut told);
-        }
-        Err(unopened) => write!(told, "{unopened}")?,
-    }
-    Ok(told)
-}
-
-/// Picks the ledger, apart from the file: the prover offers no pick where a function is bounded by files.
-fn begin<M: Message + Written + Debug, R: Wait + AllocGlobal>(
-    rt: &R,
-    recovered: Recovered<M, BoardLog<M>>,
-    calls: Vec<Call<M>>,
-    end: End,
-    told: &mut String,
-) -> Option<()> {
-    play::<M, Brand, R>(rt, recovered, Blank::new(PARTS), calls, end, told)
-}
-
-fn play<M: Message + Written + Debug, Led: Ledger, R: Wait + AllocGlobal>(
-    rt: &R,
-    recovered: Recovered<M, BoardLog<M>>,
-    blank: Blank,
-    calls: Vec<Call<M>>,
-    end: End,
-    told: &mut String,
-) -> Option<()>
+/// Performs the lines of standard input, and closes the file if the last of them says so.
+pub fn play<
+    M: Message + Written + Debug + Send + Sync,
+    Led: Ledger + Send + Sync,
+    R: Input + Print + AllocGlobal + Threads + Wait + Sync,
+>(rt: &R, recovered: Recovered<M, BoardLog<M>>, blank: Blank) -> io::Result<()>
     requires name { blank.name ≡ Led.name }
     requires parts { blank.parts ≡ Led.parts }
     requires enough { blank.parts ≡ 2 ^ 63 }
 {
-    let board = KeptSwitchboard::<M, BoardLog<M>, Led>::of(rt.alloc(), recovered, blank).ok()?;
-    let mut seat = board.seat(rt).ok()?;
-    call_all(rt, &board, &mut seat, calls, told).ok()?;
-    board.leave(rt, seat);
-    match end {
-        End::Closed => board.close(rt).ok(),
-        End::Synced => board.sync(rt).ok(),
-        End::Killed => Some(()),
-    }
-}
-
-fn call_all<M: Message + Written + Debug, Led: Ledger, R: Wait>(
-    rt: &R,
-    board: &KeptSwitchboard<M, BoardLog<M>, Led>,
-    seat: &mut Seat<Led>,
-    calls: Vec<Call<M>>,
-    told: &mut String,
-) -> Result<(), AllocError> {
-    for call in calls {
-        let made = board.reply(rt, seat, call);
-        tell(&made, told)?;
+    let board = Kept::<M, Led>::of(rt.alloc(), recovered, blank)?;
+    let Ok(seat) = board.seat(rt) else {
+        return Err(io::Error::from(ErrorKind::OutOfMemory));
+    };
+    if perform_all(rt, &board, seat)? {
+        return close(rt, board);
     }
     Ok(())
 }
 
-fn tell<T: Debug, C, A>(
-    made: &Result<T, Failed<C, A>>,
-    told: &mut String,
-) -> Result<(), AllocError> {
-    match made {
-        Ok(reply) => write!(told, ", {reply:?}"),
-        Err(Failed::Refused(refusal, _)) => write!(told, ", {refusal:?}"),
-        Err(Failed::Unmade(fault, _)) => write!(told, ", unmade: {fault}"),
-        Err(Failed::Unstored(fault, _)) => write!(told, ", unstored: {fault}"),
+fn close<M: Message + Written, Led: Ledger, R: Print + Wait>(
+    rt: &R,
+    board: Kept<M, Led>,
+) -> io::Result<()> {
+    match board.close(rt) {
+        Ok(()) => println!(rt; "closed"),
+        Err((_, fault)) => println!(rt; "not closed: {fault}"),
+    }
+}
+
+/// Performs each line up to one that says `close`, and returns whether there is one.
+fn perform_all<
+    M: Message + Written + Debug + Send + Sync,
+    Led: Ledger + Send + Sync,
+    R: Input + Print + AllocGlobal + Threads + Wait + Sync,
+>(rt: &R, board: &Kept<M, Led>, seat: Seat<Led>) -> io::Result<bool> {
+    let mut seat = seat;
+    for line in rt.lines(rt.alloc()) {
+        let line = line?;
+        if line.as_str() == "close" {
+            board.leave(rt, seat);
+            return Ok(true);
+        }
+        perform(rt, board, &mut seat, line.as_str())?;
+    }
+    Ok(false)
+}
+
+fn perform<
+    M: Message + Written + Debug + Send + Sync,
+    Led: Ledger + Send + Sync,
+    R: Print + AllocGlobal + Threads + Wait + Sync,
+>(rt: &R, board: &Kept<M, Led>, seat: &mut Seat<Led>, line: &str) -> io::Result<()> {
+    match read_entry::<M>(rt.alloc(), line) {
+        Ok(entry) => tell(rt, board.call(rt, seat, entry.call)),
+        Err(_) => order(rt, board, line),
+    }
+}
+
+/// Does what a line says that is no entry.
+fn order<
+    M: Message + Written + Debug + Send + Sync,
+    Led: Ledger + Send + Sync,
+    R: Print + AllocGlobal + Threads + Wait + Sync,
+>(rt: &R, board: &Kept<M, Led>, line: &str) -> io::Result<()> {
+    match line.strip_prefix("share ") {
+        Some(count) => {
+            let counts = share(rt, rt.alloc(), board, count.parse::<u64>().unwrap_or(0));
+            println!(rt; "shared {counts:?}")
+        }
+        None => {
+            let synced = board.sync(rt).is_ok();
+            println!(rt; "synced {synced}")
+        }
+    }
+}
+
+/// Tells the position and the reply of a call, or why it failed.
+fn tell<M: Message + Debug, R: Print>(
+    rt: &R,
+    told: Result<Answer<M>, Failed<Call<M>, Answer<M>>>,
+) -> io::Result<()> {
+    match told {
+        Ok(answer) => {
+            let at = answer.at();
+            println!(rt; "stored {at}: {:?}", answer.reply())
+        }
+        Err(Failed::Refused(refusal, _)) => println!(rt; "refused: {refusal:?}"),
+        Err(Failed::Unmade(fault, _)) => println!(rt; "unmade: {fault}"),
+        Err(Failed::Unstored(fault, _)) => println!(rt; "unstored: {fault}"),
     }
 }

@@ -1,4 +1,0 @@
-use Rattle.cml_file_tests.proofs.playing.begin.Given as goal
-
-abbrev pub ghosts-play : goal.ghosts-play
-ghosts-play g a = record { name = a.blank.name; parts = a.blank.parts }
