@@ -1,9 +1,8 @@
-//! Tests of scripts: what readers return, verdicts on journals, a caller that records its calls, and the order of threads.
+//! Tests of scripts: verdicts on journals, a caller that records its calls, texts of endings, and the order of threads.
 mod auditing;
 mod caller;
 mod endings;
 mod flushing;
-mod reading;
 mod runs;
 
 use std::process::Abort;

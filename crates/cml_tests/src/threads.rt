@@ -1,15 +1,13 @@
-//! Tests of calls on a switchboard, whose board no clause shows, and of a floor's feed and a log.
-mod dropping;
-mod floors;
+//! Tests of calls on a switchboard, whose board no clause shows, and of a log that is refused.
 mod forms;
 mod restoring;
 mod scene;
 mod steps;
 mod tables;
 
+use cml_log::{ChunkLog, MessageLog};
 use scene::{expected, performed};
 use std::process::Abort;
-use std::test::Fail;
 use tables::SCENES;
 
 fn is_same(rt: &impl Abort, text: &str, expected: &str) {
@@ -30,22 +28,12 @@ fn restores_a_switchboard(rt: HostRuntime) {
     is_same(&rt, text.as_str(), restoring::TOLD);
 }
 
-/// A feed's end gives what is left of it.
-#[test]
-fn feeds_give_what_is_left(rt: HostRuntime) -> Result<(), Fail> {
-    let is_given = floors::gives_what_was_pumped(rt.alloc())?;
-    assert!(rt; is_given, "given otherwise");
-    Ok(())
-}
-
-#[test]
-fn logs_drop_each_item_once(rt: HostRuntime) -> Result<(), Fail> {
-    let are_dropped = dropping::are_dropped(&rt, rt.alloc())?;
-    assert!(rt; are_dropped, "dropped otherwise");
-    Ok(())
-}
-
+/// A log's chunks have 1 to 1,024 items.
 #[test]
 fn logs_of_other_chunks_are_refused(rt: HostRuntime) {
-    assert!(rt; dropping::are_refused(rt.alloc()), "made");
+    let (few, many) = (
+        ChunkLog::<u64, 0>::new(rt.alloc()),
+        ChunkLog::<u64, 1025>::new(rt.alloc()),
+    );
+    assert!(rt; few.is_err() && many.is_err());
 }

@@ -1,14 +1,6 @@
-//! The status and the text of each ending, and the laws of histories, schedules and scripts.
+//! The status and the text of each ending.
 use super::same;
-use cml_board::{Text, lawful_at_every_position, reserved_lasts};
-use cml_grammar::{
-    faultless_texts_are_scripts, numbers_are_as_printed, numbers_are_texts, scripts_have_no_fault,
-    texts_are_one_script, words_make_lines,
-};
-use cml_script::{
-    Ending, Fault, What, reports_tell_what_is_left, schedules_are_one, scripts_have_a_schedule,
-    stalled_threads_wait, status_of,
-};
+use cml_script::{Ending, Fault, What, status_of};
 use std::test::Fail;
 
 const BAD_NAME: Ending = Ending::Fault(Fault {
@@ -49,26 +41,4 @@ fn has_a_status_and_a_text_for_each_ending(rt: HostRuntime) -> Result<(), Fail> 
         same(&rt, text, expected, "an ending");
     }
     Ok(())
-}
-
-#[test]
-fn laws_do_nothing(_rt: HostRuntime) {
-    schedules_are_one();
-    scripts_have_a_schedule();
-    stalled_threads_wait();
-    reports_tell_what_is_left();
-    lawful_at_every_position::<u64>();
-    lawful_at_every_position::<Text>();
-    reserved_lasts::<u64>();
-    reserved_lasts::<Text>();
-}
-
-#[test]
-fn laws_of_scripts_do_nothing(_rt: HostRuntime) {
-    scripts_have_no_fault();
-    texts_are_one_script();
-    faultless_texts_are_scripts();
-    numbers_are_as_printed();
-    words_make_lines();
-    numbers_are_texts();
 }
