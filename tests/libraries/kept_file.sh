@@ -65,11 +65,17 @@ mkdir "$work/folder"
 if bounded "$program" "$work/folder" < /dev/null | grep -qx 'the first line is none of a journal'; then pass; else fail 'a folder'; fi
 
 # Bytes are kept too. A message that is too long for a line is not sent.
-long=$(awk 'BEGIN { while (n++ < 556992) printf "x" }')
+long=$(awk 'BEGIN { while (n++ < 2097088) printf "x" }')
 rm "$work/played.journal"
 plays 'bytes' - "seat 0 mailbox: made 0\nseat 0 send 0 =a%%20b: done\nseat 0 send 0 =$long: done\nclose\n" \
     '0 entries, 0 cut\nstored 0: Made(Name(0))\nstored 1: Done\nunmade: too long for a line\nclosed\n' \
     'journal 2\nseat 0 mailbox: made 0\nseat 0 send 0 =a%%20b: done\n' bytes
+
+plays 'a lane, and a message that is too long for it' - "lane =b\nlane =$long\nclose\n" \
+    '2 entries, 0 cut\nDrained(1)\nTooLong\nclosed\n' \
+    'journal 2\nseat 0 mailbox: made 0\nseat 0 send 0 =a%%20b: done\nlane 0 send 0 =b: done\n' bytes
+plays 'a feed' 'journal 1\nseat 0 channel: made 0\n' 'feed 5\nclose\n' '1 entries, 0 cut\nSome((Some(5), 1))\nclosed\n' \
+    'journal 1\nseat 0 channel: made 0\nfeed 0 port 0: made 1\nlane 0 multicast 0 5: done\nfeed 0 recv 1: 5\n'
 
 plays 'two threads' 'journal 1\nseat 0 mailbox: made 0\nseat 0 mailbox: made 1\n' 'share 100\nclose\n' \
     '2 entries, 0 cut\nshared Some([200, 200])\nclosed\n' -

@@ -1,4 +1,6 @@
 //! A switchboard whose journal is kept in a file.
+mod moving;
+
 ghost use Rattle.std.specs.Prelude.{◌≡◌, ◌≤◌, ◌^◌, [], true, IfOk, IfErr, OnOk};
 ghost use Rattle.cml_board.specs.declared.outcome.Refusal.TheVariants.{NoMemory};
 ghost use Rattle.cml_threads.specs.{raised, suits};
@@ -154,10 +156,15 @@ impl<M: Message + Written, L: MessageLog<M>, Led: Ledger> KeptSwitchboard<M, L, 
         if !fits(self.alloc, call.message())? {
             return Err(Fault::TooLong);
         }
-        if self.is_behind.load(Ordering::SeqCst) {
-            self.store(rt)?;
+        self.make_up(rt)
+    }
+
+    /// Stores what a call before could not.
+    fn make_up<R: Wait>(&self, rt: &R) -> Result<(), Fault> {
+        match self.is_behind.load(Ordering::SeqCst) {
+            true => self.store(rt),
+            false => Ok(()),
         }
-        Ok(())
     }
 
     /// Makes a call on the switchboard, whose answer is not stored.

@@ -1,9 +1,11 @@
 //! Performs a journal's calls on a switchboard in a file, for `tests/libraries/kept_file.sh`, which looks at the file and at what is
 //! written here: `cml_file_tests FILE [bytes]`, with a line of a journal on each line of standard input. Its call is made, and its
-//! reply is not looked at. The line `share N` has two threads call N times each, `sync` syncs, and `close` closes the file. Without
+//! reply is not looked at. The line `share N` has two threads call N times each. `lane 5` sends by a lane to object 0, `feed 5` by a lane to channel 0,
+//! which a feed reads. `sync` syncs, and `close` closes the file. Without
 //! a `close` the switchboard is dropped as it stands.
 #![tactic(auto)]
 
+mod moving;
 mod playing;
 mod sharing;
 

@@ -1,8 +1,9 @@
 //! The calls of one seat, each told once it has returned.
 ghost use Rattle.std.specs.Prelude.{◌≡◌, ◌^◌};
 
+use crate::moving::{move_by_feed, move_by_lane};
 use crate::sharing::share;
-use cml_board::{Answer, BoardLog, Call, Message};
+use cml_board::{Answer, BoardLog, Call, Message, Name};
 use cml_file::{Failed, KeptSwitchboard, Recovered};
 use cml_journal::{Written, read_entry};
 use cml_threads::Seat;
@@ -84,11 +85,29 @@ fn order<
             let counts = share(rt, rt.alloc(), board, count.parse::<u64>().unwrap_or(0));
             println!(rt; "shared {counts:?}")
         }
-        None => {
-            let synced = board.sync(rt).is_ok();
-            println!(rt; "synced {synced}")
-        }
+        None => move_or_sync(rt, board, line),
     }
+}
+
+fn move_or_sync<M: Message + Written + Debug, Led: Ledger, R: Print + AllocGlobal + Wait>(
+    rt: &R,
+    board: &Kept<M, Led>,
+    line: &str,
+) -> io::Result<()> {
+    if let Some(word) = line.strip_prefix("lane ") {
+        if let Some(message) = M::read(rt.alloc(), word)? {
+            println!(rt; "{:?}", move_by_lane(rt, board, Name(0), message))?;
+        }
+        return Ok(());
+    }
+    if let Some(word) = line.strip_prefix("feed ") {
+        if let Some(message) = M::read(rt.alloc(), word)? {
+            println!(rt; "{:?}", move_by_feed(rt, board, Name(0), message))?;
+        }
+        return Ok(());
+    }
+    let synced = board.sync(rt).is_ok();
+    println!(rt; "synced {synced}")
 }
 
 /// Tells the position and the reply of a call, or why it failed.

@@ -1,4 +1,5 @@
-//! Tests of calls on a switchboard, whose board no clause shows, and of a log that is refused.
+//! Tests of calls on a switchboard, whose board no clause shows, of a floor's feed, and of a log that is refused.
+mod floors;
 mod forms;
 mod restoring;
 mod scene;
@@ -8,6 +9,7 @@ mod tables;
 use cml_log::{ChunkLog, MessageLog};
 use scene::{expected, performed};
 use std::process::Abort;
+use std::test::Fail;
 use tables::SCENES;
 
 fn is_same(rt: &impl Abort, text: &str, expected: &str) {
@@ -26,6 +28,14 @@ fn plays_scenes(rt: HostRuntime) {
 fn restores_a_switchboard(rt: HostRuntime) {
     let text = restoring::told(&rt, rt.alloc());
     is_same(&rt, text.as_str(), restoring::TOLD);
+}
+
+/// A feed's end gives what is left of it.
+#[test]
+fn feeds_give_what_is_left(rt: HostRuntime) -> Result<(), Fail> {
+    let is_given = floors::gives_what_was_pumped(rt.alloc())?;
+    assert!(rt; is_given, "given otherwise");
+    Ok(())
 }
 
 /// A log's chunks have 1 to 1,024 items.
