@@ -1,6 +1,6 @@
 #!/bin/sh
 # Each link in a document leads to a file that is there, and to a heading there if it names one. Each page of docs/ that a document, a
-# source or a script names is there. README has at most 1,000 words, docs/DECISIONS.md 5,000 and all documents together 45,250, and
+# source or a script names is there. README has at most 1,000 words, docs/DECISIONS.md 5,000 and all documents together 45,000, and
 # a sentence of README has at most 25: `sh tests/docs/links.sh`. The last line is `N passed, M failed`.
 top=$(cd "$(dirname "$0")/../.." && pwd) || exit 1
 . "$top/tests/lib/cases.sh"
@@ -99,7 +99,7 @@ while read -r from to; do leads "$from" "$to"; done < "$work/links"
 at_most 1000 README.md README.md
 at_most 5000 docs/DECISIONS.md docs/DECISIONS.md
 # shellcheck disable=SC2046 # no document has a blank in its name
-at_most 45250 'all documents' $(cat "$work/all")
+at_most 45000 'all documents' $(cat "$work/all")
 sentences README.md > "$work/sentences"
 while read -r many sentence; do
     if [ "$many" -le 25 ]; then pass; else fail "README.md: a sentence of $many words, more than 25: $sentence"; fi
