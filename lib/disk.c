@@ -401,7 +401,7 @@ static void *help(void *given)
         pthread_mutex_unlock(&file->lock);
         grow_ahead(file);
         if (is_time || is_due) {
-            (void)seryugo_file_sync(file);
+            seryugo_file_try_sync(file);
         }
         due = is_time ? after(file->period) : due;
         pthread_mutex_lock(&file->lock);

@@ -232,6 +232,7 @@ static bool sync_first(struct seryugo_exchange *exchange)
 static void go_over(struct seryugo_file *file)
 {
     struct seryugo_exchange *exchange = file->exchange;
+    struct seryugo_step step;
     struct seryugo store;
     int descriptor;
 
@@ -248,9 +249,13 @@ static void go_over(struct seryugo_file *file)
     exchange->store = store;
     file->shift = exchange->view.shift;
     exchange->is_over = true;
+    /* Lines that the machine hasn't accepted yet lie in room that callers have made meanwhile. */
+    (void)seryugo_store_begin(&file->store, SERYUGO_WORK_ROOM, atomic_load(&exchange->end) - file->shift, &step);
+    (void)seryugo_store_end(&file->store, false, step.kind == SERYUGO_STEP_GROW);
     atomic_store(&file->grown, seryugo_mark_of(&file->store, SERYUGO_MARK_GROWN) + file->shift);
     atomic_store(&file->synced, seryugo_mark_of(&file->store, SERYUGO_MARK_SYNCED) + file->shift);
     exchange->told.done++;
+    seryugo_file_ask_locked(file);
     pthread_mutex_unlock(&file->lock);
     pthread_mutex_unlock(&file->growing);
     seryugo_let_forks();

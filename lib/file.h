@@ -214,6 +214,9 @@ SERYUGO_HIDDEN void seryugo_block_signals(sigset_t *before);
 SERYUGO_HIDDEN void seryugo_hold_syncs(struct seryugo_file *file);
 SERYUGO_HIDDEN void seryugo_let_syncs(struct seryugo_file *file);
 
+/* Syncs what was told, if no other thread syncs. The helper never waits: others may need room, which it makes. */
+SERYUGO_HIDDEN void seryugo_file_try_sync(struct seryugo_file *file);
+
 /* Tells those on the list whose position is on the disk, or all once the file is lost. The helper alone calls this, so that what
  * is called meets no lock of another thread. Needs the lock, and gives it back meanwhile. */
 SERYUGO_HIDDEN void seryugo_file_tell_settled(struct seryugo_file *file);

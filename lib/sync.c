@@ -107,6 +107,15 @@ static void wait_until_settled(struct seryugo_file *file, uint64_t position)
     }
 }
 
+void seryugo_file_try_sync(struct seryugo_file *file)
+{
+    pthread_mutex_lock(&file->lock);
+    if (!is_settled(file, atomic_load(&file->told))) {
+        (void)sync_once(file);
+    }
+    pthread_mutex_unlock(&file->lock);
+}
+
 /* The code of a wait for this position, if that need not begin. SERYUGO_PARKED: it has to. */
 static uint32_t code_of(struct seryugo_file *file, uint64_t position)
 {
