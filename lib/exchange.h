@@ -83,7 +83,8 @@ SERYUGO_HIDDEN void seryugo_exchange_set_stage(struct seryugo_file *file, enum s
 /* Copies lines of the old file up to a position. Returns 0 or errno. */
 SERYUGO_HIDDEN int seryugo_exchange_copy(struct seryugo_file *file, uint64_t end);
 
-/* Gives the new file room for lines up to a position, by segments. Returns 0 or errno. EFBIG: callers were too fast. */
+/* Gives the new file room for lines up to a position, by segments. Returns 0 or errno. EAGAIN: a sync has to be
+ * first. */
 SERYUGO_HIDDEN int seryugo_exchange_give_room(struct seryugo_file *file, uint64_t need);
 
 /* Lines are stored in the new file alone, or in the old one alone. Both need the lock. */

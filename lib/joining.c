@@ -67,7 +67,7 @@ int seryugo_exchange_give_room(struct seryugo_file *file, uint64_t need)
         return 0;
     }
     if (wanted - exchange->begun > SERYUGO_UNSYNCED_MOST) {
-        return EFBIG;
+        return EAGAIN;
     }
     error = seryugo_allocate(exchange->view.descriptor, end - exchange->view.shift, wanted - exchange->view.shift);
     if (!file->is_mapped && (error == EOPNOTSUPP || error == ENOSYS)) {
@@ -163,20 +163,26 @@ void seryugo_exchange_join(struct seryugo_file *file, struct seryugo *room)
     pthread_setcancelstate(state, &state);
 }
 
+/* Whether a caller without room waits: for the new file's name, or for a sync, which the thread makes before that. */
+static bool is_soon_over(const struct seryugo_exchange *exchange, int error)
+{
+    return error != 0 && (exchange->stage == SERYUGO_STAGE_NAMING || (exchange->stage == SERYUGO_STAGE_BOTH && error == EAGAIN));
+}
+
 void seryugo_exchange_make_way(struct seryugo_file *file, uint64_t need)
 {
     struct seryugo_exchange *exchange = file->exchange;
-    bool has_room = seryugo_exchange_give_room(file, need) == 0;
+    int error = seryugo_exchange_give_room(file, need);
 
     pthread_mutex_lock(&file->lock);
-    while (!has_room && exchange->stage == SERYUGO_STAGE_NAMING && !atomic_load(&file->is_lost)) {
+    while (is_soon_over(exchange, error) && !atomic_load(&file->is_lost)) {
         pthread_cond_wait(&file->done, &file->lock);
     }
     if (exchange->stage == SERYUGO_STAGE_NAMED) {
         seryugo_exchange_leave_old(file);
     } else if (exchange->stage == SERYUGO_STAGE_FAILED) {
         seryugo_exchange_leave_new(file, NULL);
-    } else if (exchange->stage == SERYUGO_STAGE_BOTH && !has_room) {
+    } else if (exchange->stage == SERYUGO_STAGE_BOTH && error != 0) {
         seryugo_exchange_leave_new(file, SERYUGO_NO_ROOM);
     }
     pthread_mutex_unlock(&file->lock);

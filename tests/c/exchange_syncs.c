@@ -6,7 +6,9 @@
 #include <dlfcn.h>
 
 #define FILES 8
-#define IMAGE ((size_t)4 << 20)
+#define IMAGE ((size_t)16 << 20)
+/* Values that each other thread sends for each sync, so that a file has less than an image on a busy machine, too. */
+#define MORE 400
 
 /* A file on the disk. */
 struct image {
@@ -135,6 +137,7 @@ static void *sync_each(void *given)
     uint64_t value = 0;
 
     for (; value < syncs || renames < 5; value++) {
+        allowed += MORE;
         RETURNS(DONE, seryugo_seat_send(seat, 4, value));
         RETURNS(DONE, seryugo_switchboard_sync(&board));
         is_on_disk(value);
@@ -156,6 +159,7 @@ int main(int many, char **words)
         return 64;
     }
     share_what_is_told();
+    pace = 0;
     for (uint64_t way = 0; way < 4; way += 2) {
         choose(way);
         renames = 0;
@@ -164,7 +168,7 @@ int main(int many, char **words)
         RETURNS(DONE, seryugo_seat_open(&board, &seat));
         RETURNS(DONE, seryugo_seat_mailbox_again(&seat, 4));
         HAS(pthread_create(&thread, NULL, sync_each, &seat) == 0);
-        HAS(work_on_it(UINT64_MAX, 1) == 0);
+        work_well(UINT64_MAX);
         pthread_join(thread, NULL);
         RETURNS(DONE, seryugo_switchboard_close(&board));
         unlink("synced");

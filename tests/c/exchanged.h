@@ -30,6 +30,12 @@ static struct seryugo_seat seats[THREADS];
 static struct seryugo_file_options options;
 static uint32_t messages;
 static _Atomic bool is_over;
+/* How many threads work. */
+static _Atomic uint64_t working;
+/* So many values each of them sends at most, and so many more twice a millisecond. On a busy machine they would add lines faster
+ * than these are copied. */
+static _Atomic uint64_t allowed;
+static uint64_t pace = 20;
 
 /* ---- messages ---- */
 
@@ -67,6 +73,15 @@ static uint32_t poll_value(struct seryugo_seat *seat, uint64_t mailbox, uint64_t
 
 /* ---- four threads ---- */
 
+/* Waits until more values are allowed. */
+static bool may_send(uint64_t me)
+{
+    while (!is_over && told->sent[me] >= allowed) {
+        usleep(100);
+    }
+    return !is_over && told->sent[me] < VALUES;
+}
+
 /* Sends the next value of its own mailbox, and receives one from each in turn, or else from its own. So few wait. */
 static void *work(void *given)
 {
@@ -74,7 +89,7 @@ static void *work(void *given)
     uint64_t me = (uint64_t)(seat - seats), value = 0;
     uint32_t code = SERYUGO_DONE;
 
-    for (uint64_t at = 0; !is_over && told->sent[me] < VALUES && code == SERYUGO_DONE; at++) {
+    for (uint64_t at = 0; may_send(me) && code == SERYUGO_DONE; at++) {
         uint64_t from = (me + at) % THREADS;
 
         code = send_value(seat, me, told->sent[me]);
@@ -92,12 +107,14 @@ static void *work(void *given)
     told->is_refused = told->is_refused || code == SERYUGO_FILE_LOST || code == SERYUGO_FILE_FULL || code == SERYUGO_NO_MEMORY;
     told->is_bad = told->is_bad || (code != SERYUGO_DONE && !told->is_refused);
     seryugo_seat_leave(seat);
+    working--;
     return NULL;
 }
 
 static void open_board(const char *path)
 {
     is_over = false;
+    allowed = 0;
     RETURNS(DONE, seryugo_switchboard_open_file(path, messages, &options, &found, &board));
     for (size_t at = 0; at < THREADS; at++) {
         RETURNS(DONE, seryugo_seat_open(&board, &seats[at]));
@@ -108,17 +125,19 @@ static void open_board(const char *path)
 }
 
 /* Has four threads work on the board until so many short files have taken its file's place, so many tries have failed, calls are
- * refused, or it is over. Returns how many have failed. */
+ * refused, all values are sent, or it is over. Returns how many have failed. */
 static uint64_t work_on_it(uint64_t done, uint64_t failed)
 {
     struct seryugo_file_exchanges ended = {.done = 0};
     pthread_t threads[THREADS];
 
+    working = THREADS;
     for (size_t at = 0; at < THREADS; at++) {
         HAS(pthread_create(&threads[at], NULL, work, &seats[at]) == 0);
     }
-    while (ended.done < done && ended.failed < failed && !told->is_bad && !told->is_refused && !is_over) {
+    while (ended.done < done && ended.failed < failed && !told->is_bad && !told->is_refused && !is_over && working > 0) {
         usleep(500);
+        allowed += pace;
         seryugo_file_exchanges(board.file, &ended);
     }
     is_over = true;
@@ -128,6 +147,15 @@ static uint64_t work_on_it(uint64_t done, uint64_t failed)
     HAS(!told->is_bad);
     memcpy(found.words, ended.words, sizeof found.words);
     return ended.failed;
+}
+
+/* Works until it is over, or so many short files have taken the place. None fails, unless lines are still added faster than they
+ * are copied. */
+static inline void work_well(uint64_t done)
+{
+    uint64_t failed = work_on_it(done, UINT64_MAX);
+
+    has(failed == 0 || strcmp(found.words, "copy lines") == 0, found.words, __LINE__);
 }
 
 /* ---- what is left ---- */

@@ -17,7 +17,7 @@ static void stay_short(uint64_t way)
     put("elsewhere/target", messages == SERYUGO_NUMBERS ? "journal 1\n" : "journal 2\n", 10);
     HAS(chmod("elsewhere/target", 0604) == 0 && symlink("elsewhere/target", "link") == 0 && stat("link", &before) == 0);
     open_board("link");
-    HAS(work_on_it(25, 1) == 0);
+    work_well(25);
     RETURNS(DONE, seryugo_switchboard_close(&board));
     HAS(lstat("link", &link) == 0 && S_ISLNK(link.st_mode) && stat("link", &after) == 0);
     HAS(after.st_mode == before.st_mode && after.st_uid == before.st_uid && after.st_ino != before.st_ino);
@@ -88,7 +88,7 @@ static void fork_meanwhile(void)
     choose(0);
     open_board("forked");
     HAS(pthread_create(&thread, NULL, fork_children, children) == 0);
-    HAS(work_on_it(25, 1) == 0);
+    work_well(25);
     pthread_join(thread, NULL);
     RETURNS(DONE, seryugo_switchboard_close(&board));
     look_at_it("forked");
@@ -103,7 +103,8 @@ static void fork_meanwhile(void)
 static void be_killed(const char *path)
 {
     open_board(path);
-    HAS(work_on_it(UINT64_MAX, 1) == 0);
+    work_well(UINT64_MAX);
+    pause();
     _exit(1);
 }
 
@@ -151,7 +152,7 @@ static void kill_many(uint64_t many)
     /* A last one, which makes the file short and leaves nothing beside. */
     options.short_from = 1;
     open_board("killed");
-    HAS(work_on_it(1, 1) == 0);
+    work_well(1);
     RETURNS(DONE, seryugo_switchboard_close(&board));
     has_one_file("killed");
     printf("%llu kills, %llu of them while a short file was made: nothing is lost or twice\n", (unsigned long long)many,
