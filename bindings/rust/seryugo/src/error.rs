@@ -70,8 +70,8 @@ pub enum Error {
     /// 2^32 - 1 bytes.
     OutOfBounds,
     /// A message is too long. The journal isn't written as text, since no reader would take the
-    /// line, of more than 4,194,304 bytes. Or a file keeps the journal, and the message has more than
-    /// 1,398,000 bytes, or both messages of a swap.
+    /// line, of more than 4,194,304 bytes. Or a file or a sink takes the journal, and the message has
+    /// more than 1,398,000 bytes, or both messages of a swap.
     TooLong,
     /// The call's time limit passed before there was an answer.
     TimedOut,

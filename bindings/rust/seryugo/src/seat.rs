@@ -75,8 +75,9 @@ use std::marker::PhantomData;
 /// - `WrongKind`: a feed receives from the port.
 /// - `JournalFull`: the journal has no room for the call's entry. `NotKept`: nobody took the entries of
 ///   the last full journal.
+/// - `TooLong`: the journal can't be written with this message.
 /// - `NoMemory`.
-/// - If a [file](Switchboard::open) keeps the journal: `FileFull`, `TooLong`, `FileLost`, `Forked`.
+/// - If a [file](Switchboard::open) keeps the journal: `FileFull`, `FileLost`, `Forked`.
 ///
 /// If a sink panics ([`WhenFull`](crate::WhenFull)), so does the call that found the journal full.
 pub struct Seat<'a, R: MessageKind = Bytes, H: Holds<R> = &'a Switchboard<R>> {

@@ -59,6 +59,8 @@ pub struct Switchboard<R: MessageKind = Bytes> {
     pub(crate) conductor: Option<Conductor<R>>,
     /// The file that keeps its journal.
     pub(crate) file: Option<Box<OpenFile>>,
+    /// The most bytes of a lane's message, for lanes: they have no lock.
+    pub(crate) most: u64,
     kind: PhantomData<fn() -> R>,
 }
 
@@ -123,6 +125,7 @@ impl<R: MessageKind> Switchboard<R> {
             number: MADE.fetch_add(1, Ordering::Relaxed),
             conductor: None,
             file: None,
+            most: u64::MAX,
             kind: PhantomData,
         }
     }

@@ -324,18 +324,85 @@ fn a_switchboard_refuses_again_if_it_is_to() {
 }
 
 #[test]
-fn a_cut_drops_entries_that_no_sink_can_take() {
+fn a_cut_drops_entries_that_the_sink_refuses() {
+    let sink = WhenFull::call(|_| Err(ErrorKind::StorageFull.into()));
+    let board = Switchboard::new(2).unwrap().when_full(sink);
+    let mut seat = board.seat().unwrap();
+    let mailbox = seat.mailbox::<Vec<u8>>().unwrap();
+    seat.send(mailbox, vec![0]).unwrap();
+    for _ in 0..3 {
+        assert_eq!(seat.send(mailbox, vec![1]).unwrap_err().error, Error::NotKept);
+    }
+    board.cut().unwrap();
+    seat.send(mailbox, vec![1]).unwrap();
+    assert_eq!((board.owed(mailbox), board.cut_at()), (Ok(2), 2));
+}
+
+/// A line of a text has room for a message of this many bytes of any kind.
+const MOST: usize = 1_398_000;
+
+#[test]
+fn a_message_that_no_sink_could_write_is_refused_as_it_is_sent() {
     let (sink, text) = text_sink::<Bytes>();
     let board = Switchboard::new(2).unwrap().when_full(sink);
     let mut seat = board.seat().unwrap();
     let mailbox = seat.mailbox::<Vec<u8>>().unwrap();
-    seat.send(mailbox, vec![0; 2_000_000]).unwrap();
-    for _ in 0..3 {
-        assert_eq!(seat.send(mailbox, vec![1]).unwrap_err().error, Error::NotKept);
+    let mut lane = board.lane(mailbox, 8).unwrap();
+    let refused = seat.send(mailbox, vec![0xFF; MOST + 1]).unwrap_err();
+    assert_eq!((refused.error, refused.message.len()), (Error::TooLong, MOST + 1));
+    let refused = lane.send(refused.message).unwrap_err();
+    assert_eq!((refused.error, refused.message.len()), (Error::TooLong, MOST + 1));
+    let refused = seat.mvar_init(refused.message).unwrap_err();
+    assert_eq!((refused.error, refused.message.len()), (Error::TooLong, MOST + 1));
+    assert_eq!((lane.drain(), board.entries()), (Ok(0), 1));
+    seat.send(mailbox, vec![0xFF; MOST]).unwrap();
+    lane.send(vec![0xFE; MOST]).unwrap();
+    lane.close().unwrap();
+    board.keep().unwrap();
+    let again: Switchboard = Switchboard::restore(&text.lock().unwrap()[..], 10).unwrap();
+    let (mut seat, mailbox) = (again.seat().unwrap(), again.mailbox::<Vec<u8>>(0).unwrap());
+    assert_eq!(seat.recv(mailbox), Ok(vec![0xFF; MOST]));
+    assert_eq!(seat.recv(mailbox), Ok(vec![0xFE; MOST]));
+}
+
+#[test]
+fn both_messages_of_a_swap_count_for_a_sink() {
+    let (taken, journals) = mpsc::channel();
+    let taker = WhenFull::give(move |journal| taken.send(journal).map_err(|unsent| unsent.0));
+    let board = Switchboard::new(1).unwrap().when_full(taker);
+    let (mut ann, mut ben) = (board.seat().unwrap(), board.seat().unwrap());
+    let variable = ann.mvar::<Vec<u8>>().unwrap();
+    {
+        let mut waits = pin!(ann.swap_async(variable, [5].as_slice()));
+        let mut context = Context::from_waker(Waker::noop());
+        assert!(waits.as_mut().poll(&mut context).is_pending());
+        ben.put(variable, vec![0xFF; MOST]).unwrap();
+        let Poll::Ready(Err(refused)) = waits.as_mut().poll(&mut context) else {
+            panic!("a swap is refused that waited");
+        };
+        assert_eq!((refused.error, refused.message), (Error::TooLong, [5].as_slice()));
     }
-    assert_eq!(board.keeping_error().unwrap().kind(), ErrorKind::InvalidData);
-    board.cut().unwrap();
-    seat.send(mailbox, vec![1]).unwrap();
-    assert_eq!((board.owed(mailbox), board.cut_at()), (Ok(2), 2));
-    assert!(text.lock().unwrap().is_empty());
+    let refused = ben.swap(variable, [5].as_slice()).unwrap_err();
+    assert_eq!((refused.error, refused.message), (Error::TooLong, [5].as_slice()));
+    assert_eq!((board.entries(), board.held(variable).unwrap().unwrap().len()), (2, MOST));
+    assert_eq!(ann.swap(variable, [].as_slice()).unwrap().len(), MOST);
+    assert!(ben.swap(variable, vec![0xFF; MOST]).unwrap().is_empty());
+    board.keep().unwrap();
+    assert_eq!(journals.try_iter().map(|journal| journal.len()).sum::<usize>(), 4);
+}
+
+#[test]
+fn without_a_sink_no_text_limits_messages() {
+    for when_full in [WhenFull::Drop, WhenFull::Refuse] {
+        let board = Switchboard::new(10).unwrap().when_full(when_full);
+        let mut seat = board.seat().unwrap();
+        let mailbox = seat.mailbox::<Vec<u8>>().unwrap();
+        let mut lane = board.lane(mailbox, 8).unwrap();
+        seat.send(mailbox, vec![0xFF; MOST + 1]).unwrap();
+        lane.send(vec![0xFF; MOST + 1]).unwrap();
+        lane.close().unwrap();
+        let variable = seat.mvar_init(vec![0xFF; MOST + 1]).unwrap();
+        assert_eq!(seat.swap(variable, vec![0xFF; MOST + 1]).unwrap().len(), MOST + 1);
+        assert_eq!(board.entries(), 5);
+    }
 }

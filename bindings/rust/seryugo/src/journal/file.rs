@@ -6,6 +6,7 @@ use crate::journal::keep::Keep;
 use crate::journal::recovered::Recovered;
 use crate::message::carries::{MessageKind, Numbers};
 use crate::raw::{code, done, File, FileFound, FileOptions};
+use crate::switchboard::call::MESSAGE_MOST;
 use crate::switchboard::Switchboard;
 use crate::version;
 use std::ffi::CString;
@@ -16,9 +17,6 @@ use std::time::Duration;
 
 /// How many entries the room's journal has at most. The file cuts it long before.
 const LIMIT: u64 = 65_536;
-
-/// The most bytes of a message, and of both messages of a swap.
-const MESSAGE_MOST: u64 = 1_398_000;
 
 /// The errors of a system call that was given a bad argument.
 const EINVAL: i32 = 22;
@@ -329,6 +327,7 @@ impl<R: MessageKind> Switchboard<R> {
     fn kept_in(mut self, file: OpenFile) -> Switchboard<R> {
         self.state_mut().set_file(Some(Arc::clone(&file.file)));
         self.file = Some(Box::new(file));
+        self.most = MESSAGE_MOST;
         self
     }
 
@@ -408,12 +407,6 @@ impl<R: MessageKind> Switchboard<R> {
         let closed = Arc::into_inner(opened.file).map_or(code::DONE, File::close);
         noted.and(done(closed))
     }
-
-    /// Whether a lane takes this message: the file may have too little room for its line.
-    #[inline]
-    pub(crate) fn takes(&self, sent: R::Sent<'_>) -> bool {
-        R::length(sent) <= MESSAGE_MOST || self.file.is_none()
-    }
 }
 
 /// Closes the file that keeps the journal. See [`close`](Switchboard::close).
@@ -430,7 +423,6 @@ impl<R: MessageKind> Drop for Switchboard<R> {
 #[cfg(test)]
 mod tests {
     use super::*;
-    use crate::message::carries::Bytes;
 
     #[test]
     fn a_period_is_at_least_a_millisecond() {
@@ -439,10 +431,5 @@ mod tests {
         assert_eq!(period(Duration::from_secs(2)), 2_000);
         assert_eq!(period(Duration::MAX), u64::MAX);
         assert_eq!(JournalFile::new().sync_by_hand().sync_milliseconds, 0);
-    }
-
-    #[test]
-    fn only_a_file_bounds_what_a_lane_takes() {
-        assert!(Switchboard::<Bytes>::new(10).unwrap().takes(&vec![0; 1_398_001]));
     }
 }

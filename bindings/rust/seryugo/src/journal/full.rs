@@ -4,6 +4,7 @@ use crate::error::Error;
 use crate::journal::Journal;
 use crate::message::carries::{Bytes, MessageKind};
 use crate::raw::{self, done, Handle, Reader, Taking};
+use crate::switchboard::call::MESSAGE_MOST;
 use std::fmt;
 use std::io;
 use std::mem;
@@ -85,6 +86,16 @@ impl<R: MessageKind> WhenFull<R> {
         taker: impl FnMut(Journal<R>) -> Result<(), Journal<R>> + Send + 'static,
     ) -> WhenFull<R> {
         WhenFull::Give(Box::new(taker))
+    }
+}
+
+impl<R: MessageKind> WhenFull<R> {
+    /// The most bytes of a message, and of both messages of a swap. A sink may write the entries.
+    pub(crate) fn message_most(&self) -> u64 {
+        match self {
+            WhenFull::Refuse | WhenFull::Drop => u64::MAX,
+            WhenFull::Call(_) | WhenFull::Give(_) => MESSAGE_MOST,
+        }
     }
 }
 

@@ -129,9 +129,11 @@ impl<'a, R: MessageKind, T, H: Holds<R>> Lane<'a, R, T, H> {
         R: Carries<T>,
     {
         let sent = match &mut self.ring {
-            Ring::Own(lane) => done(R::with_sent(&message, |sent| match self.board.takes(sent) {
-                true => R::lane_send(lane, sent),
-                false => code::TOO_LONG,
+            Ring::Own(lane) => done(R::with_sent(&message, |sent| {
+                if R::length(sent) > self.board.most {
+                    return code::TOO_LONG;
+                }
+                R::lane_send(lane, sent)
             })),
             Ring::Explored(_) => self.send_explored(&message),
             Ring::Rerun(lane) => self.board.lane_sends(lane, R::owned(&message)),

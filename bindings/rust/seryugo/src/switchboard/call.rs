@@ -32,17 +32,21 @@ impl<A: Outcome, B: Default> Outcome for (A, B) {
     }
 }
 
-/// The messages of a call's line, for which a file has to have room. It goes through registers.
+/// The most bytes of a message, and of both messages of a swap, if the journal is to be written: a
+/// reader takes a line of 4,194,304 bytes, and a message takes up to three of them a byte.
+pub(crate) const MESSAGE_MOST: u64 = 1_398_000;
+
+/// The messages of a call's line, which may have a limit. It goes through registers.
 #[derive(Clone, Copy)]
 pub(crate) struct Line {
-    /// How many bytes the call's own message has.
+    /// How many bytes the call's own message has. Of a swap `SWAP` is added.
     bytes: u64,
-    /// The variable whose message the line has too, or `NONE`.
+    /// The variable whose message the line has too, if it is a swap's.
     variable: u64,
 }
 
-/// The number of no object.
-const NONE: u64 = u64::MAX;
+/// No message has so many bytes. A swap's line seems too long until both messages were measured.
+const SWAP: u64 = 1 << 63;
 
 impl Line {
     /// No message, or one that an earlier line had.
@@ -50,25 +54,32 @@ impl Line {
 
     /// A message of this many bytes.
     pub const fn of(bytes: u64) -> Line {
-        Line {
-            bytes,
-            variable: NONE,
-        }
+        Line { bytes, variable: 0 }
     }
 
     /// The message of a swap, and the one that the variable holds.
     pub const fn of_swap(bytes: u64, variable: u64) -> Line {
-        Line { bytes, variable }
+        Line {
+            bytes: SWAP | bytes,
+            variable,
+        }
+    }
+
+    /// Whether its messages may have more bytes than this. Of `u64::MAX` they never have.
+    #[inline]
+    pub const fn may_exceed(self, most: u64) -> bool {
+        self.bytes > most
     }
 
     pub fn bytes<R: MessageKind>(self, room: &mut Handle) -> u64 {
-        if self.variable == NONE {
-            return self.bytes;
+        let own = self.bytes & !SWAP;
+        if own == self.bytes {
+            return own;
         }
         let mut held = R::nothing();
         match R::held(room, self.variable, &mut held) {
-            code::DONE => self.bytes.saturating_add(R::received_length(&held)),
-            _ => self.bytes,
+            code::DONE => own.saturating_add(R::received_length(&held)),
+            _ => own,
         }
     }
 }

@@ -317,6 +317,9 @@ impl<R: MessageKind> Switchboard<R> {
     /// answered while the journal has room, and then fails with `NotKept` too.
     /// [`keep`](Switchboard::keep) hands over what the journal has at the end.
     ///
+    /// If a sink takes the entries, a message of more than 1,398,000 bytes is refused as it is sent,
+    /// with [`TooLong`](Error::TooLong), since no text could have it. Of a swap both messages count.
+    ///
     /// If you say again how the switchboard keeps entries, they go to the new sink.
     /// [`Refuse`](WhenFull::Refuse) drops them.
     ///
@@ -343,7 +346,7 @@ impl<R: MessageKind> Switchboard<R> {
     #[must_use]
     pub fn when_full(mut self, when_full: WhenFull<R>) -> Switchboard<R> {
         assert!(self.file.is_none(), "a file keeps the journal, and is never full");
-        self.state_mut().set_when_full(when_full);
+        self.most = self.state_mut().set_when_full(when_full);
         self
     }
 

@@ -8,7 +8,7 @@ use crate::journal::Journal;
 use crate::message::carries::MessageKind;
 use crate::message::kind::{Kind, Misfit, Missing};
 use crate::park::parker::Parker;
-use crate::raw::{self, code, done, written, File, Handle, Reader, Taking};
+use crate::raw::{self, code, done, written, File, Handle, Messages, Reader, Taking};
 use crate::request::answers::Answers;
 use crate::switchboard::call::{Ask, Line, Outcome};
 use crate::switchboard::expected::Expected;
@@ -31,6 +31,9 @@ pub(crate) struct State<R: MessageKind> {
     calls: u64,
     /// The file that keeps the journal.
     pub(super) file: Option<Arc<File>>,
+    /// The most bytes of a call's messages, if a sink takes the journal. A file measures them as it
+    /// reserves room.
+    most: u64,
     /// How many entries the journal takes between two cuts.
     limit: u64,
     /// The policy for a full journal, and the entries that its sink refused.
@@ -66,6 +69,7 @@ impl<R: MessageKind> State<R> {
             spare: u64::MAX,
             pending: None,
             file: None,
+            most: u64::MAX,
             is_lost: false,
             start: Start::default(),
             first_seat: 0,
@@ -119,18 +123,21 @@ impl<R: MessageKind> State<R> {
         }
     }
 
-    /// Sets the full-journal policy.
-    pub fn set_when_full(&mut self, when_full: WhenFull<R>) {
+    /// Sets the full-journal policy. Returns the most bytes that a message has from now on.
+    pub fn set_when_full(&mut self, when_full: WhenFull<R>) -> u64 {
+        self.most = when_full.message_most();
         let kept = self.pending.take().and_then(PendingJournal::into_kept);
         self.pending = PendingJournal::new(when_full, kept);
         self.spare = if self.pending.is_some() { 0 } else { u64::MAX };
+        self.most
     }
 
     /// Reserves an entry, if a policy is set or a file is there: cuts a full journal first. `Err`:
     /// the code by which the call fails.
     #[inline]
     pub fn makes_room(&mut self, line: Line) -> Result<(), u32> {
-        if self.spare == 0 {
+        let is_long = matches!(R::MESSAGES, Messages::Bytes) && line.may_exceed(self.most);
+        if self.spare == 0 || is_long {
             return self.looks_for_room(line);
         }
         self.spare -= 1;
@@ -139,17 +146,24 @@ impl<R: MessageKind> State<R> {
 
     #[cold]
     fn looks_for_room(&mut self, line: Line) -> Result<(), u32> {
-        let Some(file) = &self.file else {
-            return self.cuts_for_room().map_err(|_| code::NOT_KEPT);
-        };
         let bytes = line.bytes::<R>(&mut self.handle);
-        match file.reserve(&mut self.handle, bytes) {
-            code::DONE => Ok(()),
-            code => Err(code),
+        if let Some(file) = &self.file {
+            return match file.reserve(&mut self.handle, bytes) {
+                code::DONE => Ok(()),
+                code => Err(code),
+            };
         }
+        if bytes > self.most {
+            return Err(code::TOO_LONG);
+        }
+        self.cuts_for_room().map_err(|_| code::NOT_KEPT)
     }
 
     fn cuts_for_room(&mut self) -> Result<(), Error> {
+        if self.spare != 0 {
+            self.spare -= 1;
+            return Ok(());
+        }
         let Some(pending) = &mut self.pending else {
             return Ok(());
         };
@@ -325,12 +339,12 @@ impl<R: MessageKind> State<R> {
 
     /// Makes a call that may park its seat, or that of a parked seat again. A parked seat's call
     /// was taken before. So while the journal has room it is made, even if nobody took the entries
-    /// of the last full one. A file that has no room refuses it.
+    /// of the last full one. It fails with each other refusal.
     #[inline]
     pub fn ask(&mut self, ask: Ask, call: impl FnOnce(&mut Handle) -> u32) -> u32 {
         let room = self.makes_room(ask.line);
         if let Err(code) = room {
-            if !ask.is_again || self.file.is_some() {
+            if !ask.is_again || code != code::NOT_KEPT {
                 return self.refuse(ask.seat, ask.is_again, code);
             }
         }
@@ -391,7 +405,6 @@ mod tests {
     use super::*;
     use crate::calls::{Calls, Give, Read};
     use crate::message::carries::Numbers;
-    use crate::raw::Messages;
 
     const SEATS: u64 = 4;
     const MAILBOX: u64 = 0;
