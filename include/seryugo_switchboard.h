@@ -210,7 +210,10 @@ static inline uint32_t seryugo_switchboard_close(struct seryugo_switchboard *boa
 /* Says what becomes of a full journal, before the first call: the call that finds it full cuts it, hands its entries to the sink, and is
  * then made. The sink runs under the lock. A sink in C++ must not throw. Without a sink (null) the entries are dropped. If you don't call
  * this, calls fail with SERYUGO_JOURNAL_FULL. If the sink returns false, so does the call that found the journal full, and no entry is
- * lost. SERYUGO_WRONG_HANDLE: the journal is kept in a file, and never full. */
+ * lost. SERYUGO_WRONG_HANDLE: the journal is kept in a file, and never full.
+ *
+ * With a sink a message of more than SERYUGO_FILE_MESSAGE_MOST bytes is SERYUGO_TOO_LONG as it is sent, since no text could have it. Of a
+ * swap both messages count. Send no longer one on a lane: a lane has no switchboard that could refuse it. */
 static inline uint32_t seryugo_switchboard_when_full(struct seryugo_switchboard *board, seryugo_sink *sink, void *context)
 {
     if (board->file != NULL) {
@@ -438,7 +441,7 @@ struct seryugo_turn {
     const struct timespec *deadline;
     bool is_again;
     uint32_t code;
-    /* With a file: the call wasn't made; and it was made, but isn't kept. */
+    /* With a file or a sink: the call wasn't made. With a file: it was made, but isn't kept. */
     bool is_refused;
     bool is_unkept;
     /* The process is a forked child: another thread of its parent may have the lock for ever. */
@@ -516,16 +519,27 @@ static inline bool seryugo_cut_if_full(struct seryugo_turn *turn)
     return has_room;
 }
 
-/* Whether the call may be made: the file has room for its line, whose message has so many bytes. */
+/* Whether a file or a sink takes the journal, which has to be written then. */
+static inline bool seryugo_is_written(const struct seryugo_switchboard *board)
+{
+    return board->file != NULL || board->keeper.sink != NULL;
+}
+
+/* Whether the call may be made: its line, whose message has so many bytes, can be written, and the file has room for it. */
 static inline bool seryugo_may_call(struct seryugo_turn *turn, uint64_t bytes)
 {
     struct seryugo_switchboard *board = turn->seat->board;
 
-    if (board->file == NULL || turn->is_forked) {
-        return !turn->is_forked;
+    if (turn->is_forked) {
+        return false;
     }
-    turn->code = seryugo_file_reserve(board->file, &board->room, bytes);
-    turn->is_refused = turn->code != SERYUGO_DONE;
+    if (board->file != NULL) {
+        turn->code = seryugo_file_reserve(board->file, &board->room, bytes);
+        turn->is_refused = turn->code != SERYUGO_DONE;
+    } else if (bytes > SERYUGO_FILE_MESSAGE_MOST && seryugo_is_written(board)) {
+        turn->code = SERYUGO_TOO_LONG;
+        turn->is_refused = true;
+    }
     return !turn->is_refused;
 }
 
@@ -571,7 +585,7 @@ static inline bool seryugo_finish_or_repeat(struct seryugo_turn *turn)
     if (turn->is_forked) {
         return false;
     }
-    if (board->file != NULL && !seryugo_is_kept(turn)) {
+    if (!seryugo_is_kept(turn)) {
         (void)seryugo_let_go(board);
         return false;
     }
@@ -745,13 +759,13 @@ static inline uint32_t seryugo_seat_mailbox_again(struct seryugo_seat *seat, uin
 
 /* ---- the calls of a switchboard of bytes that have a message ---- */
 
-/* How many bytes both messages of a swap have. Without a file nobody asks. */
+/* How many bytes both messages of a swap have, if the journal has to be written. */
 static inline uint64_t seryugo_swap_bytes(struct seryugo_seat *seat, uint64_t variable, size_t length)
 {
     struct seryugo_bytes held;
     uint64_t both = length;
 
-    if (seat->board->file != NULL && seryugo_bytes_held(&seat->board->room, variable, &held) == SERYUGO_DONE) {
+    if (seryugo_is_written(seat->board) && seryugo_bytes_held(&seat->board->room, variable, &held) == SERYUGO_DONE) {
         both += held.length;
         seryugo_bytes_free(held);
     }

@@ -1,5 +1,6 @@
 /* A journal that is cut by itself: it is dropped, or a sink takes its entries, or the sink refuses them for some time. A short journal
- * takes the place of what the sink has. If there is no memory for a call, the program frees all that it has, and ends with status 5. */
+ * takes the place of what the sink has. A message that no text could have is refused. If there is no memory for a call, the
+ * program frees all that it has, and ends with status 5. */
 #include "checks.h"
 
 #include "seryugo_switchboard.h"
@@ -248,9 +249,52 @@ static void try_to_keep_for_nobody(void)
     close_board();
 }
 
+/* Takes all entries, and writes none. */
+static bool take_all(void *context, struct seryugo *journal, uint64_t from, uint64_t count)
+{
+    (void)journal;
+    (void)from;
+    *(uint64_t *)context += count;
+    return true;
+}
+
+/* What no text could have is refused as it is sent, if there is a sink. Of a swap both messages count. */
+static void try_long_messages(seryugo_sink *wanted, uint32_t code)
+{
+    static const uint8_t bytes[SERYUGO_FILE_MESSAGE_MOST + 1];
+    struct seryugo_seat seat;
+    struct seryugo_bytes held;
+    uint64_t mailbox, variable, taken = 0;
+
+    RETURNS(DONE, seryugo_bytes_switchboard_open(2, &board));
+    has_board = true;
+    RETURNS(DONE, seryugo_switchboard_when_full(&board, wanted, &taken));
+    RETURNS(DONE, seryugo_seat_open(&board, &seat));
+    RETURNS(DONE, seryugo_seat_new_mailbox(&seat, &mailbox));
+    returns(seryugo_seat_bytes_send(&seat, mailbox, bytes, sizeof bytes), code, __LINE__);
+    returns(seryugo_seat_bytes_mvar_init(&seat, bytes, sizeof bytes, &variable), code, __LINE__);
+    RETURNS(DONE, seryugo_seat_bytes_send(&seat, mailbox, bytes, sizeof bytes - 1));
+    RETURNS(DONE, seryugo_seat_bytes_mvar_init(&seat, bytes, 1000000, &variable));
+    returns(seryugo_seat_bytes_swap(&seat, variable, bytes, 398001, NULL, &held), code, __LINE__);
+    if (code == SERYUGO_DONE) {
+        seryugo_bytes_free(held);
+        RETURNS(DONE, seryugo_seat_bytes_swap(&seat, variable, bytes, 1000000, NULL, &held));
+        seryugo_bytes_free(held);
+    }
+    RETURNS(DONE, seryugo_seat_bytes_swap(&seat, variable, bytes, 398000, NULL, &held));
+    IS(1000000, held.length);
+    seryugo_bytes_free(held);
+    RETURNS(DONE, seryugo_switchboard_keep(&board));
+    IS(wanted == NULL ? 0 : 4, taken);
+    seryugo_seat_leave(&seat);
+    close_board();
+}
+
 int main(void)
 {
     try_to_keep_for_nobody();
+    try_long_messages(take_all, SERYUGO_TOO_LONG);
+    try_long_messages(NULL, SERYUGO_DONE);
     try_dropping();
     try_a_sink();
     try_a_sink_that_refuses();
