@@ -1,6 +1,8 @@
 #include "calls.h"
 #include "messages.h"
 
+#include <limits.h>
+
 /* A call that is made: by whom, on what, and with which message. */
 struct request {
     const struct call *call;
@@ -42,6 +44,14 @@ static bool is_plain(const struct call *call, PyObject *const *arguments, Py_ssi
     return count == wanted + !names && is_limit(arguments[wanted]);
 }
 
+/* Returns whether the room takes messages of these lengths. What a swap's variable holds isn't known here. */
+static bool is_short(const struct request *request)
+{
+    unsigned long long longest = request->seat->room->longest;
+
+    return request->sent.length <= longest && (request->call->shape != SWAPPING || longest == ULLONG_MAX);
+}
+
 /* Returns whether the library can be called. Its caller clears the request, and an exception if there is one. */
 static bool is_ready(struct request *request, PyObject *const *arguments)
 {
@@ -56,7 +66,7 @@ static bool is_ready(struct request *request, PyObject *const *arguments)
     if (has_message(request->call) && !is_encoded(request->object, arguments[2], &request->sent)) {
         return false;
     }
-    return is_at_rest(request->seat->room);
+    return is_short(request) && is_at_rest(request->seat->room);
 }
 
 static void clear(struct request *request)

@@ -1,5 +1,8 @@
 #include "places.h"
 
+#include <limits.h>
+#include <structmember.h>
+
 /* The attribute of a seat or an object that has its place. */
 static PyObject *place_name;
 
@@ -25,6 +28,7 @@ static PyObject *room_new(PyTypeObject *type, PyObject *arguments, PyObject *nam
     room->parked = Py_NewRef(parked);
     room->dropped = Py_NewRef(dropped);
     room->unwritten = Py_NewRef(unwritten);
+    room->longest = ULLONG_MAX;
     return (PyObject *)room;
 }
 
@@ -39,6 +43,11 @@ static void room_free(PyObject *self)
     Py_TYPE(self)->tp_free(self);
 }
 
+static PyMemberDef room_members[] = {
+    {"longest", T_ULONGLONG, offsetof(struct room, longest), 0, NULL},
+    {NULL, 0, 0, 0, NULL},
+};
+
 PyTypeObject room_type = {
     PyVarObject_HEAD_INIT(NULL, 0)
     .tp_name = "seryugo._fast.Room",
@@ -46,6 +55,7 @@ PyTypeObject room_type = {
     .tp_flags = Py_TPFLAGS_DEFAULT,
     .tp_new = room_new,
     .tp_dealloc = room_free,
+    .tp_members = room_members,
 };
 
 static PyObject *place_new(PyTypeObject *type, PyObject *arguments, PyObject *names)

@@ -23,6 +23,8 @@ struct room {
     /* While one of these has something, each call has more to do first. */
     PyObject *dropped;
     PyObject *unwritten;
+    /* The most bytes of a message. Less than there may be: then a swap's messages are to be measured first, by its method. */
+    unsigned long long longest;
 };
 
 struct place {

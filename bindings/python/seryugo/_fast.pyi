@@ -21,6 +21,9 @@ ASKING: int
 SWAPPING: int
 
 class Room:
+    # The most bytes of a message. Less than there may be: then no swap goes by the extension.
+    longest: int
+
     def __new__(
         cls,
         handle: int,

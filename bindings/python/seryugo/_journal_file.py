@@ -13,16 +13,13 @@ from ctypes import byref, c_uint64, c_void_p, get_errno
 from functools import partial
 from typing import Any, Callable, NamedTuple, Optional, Tuple, Union
 
-from . import _calls as calls
 from . import _library as library
 from . import errors
 from ._library import DONE, NOTHING, PARKED
 from ._lock import free, new_lock, refuse_in_a_call
-from ._room import AGAIN, Keeper, Room
+from ._room import AGAIN, TOO_LONG, Keeper, Room, message_size
 
 Path = Union[str, bytes, "os.PathLike[str]", "os.PathLike[bytes]"]
-
-_TOO_LONG = "a message has more than 1,398,000 bytes, or both messages of a swap have more"
 
 # The rooms with a file, which a forked child must not use.
 _rooms: weakref.WeakSet[Room] = weakref.WeakSet()
@@ -81,7 +78,6 @@ class FileKeeper(Keeper):
         # A thread that waits for the disk or closes the file holds this. Only then the room's lock
         # may be taken.
         self._lock = new_lock()
-        self._held = library.Bytes()
         weakref.finalize(room, self._end)
         _rooms.add(room)
 
@@ -118,7 +114,7 @@ class FileKeeper(Keeper):
             raise errors.BoardClosed
         if arguments[-2] is AGAIN and self._sleeps_on(arguments[0]):
             return PARKED
-        size = self._size(call, arguments)
+        size = message_size(room, call, arguments)
         code = library.file_reserve(self._at, self._handle, c_uint64(size))
         if code != DONE:
             raise self._error(code)
@@ -221,21 +217,10 @@ class FileKeeper(Keeper):
         is_due = library.is_due(self._handle, seat) != NOTHING
         return not is_due and library.file_state(self._at) == DONE
 
-    def _size(self, call: Callable[..., int], arguments: Tuple[Any, ...]) -> int:
-        """Return how many bytes a call's messages have."""
-        size = 0
-        for given in arguments:
-            if isinstance(given, bytes):
-                size = len(given)
-        if call is calls.swap:
-            if library.held(self._handle, arguments[1], byref(self._held)) == DONE:
-                size += len(library.taken_over(self._held))
-        return size
-
     def _error(self, code: int) -> errors.SeryugoError:
         """Return the error of a call on the open file."""
         if code == errors.TooLong.code:
-            return errors.TooLong(_TOO_LONG)
+            return errors.TooLong(TOO_LONG)
         if code not in (errors.FileFull.code, errors.FileLost.code):
             return errors.of_code(code)
         return errors.of_file(code, self.path, *library.file_error(self._at))

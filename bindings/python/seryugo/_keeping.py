@@ -5,8 +5,13 @@ from __future__ import annotations
 from typing import Any, Callable, List, Tuple
 
 from . import _library as library
-from ._room import AGAIN, Keeper, Room
+from . import errors
+from ._library import NOTHING, PARKED
+from ._room import AGAIN, TOO_LONG, Keeper, Room, message_size
 from .journal import Journal
+
+# The most bytes of a message, and of both messages of a swap, that a text has room for.
+MESSAGE_MOST = 1_398_000
 
 # What is called with the entries of a full journal. If it raises an exception, they are kept.
 Sink = Callable[[Journal], object]
@@ -22,9 +27,17 @@ class SinkKeeper(Keeper):
         """Keep at most one journal in this list."""
         self._sink = sink
         self._kept = kept
+        # Whether the sink may write the entries, so that none may be too long for a text.
+        self.is_writing = sink is not drop_entries
 
     def made(self, room: Room, call: Callable[..., int], arguments: Tuple[Any, ...]) -> int:
-        if arguments[-2] is not AGAIN:
+        is_again = arguments[-2] is AGAIN
+        if self.is_writing and message_size(room, call, arguments) > MESSAGE_MOST:
+            if is_again and library.is_due(room.handle, arguments[0]) == NOTHING:
+                # It was woken for nothing, and waits on.
+                return PARKED
+            raise errors.TooLong(TOO_LONG)
+        if not is_again:
             self.hand_over()
         return super().made(room, call, arguments)
 

@@ -38,6 +38,21 @@ AGAIN = c_bool(True)
 # What a call returns if the journal has no room for its entry.
 FULL = errors.JournalFull.code
 
+# Why a keeper takes no entry.
+TOO_LONG = "a message has more than 1,398,000 bytes, or both messages of a swap have more"
+
+
+def message_size(room: Room, call: Callable[..., int], arguments: Tuple[Any, ...]) -> int:
+    """Return how many bytes a call's messages have. Its caller has the room's lock."""
+    size = 0
+    for given in arguments:
+        if isinstance(given, bytes):
+            size = len(given)
+    if call is calls.swap:
+        if library.held(room.handle, arguments[1], byref(room.message)) == DONE:
+            size += len(library.taken_over(room.message))
+    return size
+
 
 class Keeper:
     """What keeps the entries of a room's journal. Its caller has the room's lock."""

@@ -144,7 +144,7 @@ class TextOpen(Torn):
 class TooLong(SeryugoError):
     """No reader would take the line that a message has in a journal's text.
 
-    A journal in a file takes 1,398,000 bytes of a message, and of both messages of a swap.
+    A file and `when_full` take 1,398,000 bytes of a message, and of both messages of a swap.
     """
 
     code = 20

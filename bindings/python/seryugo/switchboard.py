@@ -11,7 +11,7 @@ from . import _library as library
 from . import errors
 from ._calls import CHANNEL, IVAR, MAILBOX, MVAR, PORT
 from ._journal_file import LEVELS, FileKeeper, Path, Recovered
-from ._keeping import Sink, SinkKeeper
+from ._keeping import MESSAGE_MOST, Sink, SinkKeeper
 from ._library import DONE, MOST, NOTHING
 from ._messages import Codec, T, codec_of
 from ._restoring import ValidPrefix, restored
@@ -46,6 +46,9 @@ class Switchboard(Unpicklable):
     `when_full` with the entries that it had, under the lock, and is then made. If that raises an
     exception, the call fails with it. The switchboard keeps the entries, and the next call hands
     them over first.
+
+    With a `when_full` a message of more than 1,398,000 bytes fails with `TooLong` as it is sent,
+    since no text could have it. Of a swap both messages count. With `drop_entries` none does.
 
     `when_full` must not call the switchboard: it would wait for ever. If Ctrl-C comes just as it
     returns, it may be called with the same journal once more, which has the same `start`.
@@ -362,6 +365,8 @@ class Switchboard(Unpicklable):
     def _keep_by(self, sink: Optional[Sink]) -> None:
         if sink is not None:
             self._sink = self._room.keeper = SinkKeeper(sink, self._room.unwritten)
+            if self._sink.is_writing and self._room.fast is not None:
+                self._room.fast.longest = MESSAGE_MOST
 
     def _room_to_cut(self) -> Room:
         """Return the room. Fails with `KeptInFile` if a file alone cuts its journal."""

@@ -161,18 +161,82 @@ class Keeping(unittest.TestCase):
         board.keep()
         self.assertEqual(self.sink.entries(), 21)
 
-    def test_a_cut_drops_entries_that_no_sink_can_take(self):
+    def test_a_cut_drops_entries_that_the_sink_refuses(self):
         board = Switchboard(2, when_full=self.sink)
+        self.sink.failures = 3
         with board.seat() as seat:
             mailbox = seat.mailbox(bytes)
-            seat.send(mailbox, bytes(2_000_000))
+            seat.send(mailbox, b"x")
             for _ in range(3):
-                with self.assertRaises(TooLong):
+                with self.assertRaises(OSError):
                     seat.send(mailbox, b"x")
             board.cut()
             seat.send(mailbox, b"x")
             self.assertEqual(board.owed(mailbox), 2)
         self.assertEqual(self.sink.text, b"")
+
+
+class LongMessages(unittest.TestCase):
+    """A text has room for a message of 1,398,000 bytes of any kind."""
+
+    most = 1_398_000
+
+    def test_one_that_no_sink_could_write_is_refused_as_it_is_sent(self):
+        sink = Sink()
+        board = Switchboard(2, when_full=sink)
+        with board.seat() as seat:
+            mailbox = seat.mailbox(bytes)
+            for _ in range(3):
+                with self.assertRaisesRegex(TooLong, "1,398,000"):
+                    seat.send(mailbox, b"\n" * (self.most + 1))
+            with self.assertRaises(TooLong):
+                seat.mvar(bytes, bytes(self.most + 1))
+            self.assertEqual(board.entries, 1)
+            seat.send(mailbox, b"\n" * self.most)
+        board.keep()
+        board = Switchboard.restore([sink.text])
+        with board.seat() as seat:
+            self.assertEqual(seat.recv(board.mailbox(0, bytes)), b"\n" * self.most)
+
+    def test_both_messages_of_a_swap_count(self):
+        lengths = []
+        board = Switchboard(2, when_full=lambda journal: lengths.append(len(journal)))
+        with board.seat() as seat:
+            variable = seat.mvar(bytes, bytes(self.most))
+            for message in (b"x", bytes(self.most)):
+                with self.assertRaises(TooLong):
+                    seat.swap(variable, message)
+            self.assertEqual((board.entries, len(board.held(variable))), (1, self.most))
+            self.assertEqual(len(seat.swap(variable, b"")), self.most)
+            self.assertEqual(seat.swap(variable, bytes(self.most)), b"")
+        board.keep()
+        self.assertEqual(sum(lengths), 3)
+
+    def test_a_swap_that_waits_is_refused(self):
+        board = Switchboard(2, when_full=lambda journal: None)
+        with board.seat() as seat, board.seat() as other:
+            variable = seat.mvar(bytes)
+            refusals = []
+
+            def swap():
+                with self.assertRaises(TooLong) as told:
+                    other.swap(variable, b"x")
+                refusals.append(told.exception)
+
+            thread = threading.Thread(target=swap)
+            thread.start()
+            seat.put(variable, bytes(self.most))
+            thread.join()
+            self.assertEqual(len(refusals), 1)
+            self.assertEqual(len(seat.take(variable)), self.most)
+
+    def test_entries_that_are_dropped_may_have_more(self):
+        board = Switchboard(2, when_full=drop_entries)
+        with board.seat() as seat:
+            mailbox, variable = seat.mailbox(bytes), seat.mvar(bytes, bytes(self.most))
+            seat.send(mailbox, bytes(self.most + 1))
+            self.assertEqual(len(seat.swap(variable, bytes(self.most))), self.most)
+            self.assertEqual(board.entries, 4)
 
 
 if __name__ == "__main__":
