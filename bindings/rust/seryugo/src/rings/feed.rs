@@ -14,7 +14,9 @@ use std::fmt;
 use std::marker::PhantomData;
 
 /// A feed of what is multicast on a channel, from which one thread takes without the lock what was
-/// pumped. It may go to another thread, and two can't share it. It ends when it is dropped.
+/// pumped. It may go to another thread, and two can't share it. It ends when it is dropped. Its port
+/// stays open then, and the channel keeps each message for it: have a seat
+/// [close](crate::Seat::close) the [port](Feed::port), or receive from it.
 ///
 /// If a [file](Switchboard::open) keeps the journal, a message counts as received once it is pumped:
 /// after the end of the process no feed and no port has it again.
