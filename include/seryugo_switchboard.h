@@ -533,7 +533,10 @@ static inline bool seryugo_may_call(struct seryugo_turn *turn, uint64_t bytes)
     if (turn->is_forked) {
         return false;
     }
-    if (board->file != NULL) {
+    if (bytes == UINT64_MAX) {
+        turn->code = SERYUGO_NO_MEMORY;
+        turn->is_refused = true;
+    } else if (board->file != NULL) {
         turn->code = seryugo_file_reserve(board->file, &board->room, bytes);
         turn->is_refused = turn->code != SERYUGO_DONE;
     } else if (bytes > SERYUGO_FILE_MESSAGE_MOST && seryugo_is_written(board)) {
@@ -759,15 +762,22 @@ static inline uint32_t seryugo_seat_mailbox_again(struct seryugo_seat *seat, uin
 
 /* ---- the calls of a switchboard of bytes that have a message ---- */
 
-/* How many bytes both messages of a swap have, if the journal has to be written. */
+/* How many bytes both messages of a swap have, if the journal has to be written. UINT64_MAX: there is no memory to find out. */
 static inline uint64_t seryugo_swap_bytes(struct seryugo_seat *seat, uint64_t variable, size_t length)
 {
     struct seryugo_bytes held;
     uint64_t both = length;
+    uint32_t code = SERYUGO_NOTHING;
 
-    if (seryugo_is_written(seat->board) && seryugo_bytes_held(&seat->board->room, variable, &held) == SERYUGO_DONE) {
+    if (seryugo_is_written(seat->board)) {
+        code = seryugo_bytes_held(&seat->board->room, variable, &held);
+    }
+    if (code == SERYUGO_DONE) {
         both += held.length;
         seryugo_bytes_free(held);
+    }
+    if (code == SERYUGO_NO_MEMORY) {
+        return UINT64_MAX;
     }
     return both;
 }
