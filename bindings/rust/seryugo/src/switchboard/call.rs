@@ -71,15 +71,17 @@ impl Line {
         self.bytes > most
     }
 
-    pub fn bytes<R: MessageKind>(self, room: &mut Handle) -> u64 {
+    /// How many bytes its messages have. `Err`: the code of a call that found no memory.
+    pub fn bytes<R: MessageKind>(self, room: &mut Handle) -> Result<u64, u32> {
         let own = self.bytes & !SWAP;
         if own == self.bytes {
-            return own;
+            return Ok(own);
         }
         let mut held = R::nothing();
         match R::held(room, self.variable, &mut held) {
-            code::DONE => own.saturating_add(R::received_length(&held)),
-            _ => own,
+            code::DONE => Ok(own.saturating_add(R::received_length(&held))),
+            code::NO_MEMORY => Err(code::NO_MEMORY),
+            _ => Ok(own),
         }
     }
 }

@@ -146,7 +146,7 @@ impl<R: MessageKind> State<R> {
 
     #[cold]
     fn looks_for_room(&mut self, line: Line) -> Result<(), u32> {
-        let bytes = line.bytes::<R>(&mut self.handle);
+        let bytes = line.bytes::<R>(&mut self.handle)?;
         if let Some(file) = &self.file {
             return match file.reserve(&mut self.handle, bytes) {
                 code::DONE => Ok(()),
