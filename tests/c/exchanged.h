@@ -49,6 +49,7 @@ static uint32_t send_value(struct seryugo_seat *seat, uint64_t mailbox, uint64_t
         return seryugo_seat_send(seat, mailbox, value);
     }
     length = (size_t)snprintf(bytes, sizeof bytes, "%llu", (unsigned long long)value);
+    bytes[length++] = '.';
     for (; length < sizeof bytes - value % 50; length++) {
         bytes[length] = length % 7 == 0 ? (char)(128 + value + length) : '.';
     }

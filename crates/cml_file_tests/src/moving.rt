@@ -7,7 +7,7 @@ use std::sync::Wait;
 use std::sync::ledger::Ledger;
 
 /// What became of a message that was sent by a lane.
-#[derive(Debug)]
+#[derive(Debug, Drop)]
 pub enum Moved {
     /// So many messages were drained, and the lane is closed.
     Drained(usize),
