@@ -43,16 +43,15 @@ static const char short_journal[] = "journal 1\n"
                                     "seat 1 mailbox: made 0\n"
                                     "seat 1 channel: made 1\n"
                                     "seat 1 port 1: made 2\n"
+                                    "seat 1 multicast 1 9: done\n"
                                     "seat 1 port 1: made 3\n"
                                     "seat 1 port 1: made 4\n"
                                     "seat 1 mvar: made 5\n"
                                     "seat 1 send 0 7: done\n"
                                     "seat 1 send 0 11: done\n"
-                                    "seat 1 multicast 1 9: done\n"
-                                    "seat 1 recv 3: 9\n"
                                     "seat 1 close 4: done\n"
                                     "seat 1 put 5 8: done\n"
-                                    "end 12\n";
+                                    "end 11\n";
 
 static const char bytes_journal[] = "journal 2\n"
                                     "lane 0 mailbox: made 0\n"
@@ -101,16 +100,16 @@ static void try_numbers(void)
     struct seryugo_entry entry;
 
     read_text(long_journal, false, SERYUGO_DONE, __LINE__);
-    shortens(short_journal, 12, __LINE__);
-    RETURNS(DONE, seryugo_taken_entry(&journal, 7, &entry));
+    shortens(short_journal, 11, __LINE__);
+    RETURNS(DONE, seryugo_taken_entry(&journal, 8, &entry));
     IS(SERYUGO_SEAT, entry.maker.kind);
     IS(1, entry.maker.number);
     IS(11, entry.call.message);
-    RETURNS(NO_SUCH, seryugo_taken_entry(&journal, 12, &entry));
+    RETURNS(NO_SUCH, seryugo_taken_entry(&journal, 11, &entry));
     close_one(&has_journal, journal);
     /* It is its own short journal. */
     read_text(short_journal, false, SERYUGO_DONE, __LINE__);
-    shortens(short_journal, 12, __LINE__);
+    shortens(short_journal, 11, __LINE__);
     close_one(&has_journal, journal);
 }
 
@@ -251,7 +250,7 @@ int main(void)
     try_torn_texts();
     try_wrong_calls();
     try_a_room_of(long_journal, 13);
-    try_a_room_of(short_journal, 12);
+    try_a_room_of(short_journal, 11);
     try_a_room_in_use();
     free_all();
     puts("each journal is made short");

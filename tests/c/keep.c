@@ -430,13 +430,15 @@ static void try_bytes(void)
 /* No reading would take the line of this message, so it isn't written. */
 static void try_too_long_a_line(void)
 {
-    memset(many, 0xFF, sizeof many);
+    static unsigned char longer[1400 * 1024];
+
+    memset(longer, 0xFF, sizeof longer);
     kept = 0;
     RETURNS(DONE, seryugo_bytes_room_open(100, &room));
     has_room = true;
     RETURNS(DONE, seryugo_new_seat(&room, &(uint64_t){ 0 }));
     RETURNS(DONE, seryugo_new_mailbox(&room, 0, &(uint64_t){ 0 }));
-    SEND(many, sizeof many);
+    SEND(longer, sizeof longer);
     RETURNS(TOO_LONG, seryugo_entries_text(&room, 0, file, sizeof file, &(uint64_t){ 0 }, &(uint64_t){ 0 }));
     IS(0, memcmp("seat 0 mailbox: made 0\n", file, 23));
     RETURNS(DONE, seryugo_take_journal(&room, &journal, &(uint64_t){ 0 }));
