@@ -67,7 +67,9 @@ pub fn send_or_keep<M: Message>(
 pub fn kept(alloc: Global) -> Result<Result<(), (Refusal, Request)>, Trouble> {
     let mut board = BoardOf::<Request>::new(alloc, 2)?;
     let requests = make(&mut board, Call::NewMailbox)?;
-    let _sent = send_new(alloc, &mut board, requests, ("coffee", 7))?;
+    if let Err(refused) = send_new(alloc, &mut board, requests, ("coffee", 7))? {
+        return Ok(Err(refused));
+    }
     let kept = send_new(alloc, &mut board, requests, ("tea", 8))?;
     Ok(kept)
 }
