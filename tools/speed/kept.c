@@ -2,8 +2,10 @@
  * own and receives it, each call answered before the next. PLACE is a file that isn't there, or the port of a Redis server.
  *
  * Ways: memory, file and disk (this library, without a file, with a journal in a file, and on the disk before a call returns),
- * fdatasync (bytes that are written to a file and synced, for a send and for a receive, by each thread for itself), sqlite (a connection for each thread), sqlite_batched
- * (a thread that writes for all), redis, redis_pipelined (16 sends, and then 16 receives, at a time). */
+ * file_synced (16 sends and a sync, and then 16 receives and a sync), fdatasync (bytes that are written to a file and synced, for a
+ * send and for a receive, by each thread for itself), sqlite (a connection for each thread), sqlite_batched (a thread that writes for
+ * all), both also with _full (on the disk before a transaction ends), redis, redis_pipelined (16 sends, and then 16 receives, at a
+ * time), both also with _always (a server that syncs before it answers). */
 #ifndef _GNU_SOURCE
 #define _GNU_SOURCE
 #endif
@@ -52,22 +54,38 @@ static void open_file(void) { open_board(true, SERYUGO_KEEP_PROCESS); }
 
 static void open_disk(void) { open_board(true, SERYUGO_KEEP_DISK); }
 
-static uint64_t pass_board(uint64_t thread)
+static uint64_t pass_board_by(uint64_t at_once, bool is_synced)
 {
     struct seryugo_seat seat;
     struct seryugo_bytes got;
     uint64_t mailbox, passed = 0;
 
-    (void)thread;
     need(seryugo_seat_open(&board, &seat) == SERYUGO_DONE && seryugo_seat_new_mailbox(&seat, &mailbox) == SERYUGO_DONE, "a mailbox");
-    while (!is_over) {
-        need(seryugo_seat_bytes_send(&seat, mailbox, message, LENGTH) == SERYUGO_DONE, "send");
-        need(seryugo_seat_bytes_recv(&seat, mailbox, NULL, &got) == SERYUGO_DONE, "receive");
-        seryugo_bytes_free(got);
-        passed++;
+    for (; !is_over; passed += at_once) {
+        for (uint64_t i = 0; i < at_once; i++) {
+            need(seryugo_seat_bytes_send(&seat, mailbox, message, LENGTH) == SERYUGO_DONE, "send");
+        }
+        need(!is_synced || seryugo_switchboard_sync(&board) == SERYUGO_DONE, "sync");
+        for (uint64_t i = 0; i < at_once; i++) {
+            need(seryugo_seat_bytes_recv(&seat, mailbox, NULL, &got) == SERYUGO_DONE, "receive");
+            seryugo_bytes_free(got);
+        }
+        need(!is_synced || seryugo_switchboard_sync(&board) == SERYUGO_DONE, "sync");
     }
     seryugo_seat_leave(&seat);
     return passed;
+}
+
+static uint64_t pass_board(uint64_t thread)
+{
+    (void)thread;
+    return pass_board_by(1, false);
+}
+
+static uint64_t pass_synced(uint64_t thread)
+{
+    (void)thread;
+    return pass_board_by(AT_ONCE, true);
 }
 
 /* ---- the system ---- */
@@ -95,13 +113,17 @@ static uint64_t pass_bare(uint64_t thread)
 
 /* ---- SQLite ---- */
 
+/* Whether each transaction is on the disk before it ends. */
+static bool is_full;
+
 static sqlite3 *open_sqlite(void)
 {
     sqlite3 *base = NULL;
 
     need(sqlite3_open(place, &base) == SQLITE_OK, "open the base");
     sqlite3_busy_timeout(base, 60000);
-    need(sqlite3_exec(base, "PRAGMA journal_mode=WAL; PRAGMA synchronous=NORMAL;"
+    need(sqlite3_exec(base, is_full ? "PRAGMA synchronous=FULL" : "PRAGMA synchronous=NORMAL", NULL, NULL, NULL) == SQLITE_OK, "choose");
+    need(sqlite3_exec(base, "PRAGMA journal_mode=WAL;"
                             "CREATE TABLE IF NOT EXISTS letters (number INTEGER PRIMARY KEY, queue INTEGER, message BLOB);"
                             "CREATE INDEX IF NOT EXISTS queues ON letters (queue, number);", NULL, NULL, NULL) == SQLITE_OK, "prepare the base");
     return base;
@@ -123,6 +145,12 @@ struct queue {
 };
 
 static void make_base(void) { sqlite3_close(open_sqlite()); }
+
+static void make_full_base(void)
+{
+    is_full = true;
+    make_base();
+}
 
 static struct queue open_queue(void)
 {
@@ -227,6 +255,12 @@ static void open_writer(void)
     need(pthread_create(&writer, NULL, write_all, NULL) == 0, "start the writer");
 }
 
+static void open_full_writer(void)
+{
+    is_full = true;
+    open_writer();
+}
+
 static uint64_t pass_batched(uint64_t thread)
 {
     uint64_t passed = 0;
@@ -288,9 +322,14 @@ static const struct way {
     uint64_t (*pass)(uint64_t thread);
 } ways[] = {
     {"memory", open_memory, pass_board},       {"file", open_file, pass_board},
-    {"disk", open_disk, pass_board},           {"fdatasync", open_bare, pass_bare},
-    {"sqlite", make_base, pass_sqlite},     {"sqlite_batched", open_writer, pass_batched},
-    {"redis", open_none, pass_redis},          {"redis_pipelined", open_none, pass_pipelined},
+    {"disk", open_disk, pass_board},           {"file_synced", open_file, pass_synced},
+    {"fdatasync", open_bare, pass_bare},       {"sqlite", make_base, pass_sqlite},
+    {"sqlite_full", make_full_base, pass_sqlite},
+    {"sqlite_batched", open_writer, pass_batched},
+    {"sqlite_batched_full", open_full_writer, pass_batched},
+    {"redis", open_none, pass_redis},          {"redis_always", open_none, pass_redis},
+    {"redis_pipelined", open_none, pass_pipelined},
+    {"redis_pipelined_always", open_none, pass_pipelined},
 };
 
 static const struct way *way;
