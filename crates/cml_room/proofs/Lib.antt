@@ -1,3 +1,8 @@
+pub mod ChainsLemmas
+pub mod ChangesLemmas
+pub mod RaisedLemmas
+pub mod RowsLemmas
+pub mod ShownLemmas
 pub mod IdlingLemmas
 pub mod TurningLemmas
 pub mod ListingLemmas

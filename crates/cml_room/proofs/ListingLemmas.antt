@@ -19,7 +19,7 @@ use Rattle.cml_room.specs.{free_by, parked_by, freed, IsKept, HaveLeft, is_here}
 use Rattle.cml_room.specs.declared.notice.Notice.TheVariants as notice
 use Rattle.cml_room.specs.declared.place.Place.TheVariants as place
 use Rattle.cml_room.specs.declared.state.State.TheVariants as state
-use Rattle.cml_queues.specs.{QueuesShown, has, queue_of, is_in}
+use Rattle.cml_room.specs.Queues.{QueuesShown, has, queue_of, is_in}
 use Rattle.cml_room.proofs.IdlingLemmas.{free_within, parked_within, parked_at}
 
 or_false : (b : Bool) → (b || false) ≡ b

@@ -6,7 +6,7 @@ use Rattle.std.proofs.lemmas.List.{length-replicate}
 use Rattle.cml_lanes.specs.{FloorShown}
 use Rattle.cml_room.specs.{Place, Waiter, State, states_in, is_parked, is_here, behind_gone, row_in, noted_in, IsKept, IsWatched}
 use Rattle.cml_room.specs.{free_by, free_in, parked_by, parked_in}
-use Rattle.cml_queues.specs.{QueuesShown, has, queue_of}
+use Rattle.cml_room.specs.Queues.{QueuesShown, has, queue_of}
 use Rattle.cml_lanes.proofs.BehindLemmas.{copies_before}
 use Rattle.std.proofs.lemmas.Bool.{false≢true, cases_lt}
 use Rattle.std.proofs.lemmas.List.Sums.{sum_by-cons}

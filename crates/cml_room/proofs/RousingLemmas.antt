@@ -15,7 +15,7 @@ use Rattle.cml_room.specs.declared.place.Place.TheVariants.{Free, Waiting, Left}
 use Rattle.cml_room.specs.declared.state.State.TheVariants as state
 use Rattle.cml_room.proofs.ListingLemmas.{set_here, in_row}
 use Rattle.cml_room.proofs.WalkingLemmas.{Walked, walk_begins, walk_at, walk_goes, walk_kept}
-use Rattle.cml_queues.specs.{QueuesShown, queue_of, is_in}
+use Rattle.cml_room.specs.Queues.{QueuesShown, queue_of, is_in}
 use Rattle.std.specs.Prelude.{◌==◌, ◌&&◌, ◌||◌}
 
 -- a seat that was roused does what it did

@@ -8,7 +8,7 @@ use Rattle.std.proofs.lemmas.List.Sums.{sum_by-set}
 use Rattle.std.proofs.lemmas.Bool.{false≢true}
 use Rattle.cml_board.specs.{Entry, Want, Waits}
 use Rattle.cml_board.specs.Shown.{Shown}
-use Rattle.cml_queues.specs.{QueuesShown, is_in}
+use Rattle.cml_room.specs.Queues.{QueuesShown, is_in}
 use Rattle.cml_room.specs.{Notice, Place, Waiter, state_by, states_in, is_noted, noted_as, noted_in, AreListed, free_by, free_in, IsIdle}
 use Rattle.cml_room.specs.{AreIdle, NoneForgotten}
 use Rattle.cml_room.specs.declared.notice.Notice.TheVariants.{Nothing, Due, Woken}

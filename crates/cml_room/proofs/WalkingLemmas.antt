@@ -3,7 +3,7 @@ use Rattle.std.proofs.Common.{◌≡◌, ℕ, zero, suc, ◌+◌, ◌<◌, ◌�
 use Rattle.std.proofs.Common.{Some, None, sym, ap, subst, ◌∙◌, arith}
 use Rattle.std.proofs.lemmas.Option.{none-some, same_Some, slice_get_within}
 use Rattle.std.proofs.lemmas.Bool.{cases_lt}
-use Rattle.cml_queues.specs.{has}
+use Rattle.cml_room.specs.Queues.{has}
 use Rattle.cml_room.proofs.ListingLemmas.{at_has}
 
 -- this many members were seen, and this is the next

@@ -1,3 +1,5 @@
+pub mod Queues
+pub mod Links
 pub mod Places
 pub mod Seats
 pub mod Stalling

@@ -9,7 +9,7 @@ use Rattle.cml_room.specs.declared.place.Place.TheVariants as place
 use Rattle.cml_room.specs.declared.place.Waiter.{Waiter}
 use Rattle.cml_room.specs.declared.state.State.{State}
 use Rattle.cml_room.specs.declared.state.State.TheVariants as state
-use Rattle.cml_queues.specs.{QueuesShown, is_in}
+use Rattle.cml_room.specs.Queues.{QueuesShown, is_in}
 
 abbrev pub state_by : Place → State
 state_by place.Free = state.Free

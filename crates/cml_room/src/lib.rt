@@ -7,6 +7,7 @@ mod news;
 mod notice;
 mod place;
 mod places;
+mod queues;
 mod room;
 mod seats;
 mod state;

@@ -1,7 +1,7 @@
 use Rattle.std.proofs.Common.{ap, ◌∙◌, arith}
 use Rattle.std.specs.Option.{option_map}
 use Rattle.std.proofs.lemmas.Option.{slice_get-map}
-use Rattle.cml_queues.specs.{queue_of}
+use Rattle.cml_room.specs.Queues.{queue_of}
 use Rattle.cml_room.specs.{state_by}
 use Rattle.cml_room.specs.declared.state.State.TheVariants.{Parked}
 use Rattle.cml_room.proofs.IdlingLemmas.{idle_state}

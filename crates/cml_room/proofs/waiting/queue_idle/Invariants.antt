@@ -1,6 +1,6 @@
 use Rattle.std.proofs.Common.{◌≡◌, slice_get, Some}
 use Rattle.cml_board.specs.{Waits}
-use Rattle.cml_queues.specs.{queue_of}
+use Rattle.cml_room.specs.Queues.{queue_of}
 use Rattle.cml_room.specs.declared.place.Place.TheVariants.{Waiting}
 use Rattle.cml_room.specs.{Waiter}
 use Rattle.cml_room.proofs.WalkingLemmas.{Walked}

@@ -1,6 +1,6 @@
 use Rattle.std.proofs.Common.{◌≡◌, length, slice_get, slice_set, get_or, refl, sym, ap, subst, ◌∙◌, arith}
 use Rattle.std.proofs.lemmas.Option.{slice_get_within}
-use Rattle.cml_queues.specs.{queue_of, is_in}
+use Rattle.cml_room.specs.Queues.{queue_of, is_in}
 use Rattle.cml_room.specs.declared.place.Place.TheVariants.{Free}
 use Rattle.cml_room.specs.{row_of, roused, AreRoused, SeatsShown, OneEach}
 use Rattle.cml_room.proofs.ListingLemmas.{in_row}

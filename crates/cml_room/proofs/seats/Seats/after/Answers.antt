@@ -1,5 +1,5 @@
 use Rattle.std.proofs.Common.{◌≡◌, ◌+◌, slice_get, Some, sym, subst}
-use Rattle.cml_queues.specs.{queue_of}
+use Rattle.cml_room.specs.Queues.{queue_of}
 use Rattle.cml_room.specs.{SeatsShown}
 use Rattle.cml_room.proofs.ListingLemmas.{behind}
 use Rattle.cml_room.proofs.seats.Seats.after.Goals as goal

@@ -4,7 +4,7 @@ use Rattle.cml_board.proofs.ListLemmas.{slice_get-set_same}
 use Rattle.cml_room.specs.{Place, IsKept, Waiter, noted_as, noted_in, notice_in, AreListed, SeatsShown, WakesNext}
 use Rattle.cml_room.specs.declared.notice.Notice.TheVariants as notice
 use Rattle.cml_room.specs.declared.place.Place.TheVariants as place
-use Rattle.cml_queues.specs.{queue_of, is_in}
+use Rattle.cml_room.specs.Queues.{queue_of, is_in}
 use Rattle.cml_room.proofs.ListingLemmas.{listed_push, listed_remove, has_at, unwoken_waits, not_due, kept_noticed}
 use Rattle.cml_room.proofs.seats.Seats.wake_next.Goals.{In_ok-number, In-Some}
 use Rattle.cml_room.proofs.seats.Seats.wake_next.Goals as goal

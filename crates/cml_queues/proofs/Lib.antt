@@ -1,5 +1,0 @@
-pub mod ChainsLemmas
-pub mod ChangesLemmas
-pub mod RaisedLemmas
-pub mod RowsLemmas
-pub mod ShownLemmas

@@ -1,6 +1,0 @@
-use Rattle.cml_queues.proofs.RaisedLemmas.{short_now}
-use Rattle.cml_queues.proofs.queues.Queues.most.Goals as goal
-
-pub returns-clause-enough : goal.returns-clause-enough
-returns-clause-enough c row =
-    short_now c.self.inside.first c.self.inside.dense c.args.self.now c.self.view_is row c.bound.result (c.bound.ensures.enough row)
