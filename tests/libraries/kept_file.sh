@@ -1,5 +1,5 @@
 #!/bin/sh
-# A switchboard in a file, for Rattle: `sh tests/libraries/kept_file.sh [PROGRAM]` hands the program of cml_file_tests calls, and looks
+# A switchboard in a file, for Rattle: `sh tests/libraries/kept_file.sh [PROGRAM]` hands cml_rows calls, and looks
 # at what it tells and at the file. It kills the program while it sends, and lets its writes fail. What its calls returned is in the
 # file afterwards, and the file is gone on with. Without PROGRAM it builds one, unproved. The last line is `N passed, M failed`.
 top=$(cd "$(dirname "$0")/../.." && pwd) || exit 1
@@ -9,7 +9,7 @@ program=${1:-}
 if [ -z "$program" ]; then
     kit=$(dirname "$(rt doc)")
     . tests/lib/tried.sh
-    build cml_file_tests crates/cml_file_tests/src/main.rt || exit 1
+    build cml_rows crates/cml_rows/src/main.rt || exit 1
 fi
 
 # plays CASE BEFORE LINES TOLD AFTER [bytes]: on a file with the text BEFORE the program gets LINES, tells TOLD, and leaves the text
@@ -18,7 +18,7 @@ fi
 # shellcheck disable=SC2059,SC2086
 plays() {
     [ "$2" = - ] || printf "$2" > "$work/played.journal"
-    printf "$3" | bounded "$program" "$work/played.journal" $6 > "$work/told" 2>&1
+    printf "$3" | bounded "$program" file "$work/played.journal" $6 > "$work/told" 2>&1
     printf "$4" | cmp - "$work/told" > "$work/differs" 2>&1 || { fail "$1: it tells $(cat "$work/told")"; return; }
     case $3 in
         *close*) cp "$work/played.journal" "$work/left" ;;
@@ -62,7 +62,7 @@ refuses "what was before the cut isn't known" 'journal 1\nfrom 3\n'
 refuses 'the journal was changed: line 3: too few words' 'journal 1\nseat 0 mailbox: made 0\nseat 0 mail\n'
 refuses 'the journal was changed: entry 0 is not lawful' 'journal 1\nseat 0 send 0 5: done\n'
 mkdir "$work/folder"
-if bounded "$program" "$work/folder" < /dev/null | grep -qx 'the first line is none of a journal'; then pass; else fail 'a folder'; fi
+if bounded "$program" file "$work/folder" < /dev/null | grep -qx 'the first line is none of a journal'; then pass; else fail 'a folder'; fi
 
 # Bytes are kept too. A message that is too long for a line is not sent.
 long=$(awk 'BEGIN { while (n++ < 2097088) printf "x" }')
@@ -85,14 +85,14 @@ plays 'all their calls' - 'close\n' '402 entries, 0 cut\nclosed\n' -
 sends() { awk 'BEGIN { print "seat 0 mailbox: made 0"; for (;;) print "seat 0 send 0 " n++ ": done" }' 2> /dev/null; }
 
 # entries FILE: how many entries an opening of the file finds.
-entries() { echo close | bounded "$program" "$1" | sed -n 's/ entries, .*//p'; }
+entries() { echo close | bounded "$program" file "$1" | sed -n 's/ entries, .*//p'; }
 
 # is_kept LAST FOUND: the file has all calls that returned, and at most one more.
 is_kept() { [ -n "$2" ] && [ "$2" -ge $(($1 + 1)) ] && [ "$2" -le $(($1 + 2)) ]; }
 
 # kills SECONDS: kills the program after as many seconds. The file goes on from the kill before.
 kills() {
-    sends | "$program" "$work/killed.journal" > "$work/told" &
+    sends | "$program" file "$work/killed.journal" > "$work/told" &
     pid=$!
     sleep "$1"
     kill -9 "$pid"
@@ -110,11 +110,11 @@ for seconds in 0.3 0.5 0.2 0.7; do
 done
 
 # The file may not be as long as the program wants it.
-(trap '' XFSZ && ulimit -f 1000 && { sends | head -n 2; echo close; } | bounded "$program" "$work/short.journal") > "$work/told"
+(trap '' XFSZ && ulimit -f 1000 && { sends | head -n 2; echo close; } | bounded "$program" file "$work/short.journal") > "$work/told"
 for line in 'unstored: ' 'unmade: ' 'not closed: '; do
     if grep -q "^$line" "$work/told"; then pass; else fail "no line $line in: $(cat "$work/told")"; fi
 done
-if { sends | head -n 3; echo close; } | bounded "$program" "$work/short.journal" | tail -n 2 | tr '\n' ' ' |
+if { sends | head -n 3; echo close; } | bounded "$program" file "$work/short.journal" | tail -n 2 | tr '\n' ' ' |
     grep -qx 'stored 2: Done closed '; then
     pass
 else
@@ -122,12 +122,12 @@ else
 fi
 
 # The program has one file at a time.
-sends | "$program" "$work/busy.journal" > "$work/told" &
+sends | "$program" file "$work/busy.journal" > "$work/told" &
 pid=$!
 until grep -q '^stored ' "$work/told" || ! kill -0 "$pid"; do
     sleep 0.1
 done
-if echo close | bounded "$program" "$work/busy.journal" | grep -qx 'another handle has the file'; then pass; else fail 'a file that is open'; fi
+if echo close | bounded "$program" file "$work/busy.journal" | grep -qx 'another handle has the file'; then pass; else fail 'a file that is open'; fi
 kill -9 "$pid"
 wait "$pid" 2> /dev/null
 count

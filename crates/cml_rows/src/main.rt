@@ -2,7 +2,8 @@
 //! after `: `. A call that ran out of memory is made once more, and the line then says so. With the word `texts` the
 //! messages are texts, the digits of the tables' numbers. With the word `cut` or `take` the journal is cut after each line
 //! if it can be. `cut` drops its entries; `take` keeps them, and in the end checks them piece by piece. With `cut_open` or
-//! `take_open` it is cut after each line, also while lanes and feeds are open.
+//! `take_open` it is cut after each line, also while lanes and feeds are open. With `file PATH` it performs a journal's lines on a
+//! switchboard in a file of numbers, and with `file PATH bytes` in one of bytes.
 #![tactic(auto)]
 
 mod cutting;
@@ -13,6 +14,7 @@ mod fussy;
 mod ground;
 mod ground_table;
 mod halls;
+mod kept;
 mod moving;
 mod numbered;
 mod outcome;
@@ -22,7 +24,7 @@ mod table;
 mod told;
 mod words;
 
-use cml_board::Text;
+use cml_board::{Bytes, Text};
 use cutting::Way;
 use fussy::Fussy;
 use numbered::{Maker, Numbered};
@@ -48,13 +50,27 @@ enum Messages {
 
 fn main(rt: HostRuntime) -> io::Result<ExitCode> {
     let words = env::args(&rt)?.collect::<Vec<String>>(rt.alloc())?;
-    let Some(order) = order_of(words.get(1..).unwrap_or(&[])) else {
+    match words.get(1..).unwrap_or(&[]) {
+        [word, path] if word.as_str() == "file" => {
+            kept::open::<u64, HostRuntime>(&rt, path.as_str())?;
+        }
+        [word, path, _] if word.as_str() == "file" => {
+            kept::open::<Bytes, HostRuntime>(&rt, path.as_str())?;
+        }
+        words => return perform_tables(&rt, words),
+    }
+    Ok(ExitCode::SUCCESS)
+}
+
+fn perform_tables(rt: &HostRuntime, words: &[String]) -> io::Result<ExitCode> {
+    let Some(order) = order_of(words) else {
         eprintln!(rt; "usage: cml_rows [texts] [cut | take | cut_open | take_open]")?;
+        eprintln!(rt; "       cml_rows file FILE [bytes]")?;
         return Ok(ExitCode::from(2));
     };
     match order.messages {
-        Messages::Blocks => perform_blocks(&rt, order.way)?,
-        Messages::Texts => perform_texts(&rt, order.way)?,
+        Messages::Blocks => perform_blocks(rt, order.way)?,
+        Messages::Texts => perform_texts(rt, order.way)?,
     }
     Ok(ExitCode::SUCCESS)
 }

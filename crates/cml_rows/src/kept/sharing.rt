@@ -1,5 +1,5 @@
 //! Two threads share a switchboard in a file, and each needs what the other sends.
-use crate::playing::Kept;
+use super::playing::Kept;
 use cml_board::{Call, Message, Name};
 use cml_journal::Written;
 use cml_threads::Seat;

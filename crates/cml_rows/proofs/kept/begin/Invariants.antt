@@ -1,4 +1,4 @@
-use Rattle.cml_file_tests.proofs.begin.Given as goal
+use Rattle.cml_rows.proofs.kept.begin.Given as goal
 
 abbrev pub ghosts-play : goal.ghosts-play
 ghosts-play g a = record { name = a.blank.name; parts = a.blank.parts }

@@ -1,8 +1,8 @@
 //! The calls of one seat, each told once it has returned.
 ghost use Rattle.std.specs.Prelude.{◌≡◌, ◌^◌};
 
-use crate::moving::{move_by_feed, move_by_lane};
-use crate::sharing::share;
+use super::moving::{move_by_feed, move_by_lane};
+use super::sharing::share;
 use cml_board::{Answer, BoardLog, Call, Message, Name};
 use cml_file::{Failed, KeptSwitchboard, Recovered};
 use cml_journal::{Written, read_entry};

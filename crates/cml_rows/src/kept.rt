@@ -1,39 +1,28 @@
 //! Performs a journal's calls on a switchboard in a file, for `tests/libraries/kept_file.sh`, which looks at the file and at what is
-//! written here: `cml_file_tests FILE [bytes]`, with a line of a journal on each line of standard input. Its call is made, and its
-//! reply is not looked at. The line `share N` has two threads call N times each. `lane 5` sends by a lane to object 0, `feed 5` by a lane to channel 0,
-//! which a feed reads. `sync` syncs, and `close` closes the file. Without
-//! a `close` the switchboard is dropped as it stands.
-#![tactic(auto)]
+//! written here. Each line of standard input is one of a journal: its call is made, and its reply is not looked at. The line `share N`
+//! has two threads call N times each. `lane 5` sends by a lane to object 0, `feed 5` by a lane to channel 0, which a feed reads. `sync`
+//! syncs, and `close` closes the file. Without a `close` the switchboard is dropped as it stands.
 
 mod moving;
 mod playing;
 mod sharing;
 
-use cml_board::{BoardLog, Bytes, Message};
+use cml_board::{BoardLog, Message};
 use cml_file::Recovered;
 use cml_journal::Written;
 use cml_threads::PARTS;
 use playing::play;
 use std::fmt::Debug;
 use std::fs::File;
+use std::io;
 use std::marker::Brand;
 use std::rt::Files;
 use std::sync::Wait;
 use std::sync::ledger::Blank;
 use std::thread::Threads;
-use std::{env, io};
-
-fn main(rt: HostRuntime) -> io::Result<()> {
-    let words = env::args(&rt)?.collect::<Vec<String>>(rt.alloc())?;
-    match words.as_slice() {
-        [_, path] => open::<u64, HostRuntime>(&rt, path.as_str()),
-        [_, path, _] => open::<Bytes, HostRuntime>(&rt, path.as_str()),
-        _ => println!(rt; "usage: cml_file_tests FILE [bytes]"),
-    }
-}
 
 /// Opens the file, says what was recovered, and performs the calls.
-fn open<
+pub(crate) fn open<
     M: Message + Written + Debug + Send + Sync,
     R: Files<File = File> + Input + Print + AllocGlobal + Threads + Wait + Sync,
 >(rt: &R, path: &str) -> io::Result<()> {

@@ -1,5 +1,5 @@
 //! A lane and a feed of a switchboard in a file.
-use crate::playing::Kept;
+use super::playing::Kept;
 use cml_board::{Message, Name};
 use cml_file::Unsent;
 use cml_journal::Written;
