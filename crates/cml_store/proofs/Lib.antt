@@ -1,10 +1,17 @@
+pub mod Apart
 pub mod Beginnings
 pub mod Counted
+pub mod Crossings
 pub mod Endings
 pub mod Fronts
 pub mod Holds
 pub mod Keeping
+pub mod Names
 pub mod Openings
+pub mod Pairs
 pub mod Reaching
+pub mod Running
 pub mod Runs
 pub mod Spotty
+pub mod Standing
+pub mod Steady

@@ -21,13 +21,13 @@ pub record Stays (mark now : ℕ) (old new : List ℕ) : Type 0 where
   pub later : mark ≤ now
   pub same : take mark new ≡ take mark old
 
-still : (mark : ℕ) (text : List ℕ) → Stays mark mark text text
+pub still : (mark : ℕ) (text : List ℕ) → Stays mark mark text text
 still mark text = record { later = omega arith; same = refl }
 
 more : (mark : ℕ) (text piece : List ℕ) → mark ≤ length text → Stays mark mark text (text ++ piece)
 more mark text piece le = record { later = omega arith; same = take_append mark text piece le }
 
-then : (a b c : ℕ) (x y z : List ℕ) → Stays a b x y → Stays b c y z → Stays a c x z
+pub then : (a b c : ℕ) (x y z : List ℕ) → Stays a b x y → Stays b c y z → Stays a c x z
 then a b c x y z h g = record {
   later = omega (arith, h.later, g.later);
   same = sym (take_take a b z h.later) ∙ ap (take a) g.same ∙ take_take a b y h.later ∙ h.same;

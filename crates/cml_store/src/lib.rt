@@ -2,12 +2,19 @@
 //! power keeps.
 #![tactic(auto)]
 
+mod exchange;
+mod exchanges;
 mod histories;
 mod laws;
 mod stage;
 mod step;
 mod store;
 
+pub use exchange::{Exchange, Move, Way};
+pub use exchanges::{
+    acknowledged_stays, each_file_is_of_a_store, exchange_goes_on, exchange_keeps,
+    failed_renaming_keeps_the_old_file,
+};
 pub use histories::{histories_stay, kept_is_recovered};
 pub use laws::{
     either_will_do, it_goes_on, marks_stay, nothing_left_is_refused, nothing_more_is_done,
