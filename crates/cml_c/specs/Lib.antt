@@ -24,6 +24,8 @@ pub mod SealedTexts
 pub mod ReadJournals
 pub mod Restoring
 pub mod Stores
+pub mod Exchanges
+pub mod Summing
 pub mod Compacting
 -- the names that others import from here
 pub use Version.{number_of_version}
@@ -60,6 +62,9 @@ pub use ReadJournals.{bytes_kept, entries_read, lines_read, told_halt, told_so_f
 pub use Restoring.{IsRoomOn, OpensOn, Restores, RestoresBy, RestoresKept, left_halted, left_stopped, told_stopped}
 pub use Stores.{AcceptsBytes, AcceptsIn, Asks, AsksIn, AsksOn, EndsIn, EndsOn, OpensStore, TellsMark, TellsMarkIn, TellsMarkOn}
 pub use Stores.{mark_of, marks, shown_step, stage_number, works}
+pub use Exchanges.{EndsExchange, EndsExchangeIn, Moves, MovesBy, MovesIn, OpensExchange, TellsExchange, TellsExchangeBy}
+pub use Exchanges.{endings, machine_in, reading_of, readings, shown_move, way_number}
+pub use Summing.{OpensSumming, SumsIn, SumsPart, TellsSumSoFar}
 pub use Compacting.{CompactsNone, CompactsRoom, CutsShortRoom, IsNotShort, IsShortOf, LeavesShort, MakesShort, Shortens, ShortensBy, ShortensKept}
 pub use Compacting.{ShowsSameRoom, WritesShort, WritesTaken}
 pub use declared.handle.Slot.{Slot}

@@ -7,11 +7,11 @@ ghost use Rattle.cml_c.specs.declared.owned.Resource.TheVariants as resource;
 
 use crate::keeper::Held;
 use cml_board::{Board, Bytes, Checker, Entry, Message};
-use cml_journal::Check;
+use cml_journal::{Check, Summing};
 use cml_lanes::{Feed, Lane, LaneEnd};
 use cml_log::ChunkLog;
 use cml_room::Room;
-use cml_store::Store;
+use cml_store::{Exchange, Store};
 
 /// The messages of a mailbox or a channel. A chunk of sixteen is allocated and freed four times less often than one of `BoardLog`.
 pub type LogOf<M> = ChunkLog<M, 16>;
@@ -57,6 +57,10 @@ pub enum Resource<M: Message> {
     Entry(Box<Entry<M>>),
     /// The machine of a journal's file.
     Store(Box<Store>),
+    /// The machine of its exchange for a short one.
+    Exchange(Box<Exchange>),
+    /// How far a piece of text is summed.
+    Summing(Box<Summing>),
     /// Nothing: a lane that was closed, or a reading that was restored.
     Spent,
 }

@@ -126,7 +126,7 @@ fn tell_sum<M: Message + Written>(reading: &CheckOf<M>, sum: &mut SeryugoSum) ->
     }
 }
 
-fn write_sum(found: Option<Sum>, sum: &mut SeryugoSum) -> u32
+pub(crate) fn write_sum(found: Option<Sum>, sum: &mut SeryugoSum) -> u32
     ensures { IsSum found result sum.old sum.new }
 {
     match found {
