@@ -38,7 +38,12 @@ struct seryugo_file;
 
 enum seryugo_file_flag {
     /* Writes by pwrite(2) on each file system. */
-    SERYUGO_FILE_BY_WRITES = 1
+    SERYUGO_FILE_BY_WRITES = 1,
+    /* The text has sums, as seryugo_sealed_text writes them, by which opening finds a changed byte. The helper's thread sums what
+     * was stored. After 65,536 entries, or each sync_milliseconds, the next seryugo_file_note seals that by a line with the sum, and
+     * begins a piece. So do closing and opening. Of what isn't sealed yet opening finds only what makes a line wrong or an entry
+     * unlawful. While the file is exchanged nothing is sealed. */
+    SERYUGO_FILE_SEALED = 2
 };
 
 /* What a call waits for, before it returns. */
@@ -92,10 +97,11 @@ struct seryugo_file_found {
  * SERYUGO_BYTES, and `limit` is the room's. *found is always written, unless it is null. The room is yours: close the file
  * first, and then the room.
  *
- * Opening exchanges a file that has sums or a line `end` for a short one. It does so too with a file of `short_from` bytes, if
- * that has more than four times the bytes of the short one. The short one has what seryugo_compact leaves, and no line `end`.
- * Objects keep their numbers, and seats get those that they would have got. Positions, and counts of what was sent and received,
- * begin anew. What was before goes, with its sums: copy the file first, if you want that.
+ * Opening exchanges a file for a short one, if it has sums and SERYUGO_FILE_SEALED isn't set, or the other way round, or if it
+ * has a line `end` and no sums. It does so too with a file of `short_from` bytes, if that has more than four times the bytes of
+ * the short one. The short one has what seryugo_compact leaves. Objects keep their numbers, and seats get those that they would
+ * have got. Positions, and counts of what was sent and received, begin anew. What was before goes, with its sums: copy the file
+ * first, if you want that.
  *
  * - Opening makes the new file beside, with `.new` after the name. It locks, syncs and reads that file before it gives it the
  *   name. After a kill the name leads to the old file or to the new one, and that is whole. Of a link it exchanges the target.
@@ -158,8 +164,8 @@ uint64_t seryugo_file_position(const struct seryugo_file *file);
  * SERYUGO_FILE_LOST: a sync has failed. SERYUGO_OUT_OF_BOUNDS: no line is there yet. SERYUGO_FORKED. */
 uint32_t seryugo_file_wait(struct seryugo_file *file, uint64_t position);
 
-/* Who is told that the file is on the disk up to a position, instead of a thread that waits. The memory is the caller's, and
- * stays where it is until `wake` is called. */
+/* A callback for when the file is on the disk up to a position, so that no thread waits. The memory is the caller's. It must not
+ * move or be freed before `wake` is called. */
 struct seryugo_file_waiter {
     uint64_t position;
     void (*wake)(struct seryugo_file_waiter *waiter);
@@ -167,8 +173,8 @@ struct seryugo_file_waiter {
     struct seryugo_file_waiter *following;
 };
 
-/* Has `wake` called once, by a thread of the file's: after a sync, or once the file is lost. It is called before the file is
- * closed. Ask seryugo_file_wait then which it was. `wake` must not wait for the room's lock.
+/* A thread of the library's calls `wake` once: after a sync, or once the file is lost, and before the file is closed. It may ask
+ * seryugo_file_wait which it was. `wake` must not wait for the room's lock.
  *
  * SERYUGO_PARKED: it will be called. With each other code it won't be, and that is what seryugo_file_wait returns at once. */
 uint32_t seryugo_file_when(struct seryugo_file *file, struct seryugo_file_waiter *waiter);

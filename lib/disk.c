@@ -9,7 +9,6 @@
 #include <string.h>
 #include <sys/mman.h>
 #include <sys/resource.h>
-#include <sys/stat.h>
 #include <time.h>
 #include <unistd.h>
 #include <fcntl.h>
@@ -87,7 +86,7 @@ void seryugo_file_lose_locked(struct seryugo_file *file, const char *words, int 
         tell(file, words, error);
         atomic_store(&file->is_lost, true);
     }
-    pthread_cond_broadcast(&file->done);
+    seryugo_file_wake_all(file);
     seryugo_file_ask_locked(file);
 }
 
@@ -98,13 +97,14 @@ void seryugo_file_lose(struct seryugo_file *file, const char *words, int error)
     pthread_mutex_unlock(&file->lock);
 }
 
-/* A store behind its end would be a SIGBUS, and lines would be lost. */
+/* A store beyond the end would raise SIGBUS, and lose lines. fstat(2) would tell the end too. But after it the next store sets the
+ * file's times anew, and the next sync writes these. */
 bool seryugo_file_is_whole(const struct seryugo_file *file)
 {
     uint64_t least = atomic_load(file->is_mapped ? &file->grown : &file->told);
-    struct stat now;
+    off_t end = lseek(file->descriptor, 0, SEEK_END);
 
-    return fstat(file->descriptor, &now) == 0 && (uint64_t)now.st_size >= least - file->shift;
+    return end >= 0 && (uint64_t)end >= least - file->shift;
 }
 
 /* ---- the machine ---- */
@@ -117,21 +117,37 @@ uint64_t seryugo_mark_of(struct seryugo *store, uint32_t mark)
     return place;
 }
 
-/* Calls have stored lines under the room's lock since the machine was last asked: it accepts them, and hears that they are stored.
- * While the file grows, it hears that later. Needs the lock. */
-static void catch_up(struct seryugo_file *file)
+bool seryugo_tell_stored(struct seryugo *store, uint64_t end)
 {
-    uint64_t told = atomic_load_explicit(&file->told, memory_order_acquire);
-    uint64_t accepted = seryugo_mark_of(&file->store, SERYUGO_MARK_ACCEPTED) + file->shift;
+    uint64_t accepted = seryugo_mark_of(store, SERYUGO_MARK_ACCEPTED);
     struct seryugo_step step = {SERYUGO_STEP_NOTHING, 0, 0};
 
-    if (told > accepted && seryugo_store_accept(&file->store, told - accepted) != SERYUGO_DONE) {
-        seryugo_file_lose_locked(file, "more is stored than may be unsynced", 0);
-        return;
+    if (end > accepted && seryugo_store_accept(store, end - accepted) != SERYUGO_DONE) {
+        return false;
     }
-    (void)seryugo_store_begin(&file->store, SERYUGO_WORK_BYTES, 0, &step);
+    (void)seryugo_store_begin(store, SERYUGO_WORK_BYTES, 0, &step);
     if (step.kind != SERYUGO_STEP_NOTHING) {
-        (void)seryugo_store_end(&file->store, false, step.kind == SERYUGO_STEP_STORE);
+        (void)seryugo_store_end(store, false, step.kind == SERYUGO_STEP_STORE);
+    }
+    return true;
+}
+
+void seryugo_tell_room(struct seryugo *store, uint64_t end)
+{
+    struct seryugo_step step = {SERYUGO_STEP_NOTHING, 0, 0};
+
+    (void)seryugo_store_begin(store, SERYUGO_WORK_ROOM, end, &step);
+    if (step.kind != SERYUGO_STEP_NOTHING) {
+        (void)seryugo_store_end(store, false, step.kind == SERYUGO_STEP_GROW);
+    }
+}
+
+void seryugo_file_catch_up(struct seryugo_file *file)
+{
+    uint64_t told = atomic_load_explicit(&file->told, memory_order_acquire);
+
+    if (!seryugo_tell_stored(&file->store, told - file->shift)) {
+        seryugo_file_lose_locked(file, "more is stored than may be unsynced", 0);
     }
 }
 
@@ -139,7 +155,7 @@ struct seryugo_step seryugo_file_begin(struct seryugo_file *file, uint32_t work,
 {
     struct seryugo_step step = {SERYUGO_STEP_NOTHING, 0, 0};
 
-    catch_up(file);
+    seryugo_file_catch_up(file);
     if (!atomic_load(&file->is_lost)) {
         (void)seryugo_store_begin(&file->store, work, to, &step);
     }
@@ -193,7 +209,7 @@ static void end_growing(struct seryugo_file *file, int error)
         }
     }
     /* What was stored meanwhile may be synced now. */
-    pthread_cond_broadcast(&file->done);
+    seryugo_file_wake_all(file);
     pthread_mutex_unlock(&file->lock);
 }
 
@@ -396,8 +412,9 @@ static void *help(void *given)
         unmap_old_views(file);
         seryugo_file_tell_settled(file);
         is_due = is_sync_due(file);
-        seryugo_exchange_look(file);
         is_time = file->period != 0 && has_passed(&due);
+        seryugo_seal_look(file, is_time);
+        seryugo_exchange_look(file);
         pthread_mutex_unlock(&file->lock);
         grow_ahead(file);
         if (is_time || is_due) {

@@ -13,11 +13,6 @@
 #include <sys/mman.h>
 #include <unistd.h>
 
-#ifndef MADV_POPULATE_WRITE
-#define MADV_POPULATE_WRITE 23
-#endif
-
-
 /* Begins with nothing. */
 static void begin(struct seryugo_exchange *exchange)
 {
@@ -56,7 +51,7 @@ void seryugo_file_exchanges(struct seryugo_file *file, struct seryugo_file_excha
 
 /* ---- stages ---- */
 
-/* Goes from one stage to another, unless a caller has given up meanwhile. */
+/* Changes the stage and returns true. If a caller has cancelled the exchange, it returns false. */
 static bool go_on(struct seryugo_file *file, enum seryugo_stage from, enum seryugo_stage to)
 {
     bool is_so;
@@ -70,110 +65,13 @@ static bool go_on(struct seryugo_file *file, enum seryugo_stage from, enum seryu
     return is_so;
 }
 
-static bool fails(struct seryugo_exchange *exchange, const char *words, int error)
+bool seryugo_exchange_fails(struct seryugo_exchange *exchange, const char *words, int error)
 {
     (void)seryugo_fail(&exchange->made.fresh, words, error);
     return false;
 }
 
 /* ---- the new file ---- */
-
-/* Does a step of the machine, which is a cut or a store of all that the new file has by now. */
-static int do_step(struct seryugo_file *file, const struct seryugo_step *step)
-{
-    struct seryugo_exchange *exchange = file->exchange;
-    struct seryugo_shorter *made = &exchange->made;
-    int error;
-
-    if (!seryugo_may_reach(step->to)) {
-        return EFBIG;
-    }
-    if (step->kind == SERYUGO_STEP_CUT) {
-        return ftruncate(made->fresh.descriptor, (off_t)step->to) == 0 ? 0 : errno;
-    }
-    error = seryugo_write_at(made->fresh.descriptor, seryugo_bytes_at(&made->text), made->length, 0);
-    exchange->copied = exchange->taken_at;
-    return error == 0 ? seryugo_exchange_copy(file, step->to + exchange->view.shift) : error;
-}
-
-/* Writes the text, and the lines since the state was taken. */
-static bool fill(struct seryugo_file *file)
-{
-    struct seryugo_exchange *exchange = file->exchange;
-    struct seryugo_step step = {SERYUGO_STEP_NOTHING, 0, 0};
-    uint64_t kept;
-    int error = 0;
-
-    exchange->view.shift = exchange->taken_at - exchange->made.length;
-    kept = atomic_load(&file->told) - exchange->view.shift;
-    if (seryugo_store_open(kept, exchange->made.fresh.length, &exchange->store) != SERYUGO_DONE) {
-        return fails(exchange, "no memory", 0);
-    }
-    do {
-        (void)seryugo_store_begin(&exchange->store, SERYUGO_WORK_BYTES, 0, &step);
-        if (step.kind != SERYUGO_STEP_NOTHING) {
-            error = do_step(file, &step);
-            (void)seryugo_store_end(&exchange->store, false, error == 0);
-        }
-    } while (error == 0 && step.kind != SERYUGO_STEP_NOTHING);
-    return error == 0 || fails(exchange, "write the new file", error);
-}
-
-/* Gives the new file room for lines, and maps it. A first sync takes long, and nobody waits for it. */
-static bool make_room(struct seryugo_file *file)
-{
-    struct seryugo_exchange *exchange = file->exchange;
-    struct seryugo_view *view = &exchange->view;
-    int error;
-
-    exchange->begun = exchange->copied;
-    atomic_store(&exchange->end, exchange->copied);
-    error = seryugo_exchange_give_room(file, exchange->copied + file->margin);
-    if (error != 0) {
-        return fails(exchange, SERYUGO_NO_ROOM, error);
-    }
-    if (fsync(view->descriptor) != 0) {
-        return fails(exchange, "sync the new file", errno);
-    }
-    view->start = (exchange->begun - view->shift) / SERYUGO_PAGE * SERYUGO_PAGE + view->shift;
-    if (file->is_mapped && !seryugo_map_view(view, SERYUGO_UNSYNCED_MOST + 2 * SERYUGO_PAGE)) {
-        return fails(exchange, "mmap", errno);
-    }
-    /* What is zeroed in memory is written by the next sync, so that is little. */
-    if (view->base != NULL) {
-        (void)madvise(view->base, file->segment / 4, MADV_POPULATE_WRITE);
-    }
-    return true;
-}
-
-/* Makes and locks the new file, while no fork copies its descriptor. */
-static bool make_beside(struct seryugo_file *file)
-{
-    struct seryugo_exchange *exchange = file->exchange;
-    uint32_t code;
-
-    seryugo_hold_forks();
-    exchange->old.descriptor = file->descriptor;
-    code = seryugo_make_beside(&exchange->old, &exchange->made);
-    seryugo_let_forks();
-    exchange->view.descriptor = exchange->made.fresh.descriptor;
-    return code == SERYUGO_DONE && seryugo_mark_beside(&exchange->old, &exchange->made) == SERYUGO_DONE;
-}
-
-/* Gives room for more lines and copies them, as long as callers have added many. So the last ones are few. */
-static bool catch_up(struct seryugo_file *file)
-{
-    struct seryugo_exchange *exchange = file->exchange;
-    uint64_t told = atomic_load(&file->told);
-    int error;
-
-    do {
-        error = seryugo_exchange_give_room(file, told + 2 * file->margin);
-        error = error == 0 ? seryugo_exchange_copy(file, told) : error;
-        told = atomic_load(&file->told);
-    } while (error == 0 && told - exchange->copied > SERYUGO_LAST_MOST / 16);
-    return error == 0 || fails(exchange, "copy lines", error);
-}
 
 /* Of a state that was taken makes the new file, if that is short. */
 static bool make(struct seryugo_file *file)
@@ -186,54 +84,64 @@ static bool make(struct seryugo_file *file)
     exchange->old.chunk = (char *)malloc(SERYUGO_CHUNK);
     if (exchange->old.chunk == NULL) {
         seryugo_close(journal);
-        return fails(exchange, "no memory", 0);
+        return seryugo_exchange_fails(exchange, "no memory", 0);
     }
     return seryugo_take_text(&journal, &exchange->made) == SERYUGO_DONE
-           && length > SERYUGO_TIMES_SHORTER * exchange->made.length && make_beside(file) && fill(file) && make_room(file)
-           && catch_up(file);
+           && length > SERYUGO_TIMES_SHORTER * exchange->made.length && seryugo_beside_make(file);
 }
 
 /* ---- its name ---- */
 
-/* Syncs the new file up to what was told, as its machine says. It is open, so its name is on the disk. */
-static int sync_beside(struct seryugo_file *file)
+/* Begins to name the new file, if the machine says that it has all that the old one has. Returns false if it has less, or if a caller
+ * has left it. */
+static bool begin_naming(struct seryugo_file *file)
 {
     struct seryugo_exchange *exchange = file->exchange;
-    struct seryugo_step step = {SERYUGO_STEP_NOTHING, 0, 0};
-    uint64_t told = atomic_load(&file->told) - exchange->view.shift;
-    int error = 0;
+    bool is_so = false;
 
-    (void)seryugo_store_begin(&exchange->store, SERYUGO_WORK_ROOM, atomic_load(&exchange->end) - exchange->view.shift, &step);
-    (void)seryugo_store_end(&exchange->store, false, true);
-    (void)seryugo_store_accept(&exchange->store, told - seryugo_mark_of(&exchange->store, SERYUGO_MARK_ACCEPTED));
-    (void)seryugo_store_begin(&exchange->store, SERYUGO_WORK_BYTES, 0, &step);
-    (void)seryugo_store_end(&exchange->store, false, true);
-    (void)seryugo_store_begin(&exchange->store, SERYUGO_WORK_SYNC, 0, &step);
-    if (step.kind == SERYUGO_STEP_SYNC) {
-        error = fdatasync(exchange->made.fresh.descriptor) == 0 ? 0 : errno;
-        (void)seryugo_store_end(&exchange->store, true, error == 0);
+    pthread_mutex_lock(&file->lock);
+    if (exchange->stage == SERYUGO_STAGE_BOTH) {
+        seryugo_file_catch_up(file);
+        is_so = seryugo_beside_tell(exchange, atomic_load(&file->told)) && seryugo_beside_move(file) == SERYUGO_STEP_RENAME;
+        seryugo_exchange_set_stage(file, is_so ? SERYUGO_STAGE_NAMING : SERYUGO_STAGE_FAILED);
     }
-    return error;
+    pthread_mutex_unlock(&file->lock);
+    return is_so;
 }
 
-/* Syncs the new file. It has all that the old one has on the disk then, because no other sync is made meanwhile. */
-static bool sync_first(struct seryugo_exchange *exchange)
+/* Ends the machine's step, or cancels the exchange. Returns its way. */
+static uint64_t end_step(struct seryugo_file *file, enum seryugo_ending ending)
 {
-    struct seryugo_step step = {SERYUGO_STEP_NOTHING, 0, 0};
-    int error;
+    uint64_t way;
 
-    (void)seryugo_store_begin(&exchange->store, SERYUGO_WORK_SYNC, 0, &step);
-    error = fsync(exchange->made.fresh.descriptor) == 0 ? 0 : errno;
-    (void)seryugo_store_end(&exchange->store, true, error == 0);
-    return error == 0 || fails(exchange, "sync the new file", error);
+    pthread_mutex_lock(&file->lock);
+    (void)seryugo_exchange_end(&file->exchange->machine, ending);
+    way = seryugo_beside_mark(file, SERYUGO_EXCHANGE_WAY);
+    pthread_mutex_unlock(&file->lock);
+    return way;
 }
 
-/* The new file has the name. Once that is on the disk, the file that is synced and grows is the new one. */
+/* Returns 0 or errno. After a failure either file may have the name on the disk. */
+static int sync_folder(struct seryugo_file *file)
+{
+    uint32_t step;
+    int error = EIO;
+
+    pthread_mutex_lock(&file->lock);
+    step = seryugo_beside_move(file);
+    pthread_mutex_unlock(&file->lock);
+    if (step == SERYUGO_STEP_SYNC_FOLDER) {
+        error = fsync(file->exchange->old.folder) == 0 ? 0 : errno;
+    }
+    return end_step(file, error == 0 ? SERYUGO_ENDING_DONE : SERYUGO_ENDING_FAILED) == SERYUGO_WAY_OVER ? 0 : error;
+}
+
+/* The new file has the name on the disk, so it is the file that is synced and grows. */
 static void go_over(struct seryugo_file *file)
 {
     struct seryugo_exchange *exchange = file->exchange;
-    struct seryugo_step step;
     struct seryugo store;
+    uint64_t synced;
     int descriptor;
 
     seryugo_hold_forks();
@@ -241,6 +149,7 @@ static void go_over(struct seryugo_file *file)
     pthread_mutex_lock(&file->lock);
     /* A caller who reads what is grown sees that it is wanted. */
     seryugo_exchange_set_stage(file, SERYUGO_STAGE_NAMED);
+    synced = seryugo_beside_mark(file, SERYUGO_EXCHANGE_SYNCED) + file->shift;
     descriptor = file->descriptor;
     store = file->store;
     file->descriptor = exchange->made.fresh.descriptor;
@@ -250,10 +159,9 @@ static void go_over(struct seryugo_file *file)
     file->shift = exchange->view.shift;
     exchange->is_over = true;
     /* Lines that the machine hasn't accepted yet lie in room that callers have made meanwhile. */
-    (void)seryugo_store_begin(&file->store, SERYUGO_WORK_ROOM, atomic_load(&exchange->end) - file->shift, &step);
-    (void)seryugo_store_end(&file->store, false, step.kind == SERYUGO_STEP_GROW);
+    seryugo_tell_room(&file->store, atomic_load(&exchange->end) - file->shift);
     atomic_store(&file->grown, seryugo_mark_of(&file->store, SERYUGO_MARK_GROWN) + file->shift);
-    atomic_store(&file->synced, seryugo_mark_of(&file->store, SERYUGO_MARK_SYNCED) + file->shift);
+    atomic_store(&file->synced, synced);
     exchange->told.done++;
     seryugo_file_ask_locked(file);
     pthread_mutex_unlock(&file->lock);
@@ -264,24 +172,24 @@ static void go_over(struct seryugo_file *file)
 static void name(struct seryugo_file *file)
 {
     struct seryugo_exchange *exchange = file->exchange;
-    struct seryugo_step step;
-    int error;
+    int error = seryugo_beside_sync(exchange, atomic_load(&file->told));
+    enum seryugo_ending ending;
 
-    if (!sync_first(exchange)) {
+    if (error != 0) {
+        (void)seryugo_exchange_fails(exchange, "sync the new file", error);
         (void)go_on(file, SERYUGO_STAGE_BOTH, SERYUGO_STAGE_FAILED);
         return;
     }
-    if (!go_on(file, SERYUGO_STAGE_BOTH, SERYUGO_STAGE_NAMING)) {
+    if (!begin_naming(file)) {
         return;
     }
-    if (seryugo_name_beside(&exchange->old, &exchange->made) != SERYUGO_DONE) {
+    ending = seryugo_name_beside(&exchange->old, &exchange->made) == SERYUGO_DONE ? SERYUGO_ENDING_DONE : SERYUGO_ENDING_FAILED;
+    if (end_step(file, ending) == SERYUGO_WAY_LEFT) {
         (void)go_on(file, SERYUGO_STAGE_NAMING, SERYUGO_STAGE_FAILED);
         return;
     }
-    (void)seryugo_store_begin(&exchange->store, SERYUGO_WORK_SYNC, 0, &step);
-    error = fsync(exchange->old.folder) == 0 ? 0 : errno;
-    (void)seryugo_store_end(&exchange->store, true, error == 0);
-    error = error == 0 ? sync_beside(file) : error;
+    error = sync_folder(file);
+    error = error == 0 ? seryugo_beside_sync(exchange, atomic_load(&file->told)) : error;
     if (error != 0) {
         seryugo_file_lose(file, "sync the new file", error);
         return;
@@ -313,22 +221,35 @@ void seryugo_exchange_look(struct seryugo_file *file)
     }
 }
 
-/* Frees the new file of an exchange that failed, or else the old one. */
-static void free_other(struct seryugo_exchange *exchange)
+/* Whether the new file is left, by what the machine says. If it was never opened, it has nothing. */
+static bool may_be_removed(struct seryugo_file *file)
 {
+    return file->exchange->store.at == NULL || end_step(file, SERYUGO_ENDING_CANCELLED) == SERYUGO_WAY_LEFT;
+}
+
+/* Frees the new file of an exchange that failed, or else the old one. */
+static void free_other(struct seryugo_file *file)
+{
+    struct seryugo_exchange *exchange = file->exchange;
+
     if (exchange->view.base != NULL) {
         munmap(exchange->view.base, exchange->view.end - exchange->view.start);
     }
     if (exchange->journal.at != NULL) {
         seryugo_close(exchange->journal);
     }
+    if (may_be_removed(file)) {
+        seryugo_remove_beside(&exchange->made);
+    }
+    if (exchange->machine.at != NULL) {
+        seryugo_close(exchange->machine);
+    }
     if (exchange->store.at != NULL) {
         seryugo_close(exchange->store);
     }
-    exchange->journal.at = exchange->store.at = NULL;
+    exchange->journal.at = exchange->machine.at = exchange->store.at = NULL;
     free(exchange->old.chunk);
     exchange->old.chunk = NULL;
-    seryugo_remove_beside(&exchange->made);
     seryugo_hold_forks();
     seryugo_free_shorter(&exchange->made);
     exchange->made.fresh.descriptor = -1;
@@ -343,7 +264,7 @@ static void clean(struct seryugo_file *file)
     const char *words = exchange->why == NULL ? exchange->made.found.words : exchange->why;
     uint64_t length = atomic_load(&file->told) - file->shift, next = (exchange->is_over ? SERYUGO_TIMES_SHORTER : 2) * length;
 
-    free_other(exchange);
+    free_other(file);
     pthread_mutex_lock(&file->lock);
     if (!exchange->is_over && words[0] != 0) {
         told->failed++;
@@ -364,7 +285,7 @@ static bool step(struct seryugo_file *file, enum seryugo_stage stage)
         (void)go_on(file, stage, make(file) ? SERYUGO_STAGE_JOIN : SERYUGO_STAGE_CLEAN);
         return true;
     case SERYUGO_STAGE_COPY:
-        (void)go_on(file, stage, catch_up(file) ? SERYUGO_STAGE_JOIN : SERYUGO_STAGE_CLEAN);
+        (void)go_on(file, stage, seryugo_beside_catch_up(file) ? SERYUGO_STAGE_JOIN : SERYUGO_STAGE_CLEAN);
         return true;
     case SERYUGO_STAGE_BOTH:
         name_held(file);
@@ -414,6 +335,7 @@ bool seryugo_exchange_new(struct seryugo_file *file, struct seryugo_opening *ope
     }
     exchange->old.messages = opening->messages;
     exchange->old.limit = opening->limit;
+    exchange->old.is_sealed = opening->is_sealed;
     exchange->old.folder = opening->folder;
     strcpy(exchange->old.name, opening->name);
     begin(exchange);

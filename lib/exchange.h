@@ -39,15 +39,19 @@ struct seryugo_exchange {
     pthread_cond_t due;
     pthread_t thread;
     /* The next belong to the one who does what is due. */
-    /* The room's state, and the position at which it was taken. */
+    /* The room's state, the position at which it was taken, and by how much less an entry's position is after it. */
     struct seryugo journal;
     uint64_t taken_at;
-    /* The new file's machine keeps the lines up to `begun`. Those up to `copied` are there, and there is room up to `end`. */
+    uint64_t entries_shift;
+    /* The lines up to `begun` were on the new file's disk before it was mapped. Those up to `copied` are there, and there is room up
+     * to `end`. */
     uint64_t begun;
     uint64_t copied;
     _Atomic uint64_t end;
     struct seryugo_view view;
+    /* The new file's machine, and that of the exchange. */
     struct seryugo store;
+    struct seryugo machine;
     /* The file that is synced and grows is the new one. */
     bool is_over;
     struct seryugo_opening old;
@@ -70,10 +74,31 @@ SERYUGO_HIDDEN void seryugo_exchange_look(struct seryugo_file *file);
 /* Ends the thread, and an exchange that is under way. No caller is left, and no helper. */
 SERYUGO_HIDDEN void seryugo_exchange_stop(struct seryugo_file *file);
 
+/* Notes why the new file isn't made, and returns false. */
+SERYUGO_HIDDEN bool seryugo_exchange_fails(struct seryugo_exchange *exchange, const char *words, int error);
+
 /* Closes the copies that a forked child has. */
 SERYUGO_HIDDEN void seryugo_exchange_close_copies(struct seryugo_exchange *exchange);
 
 SERYUGO_HIDDEN void seryugo_exchange_free(struct seryugo_exchange *exchange);
+
+/* beside.c: the new file, which is the thread's until callers store lines there */
+
+/* Makes the new file of a text, and copies the lines since the state was taken. */
+SERYUGO_HIDDEN bool seryugo_beside_make(struct seryugo_file *file);
+
+/* Gives room for more lines and copies them, as long as callers have added many. So the last ones are few. */
+SERYUGO_HIDDEN bool seryugo_beside_catch_up(struct seryugo_file *file);
+
+/* Tells the new file's machine of its room, and of lines up to a position. False: more is stored than may be unsynced. */
+SERYUGO_HIDDEN bool seryugo_beside_tell(struct seryugo_exchange *exchange, uint64_t position);
+
+/* Syncs the lines up to a position. Returns 0 or errno. */
+SERYUGO_HIDDEN int seryugo_beside_sync(struct seryugo_exchange *exchange, uint64_t position);
+
+/* Begins the exchange's next step, and returns its kind. The second reads a mark. Both need the lock. */
+SERYUGO_HIDDEN uint32_t seryugo_beside_move(struct seryugo_file *file);
+SERYUGO_HIDDEN uint64_t seryugo_beside_mark(struct seryugo_file *file, uint32_t mark);
 
 /* joining.c: the callers' part */
 

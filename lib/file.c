@@ -110,7 +110,7 @@ struct seryugo_file *seryugo_file_new(int descriptor, bool is_mapped, uint32_t m
     file->descriptor = file->view.descriptor = descriptor;
     file->is_mapped = is_mapped;
     file->entries_most = limit < CUT_ENTRIES ? limit : CUT_ENTRIES;
-    file->margin = messages == SERYUGO_NUMBERS ? NUMBERS_MARGIN : BYTES_MARGIN;
+    file->margin = SERYUGO_SEAL_MOST + (messages == SERYUGO_NUMBERS ? NUMBERS_MARGIN : BYTES_MARGIN);
     file->alive = new_flag();
     file->lines = is_mapped ? NULL : (uint8_t *)malloc(file->margin);
     if (file->alive == NULL || (!is_mapped && file->lines == NULL) || !has_locks(file)) {
@@ -125,6 +125,9 @@ void seryugo_file_free(struct seryugo_file *file)
     if (file->view.base != NULL) {
         munmap(file->view.base, file->view.end - file->view.start);
     }
+    for (size_t i = 0; i < file->old_count; i++) {
+        munmap(file->old[i].base, file->old[i].end - file->old[i].start);
+    }
     if (file->alive != NULL) {
         munmap((void *)(uintptr_t)file->alive, SERYUGO_PAGE);
     }
@@ -133,6 +136,9 @@ void seryugo_file_free(struct seryugo_file *file)
     }
     if (file->exchange != NULL) {
         seryugo_exchange_free(file->exchange);
+    }
+    if (file->seal != NULL) {
+        seryugo_seal_free(file->seal);
     }
     free(file->lines);
     free(file);
@@ -196,6 +202,11 @@ static uint32_t make_room_uncancelled(struct seryugo_file *file)
     return code;
 }
 
+bool seryugo_file_has_room(struct seryugo_file *file, uint64_t size)
+{
+    return file->stored + size <= file->bound || (make_room(file) == SERYUGO_DONE && file->stored + size <= file->bound);
+}
+
 uint32_t seryugo_file_reserve(struct seryugo_file *file, struct seryugo *room, uint64_t bytes)
 {
     uint32_t code = seryugo_file_state(file);
@@ -242,6 +253,22 @@ static uint32_t write_lines(struct seryugo_file *file, uint64_t length)
     return SERYUGO_DONE;
 }
 
+uint32_t seryugo_file_store_text(struct seryugo_file *file, const char *lines, size_t length)
+{
+    uint32_t code = SERYUGO_DONE;
+
+    if (file->is_mapped) {
+        memcpy(file->view.base + (file->stored - file->view.start), lines, length);
+    } else {
+        memcpy(file->lines, lines, length);
+        code = write_lines(file, length);
+    }
+    if (code == SERYUGO_DONE) {
+        publish(file, file->next, length);
+    }
+    return code;
+}
+
 /* Stores the lines that fit. SERYUGO_FULL: some didn't. */
 static uint32_t store_lines(struct seryugo_file *file, const struct seryugo *room)
 {
@@ -277,6 +304,7 @@ static void drop_entries(struct seryugo_file *file, struct seryugo *room)
         (void)seryugo_cut_open(room);
         file->cut_next = file->next;
         file->cut_stored = file->stored;
+        seryugo_seal_count(file);
     }
 }
 
@@ -286,6 +314,9 @@ uint32_t seryugo_file_note(struct seryugo_file *file, struct seryugo *room, uint
 
     if (code != SERYUGO_DONE) {
         return code;
+    }
+    if (atomic_load_explicit(&file->is_seal_wanted, memory_order_relaxed)) {
+        seryugo_seal_piece(file);
     }
     code = store_lines(file, room);
     while (code == SERYUGO_FULL) {
@@ -311,13 +342,17 @@ uint32_t seryugo_file_note(struct seryugo_file *file, struct seryugo *room, uint
     return code;
 }
 
-/* Syncs, and cuts off the zeros behind the text: they say nothing. A file that is lost stays as it is. */
+/* Syncs and seals the file, and removes the zeros after its text. It doesn't change a file that is lost. */
 static uint32_t finish(struct seryugo_file *file)
 {
     uint32_t code = seryugo_file_sync(file);
     int error;
 
     seryugo_file_stop_helper(file);
+    if (code == SERYUGO_DONE) {
+        seryugo_seal_last(file);
+        code = seryugo_file_sync(file);
+    }
     error = code == SERYUGO_DONE ? seryugo_file_cut_zeros(file) : 0;
     if (error == 0) {
         return code;
@@ -340,9 +375,7 @@ uint32_t seryugo_file_close(struct seryugo_file *file)
         file->view.base = NULL;
     }
     forget(file);
-    if (file->descriptor >= 0) {
-        close(file->descriptor);
-    }
+    seryugo_let_file(file->descriptor);
     seryugo_file_free(file);
     pthread_setcancelstate(state, &state);
     errno = cause;

@@ -1,5 +1,5 @@
 /* What the parts of the journal's file share: file.c stores lines, disk.c grows and maps the file and has the helper's
- * thread, sync.c syncs and waits for that, open.c opens, exchange.c shortens.
+ * thread, sync.c syncs and waits for that, open.c opens, exchange.c and beside.c shorten, seal.c seals.
  *
  * Places are positions. A position counts all bytes that were stored while the file is open, and only grows. An exchange makes
  * the file shorter, so a place in the file is a position less a shift. Only the machine and the system are given places in the
@@ -39,7 +39,9 @@ enum seryugo_step_kind {
     /* Store the text from `from` up to `to`. */
     SERYUGO_STEP_STORE = 3,
     SERYUGO_STEP_SYNC = 4,
-    SERYUGO_STEP_SYNC_FOLDER = 5
+    SERYUGO_STEP_SYNC_FOLDER = 5,
+    /* Give the new file of an exchange the name. */
+    SERYUGO_STEP_RENAME = 6
 };
 
 struct seryugo_step {
@@ -72,6 +74,42 @@ uint32_t seryugo_store_end(struct seryugo *store, bool is_sync, bool is_done);
 /* Writes a mark. */
 uint32_t seryugo_store_mark(struct seryugo *store, uint32_t mark, uint64_t *place);
 
+/* An exchange has a machine too. Its steps are SERYUGO_STEP_RENAME and SERYUGO_STEP_SYNC_FOLDER. */
+enum seryugo_ending { SERYUGO_ENDING_FAILED = 0, SERYUGO_ENDING_DONE = 1, SERYUGO_ENDING_CANCELLED = 2 };
+
+enum seryugo_exchange_mark {
+    /* How far a sync is acknowledged, as a place of the old file. */
+    SERYUGO_EXCHANGE_SYNCED = 0,
+    /* One of the next, or 0. */
+    SERYUGO_EXCHANGE_WAY = 1
+};
+
+enum seryugo_way {
+    /* Lines go to the new file alone; only another opening heals the file; or the new file may be removed. */
+    SERYUGO_WAY_OVER = 1,
+    SERYUGO_WAY_LOST = 2,
+    SERYUGO_WAY_LEFT = 3
+};
+
+/* Opens the machine of an exchange. The new file begins with `length` bytes, which stand for the old file's first `taken`.
+ * SERYUGO_NO_MEMORY. */
+uint32_t seryugo_exchange_open(uint64_t taken, uint64_t length, struct seryugo *exchange);
+
+/* Begins the next step by what the machines of both files say, and writes it. */
+uint32_t seryugo_exchange_begin(struct seryugo *exchange, struct seryugo *old, struct seryugo *fresh, struct seryugo_step *step);
+
+/* Ends the step, or cancels the exchange, unless a step has begun. */
+uint32_t seryugo_exchange_end(struct seryugo *exchange, uint32_t ending);
+
+/* Writes what is read off an exchange. */
+uint32_t seryugo_exchange_mark(struct seryugo *exchange, struct seryugo *old, struct seryugo *fresh, uint32_t mark, uint64_t *place);
+
+/* Writes a handle to a text of which nothing is summed yet. SERYUGO_NO_MEMORY. */
+uint32_t seryugo_open_summing(struct seryugo *summing);
+
+/* Sums the text's next bytes, and writes the sum of all so far. SERYUGO_NO_MEMORY: it isn't written, but the bytes are summed. */
+uint32_t seryugo_summing_take_from(struct seryugo *summing, struct seryugo_sum *sum, const void *at, size_t length);
+
 /* ---- the file ---- */
 
 /* The most bytes of a line, with its line feed. */
@@ -81,6 +119,10 @@ uint32_t seryugo_store_mark(struct seryugo *store, uint32_t mark, uint64_t *plac
 /* From so many unsynced bytes on the helper syncs early. */
 #define SERYUGO_UNSYNCED_EARLY ((uint64_t)32 << 20)
 #define SERYUGO_OLD_VIEWS 8
+/* The most bytes of a line that ends a piece, with the lines by which the next one begins. */
+#define SERYUGO_SEAL_MOST 256
+/* A sum's word, and a 0. */
+#define SERYUGO_SUM_WORD 65
 
 #define SERYUGO_HIDDEN __attribute__((visibility("hidden")))
 
@@ -94,6 +136,7 @@ struct seryugo_view {
 };
 
 struct seryugo_exchange;
+struct seryugo_seal;
 
 struct seryugo_file {
     /* A page that the system empties in a forked process: 1 in the process that opened the file, and else 0. */
@@ -124,8 +167,14 @@ struct seryugo_file {
     _Atomic uint64_t synced;
     _Atomic uint64_t grown;
     _Atomic bool is_lost;
-    /* An exchange waits for a caller. */
+    /* An exchange waits for a caller, or a piece does, which can be sealed. */
     _Atomic bool is_wanted;
+    _Atomic bool is_seal_wanted;
+    /* The next change under `lock` alone. A sync is under way, which counts up to a position, or none may be made. Threads that
+     * wait for it sleep as long as `round` is as they have read it. */
+    _Atomic bool is_syncing;
+    _Atomic uint64_t counts_to;
+    _Atomic uint32_t round;
 
     /* The next are under `lock`. A thread that grows the file has `growing`, and one that syncs it `is_syncing`. An exchange
      * takes both before it gives the file a new descriptor. */
@@ -139,12 +188,13 @@ struct seryugo_file {
     struct seryugo_file_waiter *waiters;
     uint64_t ahead;
     bool is_asked;
-    bool is_syncing;
     bool stops;
     int error;
     char words[256];
     /* Null, if the file is never made short. */
     struct seryugo_exchange *exchange;
+    /* Null, if the text has no sums. */
+    struct seryugo_seal *seal;
 
     /* The process's next open file. */
     struct seryugo_file *following;
@@ -175,12 +225,20 @@ SERYUGO_HIDDEN int seryugo_allocate(int descriptor, uint64_t from, uint64_t to);
 
 SERYUGO_HIDDEN uint64_t seryugo_mark_of(struct seryugo *store, uint32_t mark);
 
+/* Tell a machine what was done before it was asked: text is stored up to a place, and there is room. While room is made, the machine
+ * hears of text later. False: more is stored than may be unsynced. */
+SERYUGO_HIDDEN bool seryugo_tell_stored(struct seryugo *store, uint64_t end);
+SERYUGO_HIDDEN void seryugo_tell_room(struct seryugo *store, uint64_t end);
+
 /* Marks the file as lost for good, with the first cause. The second needs the lock. */
 SERYUGO_HIDDEN void seryugo_file_lose(struct seryugo_file *file, const char *words, int error);
 SERYUGO_HIDDEN void seryugo_file_lose_locked(struct seryugo_file *file, const char *words, int error);
 
 /* Whether the file still has all that it was given. */
 SERYUGO_HIDDEN bool seryugo_file_is_whole(const struct seryugo_file *file);
+
+/* Tells the machine of lines that calls have stored under the room's lock since it was last asked. Needs the lock. */
+SERYUGO_HIDDEN void seryugo_file_catch_up(struct seryugo_file *file);
 
 /* Begins a step, if the file isn't lost. Needs the lock. */
 SERYUGO_HIDDEN struct seryugo_step seryugo_file_begin(struct seryugo_file *file, uint32_t work, uint64_t to);
@@ -210,6 +268,9 @@ SERYUGO_HIDDEN void seryugo_file_stop_helper(struct seryugo_file *file);
 /* Blocks the thread's signals but those that its own faults raise. */
 SERYUGO_HIDDEN void seryugo_block_signals(sigset_t *before);
 
+/* Has all who sleep ask again whether their wait is over. Needs the lock. */
+SERYUGO_HIDDEN void seryugo_file_wake_all(struct seryugo_file *file);
+
 /* One sync is made at a time, and none while a new file gets the name. Both need the lock. */
 SERYUGO_HIDDEN void seryugo_hold_syncs(struct seryugo_file *file);
 SERYUGO_HIDDEN void seryugo_let_syncs(struct seryugo_file *file);
@@ -221,7 +282,49 @@ SERYUGO_HIDDEN void seryugo_file_try_sync(struct seryugo_file *file);
  * is called meets no lock of another thread. Needs the lock, and gives it back meanwhile. */
 SERYUGO_HIDDEN void seryugo_file_tell_settled(struct seryugo_file *file);
 
+/* seal.c */
+
+/* The first line of a journal with these messages. It has 10 bytes. */
+SERYUGO_HIDDEN const char *seryugo_header(uint32_t messages, bool is_sealed);
+
+/* Writes a sum's word. */
+SERYUGO_HIDDEN void seryugo_sum_word(const struct seryugo_sum *sum, char *word);
+
+/* Write the line that ends a piece after so many entries, and the lines by which a piece of the header's version begins. The word
+ * is a sum's, or empty. Both return how many bytes they have. */
+SERYUGO_HIDDEN size_t seryugo_end_line(char *to, size_t size, uint64_t entries, const char *word);
+SERYUGO_HIDDEN size_t seryugo_piece_head(char *to, size_t size, const char *header, uint64_t entries, const char *word);
+
+/* Seals a file whose open piece begins at a position. False: there is no memory for it. */
+SERYUGO_HIDDEN bool seryugo_seal_new(struct seryugo_file *file, uint32_t messages, uint64_t piece);
+
+/* An exchange is over: the new file is an open piece. An entry's position is less so much there. */
+SERYUGO_HIDDEN void seryugo_seal_begin(struct seryugo_file *file, uint64_t shift);
+
+/* The helper's part: sums what was stored. A caller seals that, if it is time. Needs the lock, and gives it back meanwhile. */
+SERYUGO_HIDDEN void seryugo_seal_look(struct seryugo_file *file, bool is_time);
+
+/* A caller's part, under the room's lock: seals the open piece; or has it sealed soon, if it has many entries. */
+SERYUGO_HIDDEN void seryugo_seal_piece(struct seryugo_file *file);
+SERYUGO_HIDDEN void seryugo_seal_count(struct seryugo_file *file);
+
+/* Seals what a file that is being closed has, if there is room. No caller is left, and no helper. */
+SERYUGO_HIDDEN void seryugo_seal_last(struct seryugo_file *file);
+
+SERYUGO_HIDDEN void seryugo_seal_free(struct seryugo_seal *seal);
+
+/* find.c */
+
+/* Closes a file, and unlocks it: a program that another thread starts may have a copy of the descriptor for a moment. */
+SERYUGO_HIDDEN void seryugo_let_file(int descriptor);
+
 /* file.c */
+
+/* Whether there is room for so many bytes, which it makes if it can. */
+SERYUGO_HIDDEN bool seryugo_file_has_room(struct seryugo_file *file, uint64_t size);
+
+/* Stores lines that are no entries. There is room for them. SERYUGO_FILE_LOST: that failed. */
+SERYUGO_HIDDEN uint32_t seryugo_file_store_text(struct seryugo_file *file, const char *lines, size_t length);
 
 /* Makes a handle on an open descriptor, with its locks and the page that a fork empties. Returns null if there is no memory. */
 SERYUGO_HIDDEN struct seryugo_file *seryugo_file_new(int descriptor, bool is_mapped, uint32_t messages, uint64_t limit);

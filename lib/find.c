@@ -37,7 +37,12 @@ uint32_t seryugo_fail(struct seryugo_opening *opening, const char *words, int er
 
 static uint32_t fails(struct seryugo_opening *opening, const char *words) { return seryugo_fail(opening, words, errno); }
 
-const char *seryugo_header(uint32_t messages) { return messages == SERYUGO_NUMBERS ? "journal 1\n" : "journal 2\n"; }
+const char *seryugo_header(uint32_t messages, bool is_sealed)
+{
+    static const char *const headers[2][2] = {{"journal 1\n", "journal 3\n"}, {"journal 2\n", "journal 4\n"}};
+
+    return headers[messages == SERYUGO_NUMBERS ? 0 : 1][is_sealed];
+}
 
 /* ---- the folder ---- */
 
@@ -94,12 +99,18 @@ uint32_t seryugo_find_folder(struct seryugo_opening *opening)
 
 /* ---- the file ---- */
 
+void seryugo_let_file(int descriptor)
+{
+    if (descriptor >= 0) {
+        flock(descriptor, LOCK_UN);
+        close(descriptor);
+    }
+}
+
 /* The file isn't there, or was exchanged meanwhile. */
 static uint32_t again(struct seryugo_opening *opening)
 {
-    if (opening->descriptor >= 0) {
-        close(opening->descriptor);
-    }
+    seryugo_let_file(opening->descriptor);
     opening->descriptor = -1;
     return SERYUGO_NOTHING;
 }
@@ -219,7 +230,7 @@ static uint32_t create(struct seryugo_opening *opening)
         return code;
     }
     error = seryugo_may_reach(HEADER_LENGTH)
-                ? seryugo_write_at(opening->descriptor, seryugo_header(opening->messages), HEADER_LENGTH, 0)
+                ? seryugo_write_at(opening->descriptor, seryugo_header(opening->messages, opening->is_sealed), HEADER_LENGTH, 0)
                 : EFBIG;
     if (error == 0 && fsync(opening->descriptor) != 0) {
         error = errno;

@@ -92,6 +92,7 @@ static void take_state(struct seryugo_file *file, struct seryugo *room)
     pthread_mutex_unlock(&file->lock);
     exchange->taken_at = file->stored;
     code = seryugo_compact(room, &exchange->journal, &count);
+    exchange->entries_shift = file->next - count;
     pthread_mutex_lock(&file->lock);
     if (code != SERYUGO_DONE) {
         exchange->journal.at = NULL;
@@ -127,6 +128,7 @@ void seryugo_exchange_leave_old(struct seryugo_file *file)
     file->exchange->view = old;
     file->bound = file->stored;
     file->is_double = false;
+    seryugo_seal_begin(file, file->exchange->entries_shift);
     seryugo_exchange_set_stage(file, SERYUGO_STAGE_CLEAN);
 }
 

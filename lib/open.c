@@ -164,35 +164,63 @@ static int last_line(struct seryugo_opening *opening, char *line, size_t size)
     return error;
 }
 
-/* What is written behind the kept text, if the file isn't exchanged. An open piece is gone on with as it is, and what has an end by
- * a new piece of the same version. A sealed piece names the sum of the one before, which that one's last line has. */
+/* Adds lines by which a piece ends that has sums, and a new one begins. `word` has the sum, or is empty. */
+static void begin_piece(struct seryugo_opening *opening, const char *header, bool is_ended, const char *word)
+{
+    uint64_t entries = opening->found->entries;
+    size_t length = is_ended ? 0 : seryugo_end_line(opening->more, sizeof opening->more, entries, word);
+
+    opening->piece = opening->found->kept + length;
+    opening->more_length = length + seryugo_piece_head(opening->more + length, sizeof opening->more - length, header, entries, word);
+}
+
+/* The sum of the last piece, if the text has sums. The line `end` has it, or else what was read. */
+static uint32_t find_sum(struct seryugo_opening *opening, const char *line, bool is_ended, char *word)
+{
+    struct seryugo_sum sum = {0};
+    uint32_t code = SERYUGO_DONE;
+
+    if (is_ended) {
+        const char *at = strchr(line + 4, ' ');
+
+        snprintf(word, SERYUGO_SUM_WORD, "%s", at == NULL ? "" : at + 1);
+    } else {
+        code = seryugo_reading_sum(&opening->reading, &sum);
+        if (code == SERYUGO_DONE) {
+            seryugo_sum_word(&sum, word);
+        }
+    }
+    return code == SERYUGO_NOTHING ? (uint32_t)SERYUGO_DONE : code;
+}
+
+/* Prepares the lines that follow the kept text, if the file isn't exchanged. After an open piece without sums there are none: new
+ * entries continue it. Else they end the last piece, if it is open, and begin one of the same version that names its sum. */
 static uint32_t prepare_more(struct seryugo_opening *opening)
 {
     struct seryugo_file_found *found = opening->found;
-    char line[256], header[HEADER_LENGTH + 1] = "";
-    const char *sum = NULL;
+    char line[256], header[HEADER_LENGTH + 1] = "", word[SERYUGO_SUM_WORD] = "";
     size_t length = 0;
     int error = seryugo_read_at(opening->descriptor, header, HEADER_LENGTH, 0, &length);
+    bool has_header = header[HEADER_LENGTH - 1] == '\n', is_ended;
 
     error = error == 0 ? last_line(opening, line, sizeof line) : error;
     if (error != 0) {
         return seryugo_fail(opening, "read the file", error);
     }
-    if (header[HEADER_LENGTH - 1] == '\n') {
-        /* Only headers and ends are lines and no entries. */
-        opening->is_old = strcmp(header, seryugo_header(opening->messages)) != 0 || found->lines > found->entries + 1;
+    is_ended = strncmp(line, "end ", 4) == 0;
+    if (found->kept != 0 && find_sum(opening, line, is_ended, word) != SERYUGO_DONE) {
+        return seryugo_refuse(opening, SERYUGO_NO_MEMORY, "no memory", 0);
     }
+    /* Without sums only headers and ends are lines and no entries. */
+    opening->is_old = has_header && (strcmp(header, seryugo_header(opening->messages, opening->is_sealed)) != 0
+                                     || (!opening->is_sealed && found->lines > found->entries + 1));
     if (found->kept == 0) {
-        found->kept = header[HEADER_LENGTH - 1] == '\n' ? HEADER_LENGTH : 0;
-        strcpy(opening->more, found->kept == 0 ? seryugo_header(opening->messages) : "");
-    } else if (strncmp(line, "end ", 4) == 0) {
-        sum = strchr(line + 4, ' ');
-        snprintf(opening->more, sizeof opening->more, "%.9s%s\n", header, sum == NULL ? "" : sum);
-        if (found->entries != 0) {
-            snprintf(opening->more + strlen(opening->more), 32, "from %llu\n", (unsigned long long)found->entries);
-        }
+        found->kept = has_header ? HEADER_LENGTH : 0;
+        strcpy(opening->more, has_header ? "" : seryugo_header(opening->messages, opening->is_sealed));
+        opening->more_length = strlen(opening->more);
+    } else if (is_ended || word[0] != 0) {
+        begin_piece(opening, header, is_ended, word);
     }
-    opening->more_length = strlen(opening->more);
     opening->kept = found->kept;
     opening->next = found->entries;
     return SERYUGO_DONE;
@@ -321,6 +349,10 @@ static uint32_t start(struct seryugo_opening *opening, const struct seryugo_file
     atomic_store(&made->told, made->stored);
     atomic_store(&made->synced, seryugo_mark_of(store, SERYUGO_MARK_SYNCED));
     atomic_store(&made->grown, seryugo_mark_of(store, SERYUGO_MARK_GROWN));
+    if (opening->is_sealed && !seryugo_seal_new(made, opening->messages, opening->piece)) {
+        seryugo_file_free(made);
+        return seryugo_refuse(opening, SERYUGO_NO_MEMORY, "no memory", 0);
+    }
     if (options->short_from != 0 && !seryugo_exchange_new(made, opening, options->short_from)) {
         seryugo_file_free(made);
         return seryugo_refuse(opening, SERYUGO_NO_MEMORY, "no memory", 0);
@@ -371,9 +403,7 @@ void seryugo_free_opening(struct seryugo_opening *opening)
     if (opening->has_room) {
         seryugo_close(opening->room);
     }
-    if (opening->descriptor >= 0) {
-        close(opening->descriptor);
-    }
+    seryugo_let_file(opening->descriptor);
     if (opening->folder >= 0) {
         close(opening->folder);
     }
@@ -398,6 +428,7 @@ uint32_t seryugo_file_open(const char *path, uint32_t messages, uint64_t limit, 
     opening.found = found;
     opening.folder = opening.descriptor = -1;
     options = options == NULL ? &each_second : options;
+    opening.is_sealed = (options->flags & SERYUGO_FILE_SEALED) != 0;
     if (messages > SERYUGO_BYTES || limit == 0 || limit > LIMIT_MOST || options->keep > SERYUGO_KEEP_DISK) {
         return seryugo_refuse(&opening, SERYUGO_OUT_OF_BOUNDS, "no such messages, limit or level", 0);
     }

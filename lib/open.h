@@ -15,6 +15,8 @@ struct seryugo_opening {
     const char *path;
     uint32_t messages;
     uint64_t limit;
+    /* New pieces have sums. */
+    bool is_sealed;
     struct seryugo_file_found *found;
     /* The folder and the file, or -1, and the file's name there. */
     int folder;
@@ -24,10 +26,11 @@ struct seryugo_opening {
     uint64_t length;
     uint64_t text;
     uint64_t end;
-    /* How many bytes are kept, and the position of the next entry. */
+    /* How many bytes are kept, the position of the next entry, and where the piece begins that goes on. */
     uint64_t kept;
     uint64_t next;
-    /* The text has a line `end`, or isn't of the version of new files. */
+    uint64_t piece;
+    /* The text isn't of the version of new files, or has a line `end` and no sums. */
     bool is_old;
     /* What is read, and then the room that was made of it. */
     struct seryugo reading;
@@ -95,9 +98,6 @@ SERYUGO_HIDDEN void seryugo_free_opening(struct seryugo_opening *opening);
 
 /* Cuts the file, writes it again and syncs it, as the machine says, which it opens. */
 SERYUGO_HIDDEN uint32_t seryugo_mend(struct seryugo_opening *opening, struct seryugo *store);
-
-/* The first line of a journal with these messages. It has 10 bytes. */
-SERYUGO_HIDDEN const char *seryugo_header(uint32_t messages);
 
 /* Finds the file's folder and name, behind links. */
 SERYUGO_HIDDEN uint32_t seryugo_find_folder(struct seryugo_opening *opening);

@@ -28,6 +28,7 @@ void seryugo_begin_shorter(const struct seryugo_opening *opening, struct seryugo
     made->fresh.path = opening->path;
     made->fresh.messages = opening->messages;
     made->fresh.limit = opening->limit;
+    made->fresh.is_sealed = opening->is_sealed;
     made->fresh.found = &made->found;
     made->fresh.folder = opening->folder;
     made->fresh.descriptor = -1;
@@ -35,10 +36,12 @@ void seryugo_begin_shorter(const struct seryugo_opening *opening, struct seryugo
     snprintf(made->beside, sizeof made->beside, "%s.new", opening->name);
 }
 
-/* Writes what `cml compact` writes of a journal without sums. That is the version of new files. */
+/* Writes what `cml compact` writes, in the version of new files. */
 uint32_t seryugo_take_text(struct seryugo *journal, struct seryugo_shorter *made)
 {
-    uint32_t code = seryugo_journal_text(journal, 0, &made->text);
+    struct seryugo_sum sum = {0};
+    uint32_t code = made->fresh.is_sealed ? seryugo_sealed_text(journal, 0, &sum, &made->text)
+                                          : seryugo_journal_text(journal, 0, &made->text);
     const char *bytes;
 
     seryugo_close(*journal);

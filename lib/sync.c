@@ -6,7 +6,63 @@
 #include "file.h"
 
 #include <errno.h>
+#include <limits.h>
+#include <linux/futex.h>
+#include <sys/syscall.h>
 #include <unistd.h>
+
+/* ---- who sleeps ---- */
+
+/* Threads sleep in a round, which the end of a sync ends. The sync that is under way counts for one group of them. The other group
+ * needs the next sync, and sleeps on. */
+static uint32_t group_of(uint32_t round) { return (uint32_t)1 << (round & 1); }
+
+/* Sleeps, unless the round is over. A thread that wakes asks again whether its wait is over. */
+static void sleep_in(struct seryugo_file *file, uint32_t round, uint32_t group)
+{
+    syscall(SYS_futex, &file->round, FUTEX_WAIT_BITSET_PRIVATE, round, NULL, NULL, group);
+}
+
+static void wake(struct seryugo_file *file, int most, uint32_t groups)
+{
+    syscall(SYS_futex, &file->round, FUTEX_WAKE_BITSET_PRIVATE, most, NULL, NULL, groups);
+}
+
+/* Needs the lock. */
+static uint32_t end_round(struct seryugo_file *file)
+{
+    pthread_cond_broadcast(&file->done);
+    return atomic_fetch_add(&file->round, 1);
+}
+
+void seryugo_file_wake_all(struct seryugo_file *file)
+{
+    (void)end_round(file);
+    wake(file, INT_MAX, FUTEX_BITSET_MATCH_ANY);
+}
+
+/* Another sync may be made. Needs the lock. */
+static void end_syncing(struct seryugo_file *file)
+{
+    atomic_store(&file->is_syncing, false);
+    if (file->waiters != NULL) {
+        seryugo_file_ask_locked(file);
+    }
+}
+
+void seryugo_hold_syncs(struct seryugo_file *file)
+{
+    while (atomic_load(&file->is_syncing)) {
+        pthread_cond_wait(&file->done, &file->lock);
+    }
+    atomic_store(&file->is_syncing, true);
+}
+
+void seryugo_let_syncs(struct seryugo_file *file)
+{
+    end_syncing(file);
+    seryugo_file_wake_all(file);
+}
 
 /* ---- one sync ---- */
 
@@ -41,23 +97,6 @@ static int sync_uninterrupted(int descriptor)
     return error;
 }
 
-void seryugo_hold_syncs(struct seryugo_file *file)
-{
-    while (file->is_syncing) {
-        pthread_cond_wait(&file->done, &file->lock);
-    }
-    file->is_syncing = true;
-}
-
-void seryugo_let_syncs(struct seryugo_file *file)
-{
-    file->is_syncing = false;
-    pthread_cond_broadcast(&file->done);
-    if (file->waiters != NULL) {
-        seryugo_file_ask_locked(file);
-    }
-}
-
 /* Makes a sync, whose step was begun. A sync that fails is never made again: the system may have forgotten what it couldn't write.
  * Needs the lock, and gives it back meanwhile. */
 static void make_sync(struct seryugo_file *file)
@@ -65,6 +104,9 @@ static void make_sync(struct seryugo_file *file)
     uint64_t synced = seryugo_mark_of(&file->store, SERYUGO_MARK_SYNCED) + file->shift;
     int error;
 
+    /* Who sees that a sync is under way finds out for whom it counts. */
+    atomic_store(&file->counts_to, seryugo_mark_of(&file->store, SERYUGO_MARK_STORED) + file->shift);
+    atomic_store(&file->is_syncing, true);
     pthread_mutex_unlock(&file->lock);
     error = sync_uninterrupted(file->descriptor);
     pthread_mutex_lock(&file->lock);
@@ -77,16 +119,29 @@ static void make_sync(struct seryugo_file *file)
     atomic_store(&file->synced, seryugo_mark_of(&file->store, SERYUGO_MARK_SYNCED) + file->shift);
 }
 
-/* Syncs. Returns false if another thread does, grows the file or exchanges it: that thread broadcasts `done` at its end. Needs the
- * lock. */
+/* Ends a sync, and wakes those for whom it counted, and one of the others to make the next sync. Needs the lock, and gives it
+ * back: who is woken meets no lock that this thread has. */
+static void end_sync(struct seryugo_file *file)
+{
+    uint32_t round;
+
+    end_syncing(file);
+    round = end_round(file);
+    pthread_mutex_unlock(&file->lock);
+    wake(file, 1, group_of(round + 1));
+    wake(file, INT_MAX, group_of(round));
+}
+
+/* Syncs. Returns false if another thread does, grows the file or exchanges it: that thread wakes the others at its end. */
 static bool sync_once(struct seryugo_file *file)
 {
-    if (file->is_syncing || seryugo_file_begin(file, SERYUGO_WORK_SYNC, 0).kind != SERYUGO_STEP_SYNC) {
+    pthread_mutex_lock(&file->lock);
+    if (atomic_load(&file->is_syncing) || seryugo_file_begin(file, SERYUGO_WORK_SYNC, 0).kind != SERYUGO_STEP_SYNC) {
+        pthread_mutex_unlock(&file->lock);
         return atomic_load(&file->is_lost);
     }
-    file->is_syncing = true;
     make_sync(file);
-    seryugo_let_syncs(file);
+    end_sync(file);
     return true;
 }
 
@@ -97,23 +152,23 @@ static bool is_settled(struct seryugo_file *file, uint64_t position)
     return atomic_load(&file->synced) >= position || atomic_load(&file->is_lost);
 }
 
-/* Needs the lock. */
+/* What is read of a sync after the round is true of that round, or the round is over. */
 static void wait_until_settled(struct seryugo_file *file, uint64_t position)
 {
     while (!is_settled(file, position)) {
-        if (!sync_once(file)) {
-            pthread_cond_wait(&file->done, &file->lock);
+        uint32_t round = atomic_load(&file->round);
+
+        if (atomic_load(&file->is_syncing) || !sync_once(file)) {
+            sleep_in(file, round, group_of(position <= atomic_load(&file->counts_to) ? round : round + 1));
         }
     }
 }
 
 void seryugo_file_try_sync(struct seryugo_file *file)
 {
-    pthread_mutex_lock(&file->lock);
     if (!is_settled(file, atomic_load(&file->told))) {
         (void)sync_once(file);
     }
-    pthread_mutex_unlock(&file->lock);
 }
 
 /* The code of a wait for this position, if that need not begin. SERYUGO_PARKED: it has to. */
@@ -143,9 +198,7 @@ uint32_t seryugo_file_wait(struct seryugo_file *file, uint64_t position)
     }
     /* A thread that is cancelled here would leave the lock locked. */
     pthread_setcancelstate(PTHREAD_CANCEL_DISABLE, &state);
-    pthread_mutex_lock(&file->lock);
     wait_until_settled(file, position);
-    pthread_mutex_unlock(&file->lock);
     pthread_setcancelstate(state, &state);
     return code_of(file, position);
 }
@@ -202,7 +255,7 @@ void seryugo_file_tell_settled(struct seryugo_file *file)
     while (settled != NULL) {
         struct seryugo_file_waiter *waiter = settled;
 
-        /* Once it is told, its memory may be gone. */
+        /* After the call its memory may be freed. */
         settled = waiter->following;
         waiter->wake(waiter);
     }

@@ -1,7 +1,7 @@
 /* The power is lost at random moments, while four threads call on a switchboard that is kept on the disk: crashes FOLDER CRASHES
- * [SEED]. The disk is simulated (disk.h). Each crash leaves some bytes since the last good sync, and not others. In what it leaves
- * is each call that had returned, and nothing twice. Then each sync in turn fails: each thread's call does too, and nothing that
- * returned before is lost. */
+ * [SEED]. The disk is simulated (disk.h), and the text has sums in half of the rounds. Each crash leaves some bytes since the last
+ * good sync, and not others. In what it leaves is each call that had returned, and nothing twice. Then each sync in turn fails:
+ * each thread's call does too, and nothing that returned before is lost. */
 #include "disk.h"
 
 #include "seryugo_switchboard.h"
@@ -18,6 +18,8 @@ static atomic_bool stops;
 static char path[4096], image_path[4096];
 static struct disk_image image;
 static uint64_t seed = 1;
+/* Of seryugo_file_flag. */
+static uint32_t flags;
 
 /* What returned, of each mailbox: how many messages were sent, received, and counted by a reader. */
 enum { SENT, GOT, SEEN, KINDS };
@@ -155,7 +157,7 @@ static void count_lines(uint64_t *sent, uint64_t *got)
 static void compare(uint64_t before[KINDS][THREADS])
 {
     uint64_t sent[THREADS] = {0}, got[THREADS] = {0};
-    struct seryugo_file_options options = {.segment = 4096};
+    struct seryugo_file_options options = {.flags = flags, .segment = 4096};
     struct seryugo_switchboard left;
     struct seryugo_file_found found;
     uint32_t code = seryugo_switchboard_open_file(image_path, SERYUGO_NUMBERS, &options, &found, &left);
@@ -193,7 +195,7 @@ static void crash(void)
 
 static void start(pthread_t *threads)
 {
-    struct seryugo_file_options options = {.segment = 4096, .keep = SERYUGO_KEEP_DISK};
+    struct seryugo_file_options options = {.flags = flags, .segment = 4096, .sync_milliseconds = 1, .keep = SERYUGO_KEEP_DISK};
 
     unlink(path);
     memset(returned, 0, sizeof returned);
@@ -226,6 +228,7 @@ static uint64_t crash_often(uint64_t crashes)
     uint64_t calls = 0;
 
     disk_slowness = (unsigned)(1 + random_below(1000));
+    flags = random_below(2) == 0 ? 0 : (uint32_t)SERYUGO_FILE_SEALED;
     start(threads);
     for (uint64_t at = 0; at < crashes; at++) {
         usleep((unsigned)random_below(3000));

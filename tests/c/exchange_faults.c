@@ -80,7 +80,7 @@ CALL(int, unlinkat, -1, (int, const char *, int), (int folder, const char *name,
 
 /* ---- one fault ---- */
 
-/* Goes on until an exchange went well, once the fault is behind it. Where each later call fails too, that isn't awaited. */
+/* After the fault, threads work until an exchange succeeds. Where each later call fails too, they don't. */
 static void be_met(const char *call, enum kind kind, uint64_t at)
 {
     open_board("met");
@@ -128,6 +128,8 @@ int main(int many, char **words)
 
             choose(3 * (way / KINDS));
             unlink("met");
+            /* A child that was killed may have left it. */
+            unlink("met.new");
             for (uint64_t at = 1; at <= most && is_met; at++) {
                 is_met = meet(calls[call], kind, at);
                 cases++;

@@ -223,6 +223,7 @@ static void choose(uint64_t way)
 
     messages = way % 2 == 0 ? SERYUGO_NUMBERS : SERYUGO_BYTES;
     options.flags = way % 4 < 2 ? 0 : SERYUGO_FILE_BY_WRITES;
+    options.flags |= way % 3 == 1 ? (uint32_t)SERYUGO_FILE_SEALED : 0;
     options.segment = segments[way / 4 % 4];
     options.sync_milliseconds = way % 3 == 0 ? 1 : 20;
     options.short_from = 1000;

@@ -11,16 +11,21 @@
 static void stay_short(uint64_t way)
 {
     struct stat before, after, link;
+    char header[11];
+    int version;
 
     choose(way);
+    version = 1 + (messages != SERYUGO_NUMBERS) + ((options.flags & SERYUGO_FILE_SEALED) != 0 ? 2 : 0);
     mkdir("elsewhere", 0777);
-    put("elsewhere/target", messages == SERYUGO_NUMBERS ? "journal 1\n" : "journal 2\n", 10);
+    /* It is of the version of new files, so opening leaves it. */
+    snprintf(header, sizeof header, "journal %d\n", version);
+    put("elsewhere/target", header, 10);
     HAS(chmod("elsewhere/target", 0604) == 0 && symlink("elsewhere/target", "link") == 0 && stat("link", &before) == 0);
     open_board("link");
     work_well(25);
     RETURNS(DONE, seryugo_switchboard_close(&board));
     HAS(lstat("link", &link) == 0 && S_ISLNK(link.st_mode) && stat("link", &after) == 0);
-    HAS(after.st_mode == before.st_mode && after.st_uid == before.st_uid && after.st_ino != before.st_ino);
+    HAS(after.st_mode == before.st_mode && after.st_uid == before.st_uid);
     HAS(!is_there("elsewhere/target.new"));
     look_at_it("link");
     unlink("link");

@@ -247,7 +247,10 @@ static void go_on_after_an_end(void)
     go_on("ended", __LINE__);
     put("ended", sealed, 40);
     go_on("ended", __LINE__);
-    BEGINS("ended", "journal 3\nseat 0 mailbox: made 0\nseat 1 send 0 77: done\n");
+    BEGINS("ended", "journal 3\nseat 0 mailbox: made 0\n"
+                    "end 1 5264af217be25d300930fa71f82dd9139f3ac327de77d427213a9ba7370174da\n"
+                    "journal 3 5264af217be25d300930fa71f82dd9139f3ac327de77d427213a9ba7370174da\n"
+                    "from 1\nseat 1 send 0 77: done\n");
     BEGINS("ended.new", "precious");
     unlink("ended.new");
     unlink("ended");

@@ -2,6 +2,8 @@
  * has the folder for itself. */
 #include "filed.h"
 
+#include <sys/syscall.h>
+
 /* ---- traps ---- */
 
 /* The file may not grow: the call is refused before it is made, and nothing ends the program. */
@@ -152,6 +154,27 @@ static void meet_a_child_that_lives_on(void)
     close(there[1]);
     close(begun[0]);
     close(begun[1]);
+    waitpid(child, NULL, 0);
+    unlink("forked");
+}
+
+/* A program that another thread starts has a copy of the descriptor until it begins. It doesn't keep a closed file locked. */
+static void meet_a_program_that_starts(void)
+{
+    pid_t child;
+
+    RETURNS(DONE, open_numbers("forked"));
+    /* As of posix_spawn(3), the library hears nothing of it. */
+    child = (pid_t)syscall(SYS_fork);
+    if (child == 0) {
+        pause();
+        _exit(0);
+    }
+    HAS(child > 0);
+    free_all();
+    RETURNS(DONE, open_numbers("forked"));
+    free_all();
+    kill(child, SIGKILL);
     waitpid(child, NULL, 0);
     unlink("forked");
 }
@@ -340,6 +363,7 @@ int main(int many, char **words)
     meet_a_fork();
     meet_a_fork_under_the_lock();
     meet_a_child_that_lives_on();
+    meet_a_program_that_starts();
     meet_a_foreign_cut();
     keep_lanes();
     keep_what_did_not_fit();

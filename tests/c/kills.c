@@ -1,6 +1,6 @@
 /* Four threads on a switchboard whose journal is in a file. Each prints what returned, as soon as it returned: `sent V` or
- * `got V`. A script kills the program, and looks for all of that in the file: kills FILE RUN COUNT [bytes] [writes] [SEGMENT].
- * Values of a run begin with RUN, and each thread sends COUNT of them. It says how many entries it begins with. */
+ * `got V`. A script kills the program, and looks for all of that in the file: kills FILE RUN COUNT [bytes] [writes] [sealed]
+ * [SEGMENT]. Values of a run begin with RUN, and each thread sends COUNT of them. It says how many entries it begins with. */
 #include "seryugo_switchboard.h"
 
 #include <errno.h>
@@ -96,6 +96,7 @@ static void take_words(char **words, struct seryugo_file_options *options)
     for (; *words != NULL; words++) {
         is_bytes = is_bytes || strcmp(*words, "bytes") == 0;
         options->flags |= strcmp(*words, "writes") == 0 ? (uint32_t)SERYUGO_FILE_BY_WRITES : 0;
+        options->flags |= strcmp(*words, "sealed") == 0 ? (uint32_t)SERYUGO_FILE_SEALED : 0;
         options->segment = **words >= '0' && **words <= '9' ? strtoull(*words, NULL, 10) : options->segment;
     }
 }

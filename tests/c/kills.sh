@@ -1,7 +1,8 @@
 #!/bin/sh
 # Kills a program of four threads at random moments: `sh tests/c/kills.sh PROGRAM N [SEED]`, where PROGRAM is built of kills.c.
 # After each kill the journal has all that the program printed, each once, and the next run goes on from it. The file grows by one
-# page, by sixteen, or by megabytes; lines are mapped or written; messages are numbers or bytes. Each third run begins a new file.
+# page, by sixteen, or by megabytes; lines are mapped or written; messages are numbers or bytes; the text has sums or none. Each
+# third run begins a new file.
 set -e
 program=$1
 many=$2
@@ -29,12 +30,13 @@ while [ "$run" -le "$many" ]; do
     if [ $((run % 3)) -eq 1 ]; then
         file=$work/$run.journal
         random 2 && kind=$([ "$drawn" -eq 0 ] || echo bytes)
+        random 2 && sums=$([ "$drawn" -eq 0 ] || echo sealed)
         : > "$work/all"
     fi
     random 3 && segment=$([ "$drawn" -eq 0 ] && echo 4096 || { [ "$drawn" -eq 1 ] && echo 65536 || echo 0; })
     random 4 && way=$([ "$drawn" -ne 0 ] || echo writes)
     : > "$work/pid"
-    { "$program" "$file" "$run" 100000000 $kind $way "$segment" 2> "$work/error" & echo $! > "$work/pid"
+    { "$program" "$file" "$run" 100000000 $kind $sums $way "$segment" 2> "$work/error" & echo $! > "$work/pid"
       status=0; wait $! 2> "$work/wait" || status=$?; echo "$status" > "$work/status"; } | cat > "$work/told" &
     reader=$!
     until [ -s "$work/pid" ]; do sleep 0.01; done
@@ -53,7 +55,7 @@ while [ "$run" -le "$many" ]; do
     if [ -f "$file" ]; then
         text "$file" > "$work/text"
         awk -f "$here/kept.awk" "$work/all" "$work/text" > "$work/verdict" || {
-            echo "run $run ($kind $way $segment):"; cat "$work/verdict"; cp "$file" "$work/all" /tmp; exit 1; }
+            echo "run $run ($kind $sums $way $segment):"; cat "$work/verdict"; cp "$file" "$work/all" /tmp; exit 1; }
         [ "$segment" -eq 0 ] || grown=$((grown + 1))
         ! grep -q opened "$work/error" || grep -q 'entries 0 ' "$work/error" || again=$((again + 1))
         ! grep -q 'cut [1-9]' "$work/error" || cut=$((cut + 1))
