@@ -1,38 +1,55 @@
 //! A lock that no panic poisons: what it guards is whole between two calls. A `Mutex` looks for
 //! panics each time it is locked and unlocked.
 
+use crate::switchboard::fences;
 use std::cell::UnsafeCell;
 use std::marker::PhantomData;
 use std::ops::{Deref, DerefMut};
 use std::panic::{RefUnwindSafe, UnwindSafe};
-use std::sync::atomic::{AtomicU32, Ordering};
+use std::sync::atomic::{self, AtomicU8, Ordering};
 use std::sync::{Condvar, Mutex, MutexGuard, PoisonError};
+use std::time::Duration;
 
-const FREE: u32 = 0;
-const HELD: u32 = 1;
-/// Held, and a thread may sleep until it is free.
-const AWAITED: u32 = 2;
+const FREE: u8 = 0;
+const HELD: u8 = 1;
+
+/// How the lock is freed: by a store alone, or as these say.
+const ALONE: u8 = 0;
+/// A thread may sleep until the lock is free. Who frees it wakes one.
+const AWAITED: u8 = 1;
+/// A thread has taken the lock late, or the system has no fence for all threads. Who frees the lock
+/// has a fence between its store and its look.
+const FENCED: u8 = 2;
+
+/// How long a thread sleeps at most, if the system refuses a fence. Then it may not be woken.
+const UNFENCED: Duration = Duration::from_millis(1);
 
 /// A value that one thread at a time reaches. It begins in the lock's line of memory.
 ///
-/// A thread that finds the lock taken has `sleepers` as it stores `AWAITED`, and gives `sleepers`
-/// back as it falls asleep. Who frees the lock stores `FREE`. If `AWAITED` was there, it takes
-/// `sleepers`, gives it back, and then wakes one sleeper. No wake is lost:
+/// A thread that finds the lock taken has `sleepers` as it stores `AWAITED`. Then it tries the lock,
+/// and gives `sleepers` back as it falls asleep. Who frees the lock stores `FREE`, and then looks for
+/// `AWAITED`. If that is there, it takes `sleepers`, forgets `AWAITED`, gives `sleepers` back, and then
+/// wakes one sleeper. No wake is lost:
 ///
-/// - Only who frees the lock ends `AWAITED`, since `try_lock` takes a free lock alone. So the first
-///   that frees it after a thread has stored `AWAITED` sees that.
-/// - It takes `sleepers` after that thread fell asleep. Had it taken `sleepers` before, its `FREE`
-///   would lie before that `AWAITED`.
-/// - The woken thread stores `AWAITED` too, since others may sleep. If it finds `FREE`, it has the
-///   lock, and wakes the next sleeper as it frees it. If not, who has the lock wakes one again.
-/// - Another thread may take the lock before the woken one, and free it as `HELD`. That wakes
-///   nobody, but the woken thread comes.
+/// - Until a thread has taken the lock late, a release has no fence between its store and its load,
+///   since a fence costs as much as half a call. So other threads may see the store after the load. But
+///   a thread that is about to sleep first has the system make a fence in all threads. If the release
+///   loads after that fence, it reads `AWAITED`. If it loaded before, its store is visible, and the
+///   thread that is about to sleep reads `FREE`.
+/// - The thread that takes the lock late stores `FENCED`, as it has the lock. All who have it later see
+///   that, and have a fence of their own. So has each thread that sees it and is about to sleep. So one
+///   of the two sees what the other has stored.
+/// - Who forgets `AWAITED` wakes a sleeper after that, which stores it again before it sleeps.
+/// - It takes `sleepers` after that thread fell asleep, or before that stored `AWAITED`.
+/// - Others may sleep as the woken thread takes the lock. `AWAITED` is there, so that the next one
+///   is woken as that thread frees it.
 ///
 /// Who takes the lock has read the `FREE` that its last holder stored. So `Acquire` and `Release`
 /// order what the two do with the value. The rest is ordered by `sleepers`.
 #[repr(C)]
 pub(crate) struct Lock<T> {
-    state: AtomicU32,
+    state: AtomicU8,
+    freeing: AtomicU8,
     sleepers: Mutex<()>,
     freed: Condvar,
     value: UnsafeCell<T>,
@@ -51,8 +68,13 @@ impl<T> RefUnwindSafe for Lock<T> {}
 
 impl<T> Lock<T> {
     pub fn new(value: T) -> Lock<T> {
+        Lock::with(if fences::are_there() { ALONE } else { FENCED }, value)
+    }
+
+    fn with(freeing: u8, value: T) -> Lock<T> {
         Lock {
-            state: AtomicU32::new(FREE),
+            state: AtomicU8::new(FREE),
+            freeing: AtomicU8::new(freeing),
             sleepers: Mutex::new(()),
             freed: Condvar::new(),
             value: UnsafeCell::new(value),
@@ -75,18 +97,47 @@ impl<T> Lock<T> {
     #[cold]
     pub fn lock(&self) -> Guard<'_, T> {
         let mut sleepers = self.sleepers();
-        while self.state.swap(AWAITED, Ordering::Acquire) != FREE {
-            sleepers = self.freed.wait(sleepers).unwrap_or_else(PoisonError::into_inner);
+        loop {
+            let longest = if self.is_awaited() {
+                Duration::MAX
+            } else {
+                UNFENCED
+            };
+            if let Some(guard) = self.try_lock() {
+                self.freeing.fetch_or(FENCED, Ordering::Relaxed);
+                return guard;
+            }
+            let slept = self.freed.wait_timeout(sleepers, longest);
+            sleepers = slept.unwrap_or_else(PoisonError::into_inner).0;
         }
-        drop(sleepers);
-        Guard::of(self)
     }
 
-    /// Wakes one thread that sleeps, if there is one.
+    /// Tells who frees the lock from here on that a thread sleeps. The caller has `sleepers`. Returns
+    /// whether each of those sees it.
+    fn is_awaited(&self) -> bool {
+        if self.freeing.fetch_or(AWAITED, Ordering::SeqCst) & FENCED == 0 {
+            return fences::in_all_threads();
+        }
+        atomic::fence(Ordering::SeqCst);
+        true
+    }
+
+    /// The exchange is a fence, too.
+    #[inline(never)]
+    fn free_fenced(&self) {
+        self.state.swap(FREE, Ordering::SeqCst);
+        if self.freeing.load(Ordering::SeqCst) & AWAITED != 0 {
+            self.wake();
+        }
+    }
+
+    /// Wakes one thread that sleeps. The caller has freed the lock.
     #[cold]
     fn wake(&self) {
         // A thread that is about to sleep gives this back as it falls asleep.
-        drop(self.sleepers());
+        let sleepers = self.sleepers();
+        self.freeing.fetch_and(!AWAITED, Ordering::Relaxed);
+        drop(sleepers);
         self.freed.notify_one();
     }
 
@@ -135,7 +186,14 @@ impl<T> DerefMut for Guard<'_, T> {
 impl<T> Drop for Guard<'_, T> {
     #[inline]
     fn drop(&mut self) {
-        if self.lock.state.swap(FREE, Ordering::Release) == AWAITED {
+        let Lock { state, freeing, .. } = self.lock;
+        if freeing.load(Ordering::Relaxed) & FENCED != 0 {
+            return self.lock.free_fenced();
+        }
+        state.store(FREE, Ordering::Release);
+        // The compiler keeps the order. The processor need not.
+        atomic::compiler_fence(Ordering::SeqCst);
+        if freeing.load(Ordering::Relaxed) & AWAITED != 0 {
             self.lock.wake();
         }
     }
@@ -146,6 +204,7 @@ mod tests {
     use super::*;
     use std::collections::HashSet;
     use std::panic::{self, AssertUnwindSafe};
+    use std::sync::atomic::AtomicU64;
     use std::thread;
 
     fn take<T>(lock: &Lock<T>) -> Guard<'_, T> {
@@ -154,20 +213,29 @@ mod tests {
 
     /// Waits until another thread sleeps or is about to. Where a wake is lost a test doesn't end.
     fn wait_for_a_sleeper<T>(lock: &Lock<T>) {
-        while lock.state.load(Ordering::Relaxed) != AWAITED {
+        while lock.freeing.load(Ordering::Relaxed) & AWAITED == 0 {
             thread::yield_now();
         }
     }
 
     #[test]
     fn no_increment_is_lost() {
+        count_by(&Lock::new(0));
+    }
+
+    #[test]
+    fn nothing_is_lost_without_fences_of_the_system() {
+        count_by(&Lock::with(FENCED, 0));
+        free_as_another_falls_asleep(&Lock::with(FENCED, 0));
+    }
+
+    fn count_by(lock: &Lock<u64>) {
         const THREADS: u64 = 8;
         const TIMES: u64 = 20_000;
 
-        let lock = Lock::new(0);
         let count = || {
             for n in 0..TIMES {
-                let mut count = take(&lock);
+                let mut count = take(lock);
                 let seen = *count;
                 if n % 32 == 0 {
                     // Others find the lock taken, and sleep.
@@ -177,7 +245,44 @@ mod tests {
             }
         };
         thread::scope(|scope| (0..THREADS).for_each(|_| drop(scope.spawn(count))));
-        assert_eq!(*take(&lock), THREADS * TIMES);
+        assert_eq!(*take(lock), THREADS * TIMES);
+    }
+
+    #[test]
+    fn who_falls_asleep_as_the_lock_is_freed_is_woken() {
+        free_as_another_falls_asleep(&Lock::new(0));
+    }
+
+    /// One thread frees the lock just as another falls asleep, and then nobody else frees it. Each time
+    /// the lock is as if nobody had slept. Without the fence in all threads half the runs don't end.
+    fn free_as_another_falls_asleep(lock: &Lock<u64>) {
+        const TIMES: u64 = 20_000;
+
+        let first = lock.freeing.load(Ordering::Relaxed);
+        let turn = AtomicU64::new(0);
+        let wait_for = |wanted| {
+            while turn.load(Ordering::Acquire) != wanted {
+                thread::yield_now();
+            }
+        };
+        thread::scope(|scope| {
+            scope.spawn(|| {
+                for n in 0..TIMES {
+                    wait_for(2 * n + 1);
+                    *lock.lock() += 1;
+                    turn.store(2 * n + 2, Ordering::Release);
+                }
+            });
+            for n in 0..TIMES {
+                let held = take(lock);
+                turn.store(2 * n + 1, Ordering::Release);
+                (0..n % 500).for_each(|_| std::hint::spin_loop());
+                drop(held);
+                wait_for(2 * n + 2);
+                lock.freeing.store(first, Ordering::Relaxed);
+            }
+        });
+        assert_eq!(*take(lock), TIMES);
     }
 
     #[test]
@@ -237,12 +342,17 @@ mod tests {
         Try,
         TakeSleepers,
         StoreAwaited,
+        Fence,
+        TryLate,
         FallAsleep,
         Sleep,
         /// It has the lock, and has `sleepers` too.
         GiveSleepers,
-        /// It has the lock.
+        /// It has the lock, and then knows how to free it.
         Free,
+        StoreAlone,
+        StoreFenced,
+        Look,
         PassSleepers,
         Wake,
     }
@@ -255,59 +365,85 @@ mod tests {
         Frees,
         /// Who is about to sleep stores nothing.
         StoresNothing,
-        /// Who takes the lock late stores `HELD`.
-        StoresHeld,
+        /// Who is about to sleep has no fence made.
+        HasNoFence,
+        /// Who frees the lock never has a fence.
+        StoresAlone,
+        /// Who takes the lock late forgets that others may sleep.
+        Forgets,
         /// Who frees the lock doesn't wait until the other sleeps.
         WakesAtOnce,
     }
 
-    /// The lock's state, whether a thread has `sleepers`, and what each thread does next.
-    type Model = (u32, bool, [Next; THREADS]);
+    /// What others see of a `FREE` that its thread has stored: the lock as held, for a while.
+    const UNSEEN: u8 = 2;
+
+    /// The lock's state, how it is freed, and whether a thread has `sleepers`.
+    type Shared = (u8, u8, bool);
+
+    /// What all threads see, and what each does next.
+    type Model = (Shared, [Next; THREADS]);
 
     /// What the next step of a thread leaves. None: the thread waits.
-    fn step(state: u32, held: bool, next: Next, flaw: Flaw) -> Option<(u32, bool, Next)> {
-        let unless = |this, right, wrong| if flaw == this { wrong } else { right };
+    fn step(shared: Shared, next: Next, flaw: Flaw) -> Option<(Shared, Next)> {
+        let (state, freeing, held) = shared;
+        let is_fenced = freeing & FENCED != 0;
+        let awaited = freeing | (AWAITED * u8::from(flaw != Flaw::StoresNothing));
+        let forgotten = freeing & !AWAITED;
         Some(match next {
-            Next::Try if state == FREE => (HELD, held, Next::Free),
-            Next::Try => (unless(Flaw::Frees, state, FREE), held, Next::TakeSleepers),
+            Next::Try if state == FREE => ((HELD, freeing, held), Next::Free),
+            Next::Try if flaw == Flaw::Frees => ((FREE, freeing, held), Next::TakeSleepers),
+            Next::Try => (shared, Next::TakeSleepers),
             Next::TakeSleepers | Next::PassSleepers if held => return None,
-            Next::TakeSleepers => (state, true, Next::StoreAwaited),
-            Next::StoreAwaited if state == FREE => {
-                (unless(Flaw::StoresHeld, AWAITED, HELD), held, Next::GiveSleepers)
-            }
-            Next::StoreAwaited => {
-                (unless(Flaw::StoresNothing, AWAITED, state), held, Next::FallAsleep)
-            }
-            Next::FallAsleep => (state, false, Next::Sleep),
+            Next::TakeSleepers => ((state, freeing, true), Next::StoreAwaited),
+            Next::StoreAwaited if is_fenced => ((state, awaited, held), Next::TryLate),
+            Next::StoreAwaited => ((state, awaited, held), Next::Fence),
+            Next::Fence if flaw == Flaw::HasNoFence => (shared, Next::TryLate),
+            Next::Fence => (seen(shared), Next::TryLate),
+            Next::TryLate if state == FREE => ((HELD, freeing | FENCED, held), Next::GiveSleepers),
+            Next::TryLate => (shared, Next::FallAsleep),
+            Next::FallAsleep => ((state, freeing, false), Next::Sleep),
             Next::Sleep => return None,
-            Next::GiveSleepers => (state, false, Next::Free),
-            Next::Free if state != AWAITED => (FREE, held, Next::Try),
-            Next::Free if flaw == Flaw::WakesAtOnce => (FREE, held, Next::Wake),
-            Next::Free => (FREE, held, Next::PassSleepers),
-            Next::PassSleepers => (state, held, Next::Wake),
-            Next::Wake => (state, held, Next::Try),
+            Next::GiveSleepers if flaw == Flaw::Forgets => ((state, forgotten, false), Next::Free),
+            Next::GiveSleepers => ((state, freeing, false), Next::Free),
+            Next::Free if is_fenced && flaw != Flaw::StoresAlone => (shared, Next::StoreFenced),
+            Next::Free => (shared, Next::StoreAlone),
+            Next::StoreFenced => ((FREE, freeing, held), Next::Look),
+            Next::StoreAlone => ((UNSEEN, freeing, held), Next::Look),
+            Next::Look if freeing & AWAITED == 0 => (shared, Next::Try),
+            Next::Look if flaw == Flaw::WakesAtOnce => ((state, forgotten, held), Next::Wake),
+            Next::Look => (shared, Next::PassSleepers),
+            // To lock `sleepers` makes the thread's earlier stores visible.
+            Next::PassSleepers => ((seen(shared).0, forgotten, held), Next::Wake),
+            Next::Wake => (shared, Next::Try),
         })
     }
 
+    /// What is left once others see a stored `FREE`.
+    fn seen((state, freeing, held): Shared) -> Shared {
+        let state = if state == UNSEEN { FREE } else { state };
+        (state, freeing, held)
+    }
+
     /// What a wake may leave: one model for each thread that sleeps.
-    fn with_one_woken((state, held, threads): Model) -> Vec<Model> {
+    fn with_one_woken((shared, threads): Model) -> Vec<Model> {
         let sleeps = |at: &usize| threads[*at] == Next::Sleep;
         let woken = |at: usize| {
             let mut threads = threads;
             threads[at] = Next::TakeSleepers;
-            (state, held, threads)
+            (shared, threads)
         };
         (0..THREADS).filter(sleeps).map(woken).collect()
     }
 
     /// What each step leaves that this thread may make next.
-    fn steps((state, held, threads): Model, at: usize, flaw: Flaw) -> Vec<Model> {
-        let Some((state, held, then)) = step(state, held, threads[at], flaw) else {
+    fn steps((shared, threads): Model, at: usize, flaw: Flaw) -> Vec<Model> {
+        let Some((shared, then)) = step(shared, threads[at], flaw) else {
             return Vec::new();
         };
-        let mut left = (state, held, threads);
-        left.2[at] = then;
-        let wakes = threads[at] == Next::Wake && left.2.contains(&Next::Sleep);
+        let mut left = (shared, threads);
+        left.1[at] = then;
+        let wakes = threads[at] == Next::Wake && left.1.contains(&Next::Sleep);
         if wakes {
             with_one_woken(left)
         } else {
@@ -317,27 +453,35 @@ mod tests {
 
     /// What goes wrong in some order of the steps.
     fn fault(flaw: Flaw) -> Option<&'static str> {
-        let (mut seen, mut left) = (HashSet::new(), vec![(FREE, false, [Next::Try; THREADS])]);
+        let first = ((FREE, ALONE, false), [Next::Try; THREADS]);
+        let (mut known, mut left) = (HashSet::new(), vec![first]);
         while let Some(model) = left.pop() {
-            if !seen.insert(model) {
+            if !known.insert(model) {
                 continue;
             }
-            let count = |these: &[Next]| model.2.iter().filter(|next| these.contains(next)).count();
+            let count = |these: &[Next]| model.1.iter().filter(|next| these.contains(next)).count();
             // It is, if only threads that never want the lock again could go on.
             let mut is_stuck = count(&[Next::Try]) < THREADS;
             for at in 0..THREADS {
                 let steps = steps(model, at, flaw);
-                is_stuck &= steps.is_empty() || model.2[at] == Next::Try;
+                is_stuck &= steps.is_empty() || model.1[at] == Next::Try;
                 left.extend(steps);
             }
-            if count(&[Next::Free, Next::GiveSleepers]) > 1 {
+            let with_lock = [
+                Next::Free,
+                Next::StoreAlone,
+                Next::StoreFenced,
+                Next::GiveSleepers,
+            ];
+            if count(&with_lock) > 1 {
                 return Some("two have the lock");
             }
             if is_stuck {
                 return Some("one sleeps for ever");
             }
-            // A thread that sleeps may wake by itself.
+            // A thread that sleeps may wake by itself, and others see what was stored at any time.
             left.extend(with_one_woken(model));
+            left.push((seen(model.0), model.1));
         }
         None
     }
@@ -347,7 +491,9 @@ mod tests {
         assert_eq!(fault(Flaw::None), None);
         assert_eq!(fault(Flaw::Frees), Some("two have the lock"));
         assert_eq!(fault(Flaw::StoresNothing), Some("one sleeps for ever"));
-        assert_eq!(fault(Flaw::StoresHeld), Some("one sleeps for ever"));
+        assert_eq!(fault(Flaw::HasNoFence), Some("one sleeps for ever"));
+        assert_eq!(fault(Flaw::StoresAlone), Some("one sleeps for ever"));
+        assert_eq!(fault(Flaw::Forgets), Some("one sleeps for ever"));
         assert_eq!(fault(Flaw::WakesAtOnce), Some("one sleeps for ever"));
     }
 }
