@@ -1,6 +1,8 @@
 # What the tests share that try a built program or a library. It counts cases, and makes the folder `work`, which goes at the end.
 # `run` and `expect` try the program that `program` names.
 . "$top/tests/lib/bounded.sh"
+# What cargo builds is built once, and nobody looks at it in a debugger: that halves what it costs.
+export CARGO_INCREMENTAL=0 CARGO_PROFILE_DEV_DEBUG=0
 work=$(mktemp -d) || exit 1
 trap 'rm -rf "$work"' EXIT
 passed=0

@@ -137,8 +137,11 @@ fn a_foreign_library_makes_no_call_panic() {
 
 /// What the library returns from now on.
 fn returns(opening: u32, other: u32) {
-    env::set_var(OPENING, opening.to_string());
-    env::set_var(OTHER, other.to_string());
+    // SAFETY: this test is the only one of its process, and no other thread reads the environment.
+    unsafe {
+        env::set_var(OPENING, opening.to_string());
+        env::set_var(OTHER, other.to_string());
+    }
 }
 
 #[test]

@@ -42,7 +42,7 @@ unsafe extern "C" {
 }
 
 /// The library calls it in place of the system's.
-#[no_mangle]
+#[unsafe(no_mangle)]
 extern "C" fn fdatasync(_: c_int) -> c_int {
     let mut disk = disk();
     disk.syncs += 1;
