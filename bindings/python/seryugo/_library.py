@@ -64,6 +64,10 @@ class Bytes(Structure):
     ]
 
 
+# The flag of a file whose text has sums.
+FILE_SEALED = 2
+
+
 class FileOptions(Structure):
     """How a journal's file is kept."""
 

@@ -423,6 +423,7 @@ def open(
     sync_every: Optional[float] = 1.0,
     short_from: int = 0,
     keep: str = "process",
+    sealed: bool = False,
 ) -> Switchboard:
     """Open a switchboard whose journal is kept in a file: each call that returned survives a kill.
 
@@ -438,9 +439,15 @@ def open(
     rests on: each call that returned survives a loss of power. Threads that call at once share a
     sync. A time limit bounds the wait for a message alone.
 
-    It exchanges a file with sums or a line `end` for a short one, which has what `compact`
-    returns. It does so too with a file of `short_from` bytes or more, also while that is open, if
-    it has more than four times the bytes of the short one. With 0 it doesn't. Positions of
+    With `sealed=True` the text has sums, so that a changed byte is found: opening fails with
+    `Fault`. A thread sums what was stored, and the next call seals that: after 65,536 entries, and
+    each time the file is synced in the background. So does `close`. Of what isn't sealed yet
+    opening finds only changes that make a line wrong or an entry unlawful.
+
+    It exchanges a file whose text doesn't have sums as asked for, or has none and a line `end`,
+    for a short one, which has what `compact` returns. It does so too with a file of `short_from`
+    bytes or more, also while that is open, if it has more than four times the bytes of the short
+    one. With 0 it doesn't. Positions of
     entries, and counts of what was sent and received, begin anew once it is opened again. If
     opening can't do so, it goes on with the old file, and `recovered` says why.
 
@@ -453,7 +460,11 @@ def open(
     if keep not in LEVELS:
         raise ValueError(f'a file keeps calls for the "process" or on the "disk", and not {keep!r}')
     options = library.FileOptions(
-        _milliseconds(sync_every), 0, 0, _length(short_from), LEVELS[keep]
+        _milliseconds(sync_every),
+        library.FILE_SEALED if sealed else 0,
+        0,
+        _length(short_from),
+        LEVELS[keep],
     )
     return Switchboard._open(path, limit, options)
 

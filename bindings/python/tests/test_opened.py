@@ -402,6 +402,21 @@ class Refused(InFolder):
         error = self.refused(good + b"seat 0 recv 0: =b\n", seryugo.Unlawful)
         self.assertEqual(error.position, 2)
 
+    def test_sums_show_each_changed_byte(self):
+        for run in range(3):
+            with seryugo.open(self.path, sealed=True) as board, board.seat() as seat:
+                self.assertEqual(board.recovered.entries, run + (run > 0))
+                seat.send(seat.mailbox_again(0, str), "hello")
+        text = text_of(self.path)
+        self.assertEqual((text[:10], text.count(b"\nend ")), (b"journal 4\n", 3))
+        for place in range(10, len(text), 7):
+            changed = bytearray(text)
+            changed[place] ^= 1 if text[place] != 10 else 32
+            Path(self.path).write_bytes(changed)
+            with self.assertRaises((seryugo.Fault, seryugo.Unlawful)):
+                seryugo.open(self.path, sealed=True)
+            self.assertEqual(Path(self.path).read_bytes(), changed)
+
     def test_a_file_that_is_open(self):
         board = self.opened()
         with self.assertRaisesRegex(FileBusy, "letters.journal: "):

@@ -155,6 +155,9 @@ struct Closing {
     at: *mut c_void,
 }
 
+/// The flag of a file whose text has sums.
+pub const FILE_SEALED: u32 = 2;
+
 /// How a journal's file is kept.
 #[repr(C)]
 pub struct FileOptions {
@@ -168,7 +171,7 @@ pub struct FileOptions {
     pub keep: Keep,
 }
 
-/// Who is told that a file is on the disk up to a position.
+/// A callback for when a file is on the disk up to a position.
 #[repr(C)]
 pub struct FileWaiter {
     pub position: u64,
@@ -294,7 +297,7 @@ impl File {
     ///
     /// # Safety
     ///
-    /// The waiter stays where it is until it is told.
+    /// The waiter must not move or be freed before its callback runs.
     pub unsafe fn when(&self, waiter: *mut FileWaiter) -> u32 {
         // SAFETY: as its caller says.
         unsafe { seryugo_file_when(self.0, waiter) }

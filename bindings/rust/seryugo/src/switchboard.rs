@@ -2,6 +2,7 @@
 
 pub(crate) mod call;
 pub(crate) mod expected;
+pub(crate) mod fences;
 pub(crate) mod guest;
 pub(crate) mod journal;
 pub(crate) mod lock;

@@ -1,6 +1,12 @@
 //! Journals with sums: each damage is seen, and torn ones are gone on from.
 
-use seryugo::{Bytes, CheckError, Checker, Error, Journal, MessageKind, RestoreError, Switchboard};
+mod common;
+
+use common::Scratch;
+use seryugo::{
+    Bytes, CheckError, Checker, Error, Journal, JournalFile, MessageKind, RestoreError, Switchboard,
+};
+use std::fs;
 use std::io::{BufReader, ErrorKind, Write};
 
 const LIMIT: u64 = 1_000;
@@ -199,4 +205,63 @@ fn a_piece_that_is_not_written_leaves_the_sum() {
     let mut text = Vec::new();
     let refused = board.take_journal().unwrap().write_sealed_to(None, &mut text).unwrap_err();
     assert_eq!((refused.kind(), text.len()), (ErrorKind::InvalidData, 0));
+}
+
+#[test]
+fn a_file_with_sums_shows_a_changed_byte() {
+    let scratch = Scratch::new("sums");
+    let options = JournalFile::new().sync_by_hand().sealed();
+    for run in 0..3 {
+        let board = options.open(scratch.path()).unwrap();
+        let found = board.recovered().unwrap().clone();
+        assert_eq!(
+            (found.entries, found.is_shortened),
+            (if run == 0 { 0 } else { run + 1 }, false)
+        );
+        let mut seat = board.seat().unwrap();
+        let letters = seat.mailbox_again::<String>(0).unwrap();
+        seat.send(letters, "Dear Ben").unwrap();
+        drop(seat);
+        board.close().unwrap();
+    }
+    let text = fs::read(scratch.path()).unwrap();
+    let checker = check(&text).unwrap();
+    assert!(checker.is_whole() && checker.sum().is_some());
+    assert_eq!(scratch.text().matches("\nend ").count(), 3);
+    for place in (10..text.len()).filter(|place| text[*place] != b'\n') {
+        let mut changed = text.clone();
+        changed[place] ^= 1;
+        fs::write(scratch.path(), &changed).unwrap();
+        let refused = options.open(scratch.path()).unwrap_err();
+        assert!(matches!(refused, Error::Fault(_) | Error::Unlawful(_)), "{place}: {refused}");
+        assert_eq!(fs::read(scratch.path()).unwrap(), changed);
+    }
+}
+
+#[test]
+fn a_file_gets_sums_or_loses_them_as_asked_for() {
+    let scratch = Scratch::new("asked");
+    for (run, options) in [
+        JournalFile::new(),
+        JournalFile::new().sealed(),
+        JournalFile::new(),
+    ]
+    .iter()
+    .enumerate()
+    {
+        let board = options.open(scratch.path()).unwrap();
+        assert_eq!(board.recovered().unwrap().is_shortened, run > 0);
+        let mut seat = board.seat().unwrap();
+        let letters = seat.mailbox_again::<u64>(0).unwrap();
+        assert_eq!(board.owed(letters), Ok(run as u64));
+        seat.send(letters, 5).unwrap();
+        drop(seat);
+        board.close().unwrap();
+        let version = if run == 1 {
+            "journal 4\n"
+        } else {
+            "journal 2\n"
+        };
+        assert!(scratch.text().starts_with(version));
+    }
 }

@@ -5,7 +5,7 @@ use crate::error::Error;
 use crate::journal::keep::Keep;
 use crate::journal::recovered::Recovered;
 use crate::message::carries::{MessageKind, Numbers};
-use crate::raw::{code, done, File, FileFound, FileOptions};
+use crate::raw::{code, done, File, FileFound, FileOptions, FILE_SEALED};
 use crate::switchboard::call::MESSAGE_MOST;
 use crate::switchboard::Switchboard;
 use crate::version;
@@ -41,6 +41,7 @@ pub struct JournalFile {
     sync_milliseconds: u64,
     segment: u64,
     short_from: u64,
+    is_sealed: bool,
     keep: Keep,
 }
 
@@ -63,6 +64,7 @@ impl JournalFile {
             sync_milliseconds: 1_000,
             segment: 0,
             short_from: 0,
+            is_sealed: false,
             keep: Keep::Process,
         }
     }
@@ -134,6 +136,32 @@ impl JournalFile {
         self
     }
 
+    /// Has the text have sums, so that a changed byte is found: opening fails with
+    /// [`Error::Fault`]. A thread sums what was stored. After 65,536 entries, or each time the
+    /// file is synced in the background, the next call seals that by a line with the sum. So does
+    /// [`close`](Switchboard::close). Of what isn't sealed yet opening finds only changes that make
+    /// a line wrong or an entry unlawful.
+    ///
+    /// A file without sums is exchanged for a short one that has them.
+    ///
+    /// ```
+    /// # fn main() -> Result<(), seryugo::Error> {
+    /// # let path = std::env::temp_dir().join(format!("seryugo-doc-{}.sealed", std::process::id()));
+    /// let board = seryugo::JournalFile::new().sealed().open(&path)?;
+    /// board.seat()?.mailbox_again::<String>(0)?;
+    /// board.close()?;
+    /// let text = std::fs::read_to_string(&path).unwrap();
+    /// assert!(text.starts_with("journal 4\n") && text.contains("\nend 1 "));
+    /// # std::fs::remove_file(&path).unwrap();
+    /// # Ok(())
+    /// # }
+    /// ```
+    #[must_use]
+    pub fn sealed(mut self) -> JournalFile {
+        self.is_sealed = true;
+        self
+    }
+
     /// Says what a call waits for before it returns: for its entry on the [disk](Keep::Disk), or in the
     /// system's memory alone.
     ///
@@ -197,7 +225,7 @@ impl JournalFile {
         })?;
         let options = FileOptions {
             sync_milliseconds: self.sync_milliseconds,
-            flags: 0,
+            flags: if self.is_sealed { FILE_SEALED } else { 0 },
             segment: self.segment,
             short_from: self.short_from,
             keep: self.keep,

@@ -67,7 +67,7 @@ unsafe impl Send for Told {}
 unsafe impl Sync for Told {}
 
 extern "C" fn tell(waiter: *mut FileWaiter) {
-    // SAFETY: the waiter is the first part of what `Landing::at` has handed over, and is told once.
+    // SAFETY: the waiter is the first part of what `Landing::at` has handed over, and its callback runs once.
     let told = unsafe { Arc::from_raw(waiter.cast::<Told>().cast_const()) };
     told.parker.unpark(None);
 }
