@@ -213,16 +213,20 @@ class ServerCases(Cases):
         return clients
 
     def lawful(self, name):
-        """A case: the journal is lawful up to its last whole line, after which a server goes on."""
+        """A case: the journal is lawful up to its last whole line, after which a server goes on.
+
+        A server that ended well has ended the text by a line with its sum.
+        """
         if self.checker:
             text = text_of(self.seen)
             whole = self.work / "whole"
             whole.write_bytes(text)
             with open(whole, "rb") as journal:
                 checked = self.run_program(*self.checker, stdin=journal)
-            lines = text.count(b"\n")
-            is_open = f"journal: open after line {lines}"
-            self.expect(f"the journal is lawful: {name}", checked, 2, "", is_open)
+            lines = text.splitlines()
+            is_open = f"journal: open after line {len(lines)}"
+            told = (0, True, "") if lines[-1].startswith(b"end ") else (2, "", is_open)
+            self.expect(f"the journal is lawful: {name}", checked, *told)
 
     def refuses(self, name, status, error, *words):
         """A case: the program ends with this status, and with an error that begins so."""

@@ -191,8 +191,8 @@ class ChatServer(ServerCases):
     def test_changes(self):
         """What a change of a byte shows at the start.
 
-        The text has no sums. So no start sees a change of what was said and that nobody has
-        received, or of who made a call. But it sees each change of what was received.
+        A start sees each change before the last sum. After it, it sees no change of what was said and
+        that nobody has received, or of who made a call. But it sees each of what was received.
         """
         self.begin()
         ann, ben = (Client(self.address, name) for name in ("ann", "ben"))
@@ -246,7 +246,9 @@ class ChatServer(ServerCases):
         ended = self.run_program(self.program, *words, other)
         self.expect("a byte 0", ended, 3, "", True)
         with self.case("a byte 0 ends the text"):
-            self.assertEqual(other.read_bytes(), whole[: whole.rfind(b"\n", 0, place) + 1])
+            kept = whole[: whole.rfind(b"\n", 0, place) + 1]
+            self.assertRegex(other.read_bytes()[len(kept) :], rb"\A(end|journal) [^=]*\Z")
+            self.assertTrue(other.read_bytes().startswith(kept))
 
     def test_restarts(self):
         """What one server leaves and the next one finds.

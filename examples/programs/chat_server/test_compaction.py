@@ -162,9 +162,12 @@ class Compaction(ServerCases):
         )
 
     def await_exchange(self, before):
-        """Waits until a short file is begun or there. Returns whether one is."""
+        """Waits until a short file is begun or there, or the server has begun. Returns whether one is."""
         end = time.monotonic() + LIMIT
-        while not self.server.said() and self.server.runs() and time.monotonic() < end:
+        is_begun = False
+        while not is_begun and self.server.runs() and time.monotonic() < end:
+            # On a busy machine the short file may be there before anybody looks.
+            is_begun = self.server.said()
             if self.beside.exists() or self.journal.stat().st_ino != before:
                 return True
         return False

@@ -19,9 +19,9 @@ pub fn open(path: &Path, compact_from: u64) -> Result<(Switchboard, Left), Failu
     Ok((board, left))
 }
 
-/// The file is made short if it has at least `compact_from` bytes, and four times those of its short form.
+/// The file has sums. It is made short if it has at least `compact_from` bytes, and four times those of its short form.
 fn options(compact_from: u64) -> JournalFile {
-    JournalFile::new().short_from(compact_from)
+    JournalFile::new().short_from(compact_from).sealed()
 }
 
 /// Refuses the journal of another program before it is opened, which may change it. What else is wrong with a file, its opening
