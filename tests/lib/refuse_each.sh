@@ -1,7 +1,7 @@
 #!/bin/sh
 # For tests/stress/refused.sh: sh tests/lib/refuse_each.sh WORK KIND HOW INPUT PROGRAM WORDS..
-# runs the program on the input once for each request that it makes, with that one refused (`once`) or with it and all later
-# ones (`rest`), until a run makes no more; and looks at each run as its KIND wants it:
+# runs the program on the input with each request that it makes refused in turn, that one alone (`once`) or with all later ones
+# (`rest`). The last run is refused nothing. It looks at each run as its KIND wants it:
 #
 #   table    calls on a board, a floor or a hall: each line has the outcome that it has with memory, and says where a call was
 #            refused, made again and answered; a run that ran out of memory itself ends there with status 1
@@ -31,14 +31,33 @@ case $kind in
 esac
 case $how in rest) rest=REFUSE_REST=1 ;; *) rest=REFUSED=once ;; esac
 
-# refuse NUMBER PROGRAM WORDS..: whether a request was refused. Only the program itself meets the refusal.
-refuse() {
+# refused NUMBER PROGRAM WORDS..: whether a request was refused. Only the program itself meets the refusal.
+refused() {
     number=$1
     shift
     bounded env "$variable=$number" "$rest" TOLD="$room/told" LD_PRELOAD="$work/refuse.so" "$@" \
         < "$input" > "$room/out.$number" 2> "$room/err.$number"
     echo "$number $?" >> "$room/statuses"
     [ -e "$room/told" ] && rm "$room/told"
+}
+
+# A program with threads runs once for each request.
+refuse_each() {
+    last=1
+    while refused "$last" "$@" && [ "$last" -lt 100000 ]; do
+        last=$((last + 1))
+    done
+}
+
+# Another program runs once. Where it makes a request, a child goes on without it.
+refuse_in_children() {
+    : > "$room/statuses"
+    bounded env REFUSE_EACH="$room" "$rest" LD_PRELOAD="$work/refuse.so" "$@" < "$input" > "$room/out" 2> "$room/err"
+    status=$?
+    last=$(($(wc -l < "$room/statuses") + 1))
+    echo "$last $status" >> "$room/statuses"
+    mv "$room/out" "$room/out.$last"
+    mv "$room/err" "$room/err.$last"
 }
 
 # What a table's lines came to in each run.
@@ -123,11 +142,10 @@ case $kind in
     replay | chart | journal | compact | written | explored) "$@" < "$input" > "$room/report" ;;
     faulty) "$@" < "$input" 2> "$room/report" ;;
 esac
-number=1
-while refuse "$number" "$@" && [ "$number" -lt 100000 ]; do
-    number=$((number + 1))
-done
-last=$number
+case $kind in
+    run | threads) refuse_each "$@" ;;
+    *) refuse_in_children "$@" ;;
+esac
 case $kind in
     table | texts) judge_table ;;
     *)

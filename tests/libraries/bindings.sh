@@ -47,27 +47,21 @@ replay_from_c() {
     fi
 }
 
-# refused PROGRAM N: with its N-th request for memory refused, a program that makes each call ends with status 5: the call that
-# asked fails, and all that was opened before is closed.
-refused() {
-    bounded env REFUSE="$2" TOLD="$work/met" LD_PRELOAD="$work/refuse.so" "$work/$1"
-    [ $? -eq 5 ]
-}
-
-# refuse_each PROGRAM LINE: each request of the library's in turn, until a run makes no more. A run ends with status 5; or with this
-# line, if the call did without, as one that then blocks. The last request is the C library's own, for what is printed.
+# refuse_each PROGRAM LINE: a program that makes each call has each of its requests for memory refused in turn. It ends with status 5:
+# the call that asked fails, and all that was opened before is closed. Or it prints this line, if the call did without, as one that
+# then blocks. The last request is the C library's own, for what is printed.
 refuse_each() {
-    request=1
     failures=0
-    while rm -f "$work/met"; do
-        if refused "$1" $request > "$work/printed" 2>&1; then
+    rm -rf "$work/each"
+    mkdir "$work/each"
+    bounded env REFUSE_EACH="$work/each" LD_PRELOAD="$work/refuse.so" "$work/$1" > "$work/printed" && grep -q "$2" "$work/printed" || return
+    while read -r request status; do
+        if [ "$status" -eq 5 ]; then
             failures=$((failures + 1))
         else
-            grep -q "$2" "$work/printed" || return
+            grep -q "$2" "$work/each/out.$request" || return
         fi
-        [ -e "$work/met" ] || break
-        request=$((request + 1))
-    done
+    done < "$work/each/statuses"
     [ $failures -gt 20 ]
 }
 
@@ -83,14 +77,18 @@ refuse_each_again() {
     [ $request -gt 20 ]
 }
 
-# sanitized KIND PROGRAM WORD..: built and run with this sanitizer. It sees what the program in C does, and not what the library does.
+# sanitized KIND PROGRAM WORD..: built and run with this sanitizer. It sees what C does, and not what the proved library does.
 # Without its stack for signals: as a cancelled thread ends, the sanitizer of addresses would find a fault in its own code there.
 sanitized() {
     kind=$1
     program=$2
     shift 2
-    cc -g -O1 "-fsanitize=$kind" -fno-sanitize-recover=undefined -Wall -Wextra -pthread -I include \
-        -o "$work/sanitized" "$(c_source "$program")" lib/*.c "$rooms" "$kit/liblibc_c.a" || return
+    with="cc -g -O1 -fsanitize=$kind -fno-sanitize-recover=undefined -Wall -Wextra -pthread -I $top/include"
+    [ -e "$work/$kind.a" ] || {
+        rm -rf "$work/sanitized.parts" && mkdir "$work/sanitized.parts" && (cd "$work/sanitized.parts" && $with -c "$top"/lib/*.c) &&
+            ar rc "$work/$kind.a" "$work"/sanitized.parts/*.o
+    } || return
+    $with -o "$work/sanitized" "$(c_source "$program")" "$work/$kind.a" "$rooms" "$kit/liblibc_c.a" || return
     bounded env ASAN_OPTIONS=use_sigaltstack=0 "$work/sanitized" "$@"
 }
 
