@@ -1,11 +1,11 @@
 /* How many messages a second are kept: `kept WAY THREADS SECONDS PLACE`. Each thread sends a message of 64 bytes to a queue of its
  * own and receives it, each call answered before the next. PLACE is a file that isn't there, or the port of a Redis server.
  *
- * Ways: memory, file and disk (this library, without a file, with a journal in a file, and on the disk before a call returns),
- * file_synced (16 sends and a sync, and then 16 receives and a sync), fdatasync (bytes that are written to a file and synced, for a
- * send and for a receive, by each thread for itself), sqlite (a connection for each thread), sqlite_batched (a thread that writes for
- * all), both also with _full (on the disk before a transaction ends), redis, redis_pipelined (16 sends, and then 16 receives, at a
- * time), both also with _always (a server that syncs before it answers). */
+ * Ways: memory, file, sealed and disk (this library, without a file, with a journal in a file, with sums in that, and on the disk
+ * before a call returns), file_synced (16 sends and a sync, and then 16 receives and a sync), fdatasync (bytes that are written to
+ * a file and synced, for a send and for a receive, by each thread for itself), sqlite (a connection for each thread),
+ * sqlite_batched (a thread that writes for all), both also with _full (on the disk before a transaction ends), redis,
+ * redis_pipelined (16 sends, and then 16 receives, at a time), both also with _always (a server that syncs before it answers). */
 #ifndef _GNU_SOURCE
 #define _GNU_SOURCE
 #endif
@@ -38,9 +38,9 @@ static void need(bool is_so, const char *what)
 
 static struct seryugo_switchboard board;
 
-static void open_board(bool has_file, uint32_t keep)
+static void open_board(bool has_file, uint32_t keep, uint32_t flags)
 {
-    struct seryugo_file_options options = {.sync_milliseconds = 1000, .keep = keep};
+    struct seryugo_file_options options = {.sync_milliseconds = 1000, .flags = flags, .keep = keep};
     uint32_t code = has_file ? seryugo_switchboard_open_file(place, SERYUGO_BYTES, &options, NULL, &board)
                              : seryugo_bytes_switchboard_open(65536, &board);
 
@@ -48,11 +48,13 @@ static void open_board(bool has_file, uint32_t keep)
     need(has_file || seryugo_switchboard_when_full(&board, NULL, NULL) == SERYUGO_DONE, "drop the journal");
 }
 
-static void open_memory(void) { open_board(false, SERYUGO_KEEP_PROCESS); }
+static void open_memory(void) { open_board(false, SERYUGO_KEEP_PROCESS, 0); }
 
-static void open_file(void) { open_board(true, SERYUGO_KEEP_PROCESS); }
+static void open_file(void) { open_board(true, SERYUGO_KEEP_PROCESS, 0); }
 
-static void open_disk(void) { open_board(true, SERYUGO_KEEP_DISK); }
+static void open_sealed(void) { open_board(true, SERYUGO_KEEP_PROCESS, SERYUGO_FILE_SEALED); }
+
+static void open_disk(void) { open_board(true, SERYUGO_KEEP_DISK, 0); }
 
 static uint64_t pass_board_by(uint64_t at_once, bool is_synced)
 {
@@ -322,6 +324,7 @@ static const struct way {
     uint64_t (*pass)(uint64_t thread);
 } ways[] = {
     {"memory", open_memory, pass_board},       {"file", open_file, pass_board},
+    {"sealed", open_sealed, pass_board},
     {"disk", open_disk, pass_board},           {"file_synced", open_file, pass_synced},
     {"fdatasync", open_bare, pass_bare},       {"sqlite", make_base, pass_sqlite},
     {"sqlite_full", make_full_base, pass_sqlite},

@@ -1,14 +1,14 @@
 #!/bin/sh
 # Kept messages a second, beside SQLite and Redis: `sh tools/speed/kept.sh PREFIX [SECONDS [ROUNDS]]`. PREFIX has the installed
-# library. It measures all ways by turns on the disk of $TMPDIR, and prints the medians as a table. Then it prints how
-# long the state of a room takes. It wants redis-server, libhiredis-dev and libsqlite3-dev.
+# library. It measures all ways by turns on the disk of $TMPDIR, and prints the medians as a table. Then it prints how long
+# callers wait while a long file becomes short. It wants redis-server, libhiredis-dev and libsqlite3-dev.
 set -e
 cd "$(dirname "$0")/../.."
 prefix=$1
 seconds=${2:-3}
 rounds=${3:-5}
 port=7391
-ways='memory file sqlite sqlite_batched redis redis_pipelined disk file_synced fdatasync sqlite_full sqlite_batched_full redis_always redis_pipelined_always'
+ways='memory file sealed sqlite sqlite_batched redis redis_pipelined disk file_synced fdatasync sqlite_full sqlite_batched_full redis_always redis_pipelined_always'
 work=$(mktemp -d "${TMPDIR:-/tmp}/kept.XXXXXX")
 trap 'redis-cli -p $port shutdown nosave 2> /dev/null || true; rm -rf "$work"' EXIT
 cc -std=gnu11 -O2 -Wall -Wextra -Werror -I "$prefix/include" tools/speed/kept.c "$prefix/lib/libseryugo.a" -lhiredis -lsqlite3 -pthread \
@@ -50,4 +50,4 @@ for way in $ways; do
     echo "| \`$way\` | $(median "$work/$way.1.told") | $(median "$work/$way.8.told") | $(median "$work/$way.64.told") |"
 done
 echo
-"$work/state"
+"$work/state" "$work/state.journal"
