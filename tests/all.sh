@@ -27,7 +27,7 @@ step() {
         waiting) sh tests/stress/waiting.sh "$bench" "$cml" ;;
         guide | html | links | speed) sh "tests/docs/$1.sh" ;;
         refused_bodies) sh tests/libraries/refused_bodies.sh ;;
-        kept_file) sh tests/libraries/kept_file.sh crates/cml_file_tests/out/cml_file_tests ;;
+        kept_file) sh tests/libraries/kept_file.sh "$rows" ;;
         queueing) sh tests/cml/queueing.sh crates/cml_queueing/out/cml_queueing "$cml" "$chart" ;;
     esac
 }

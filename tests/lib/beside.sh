@@ -20,7 +20,8 @@ beside() {
     '
 }
 
-# counted NAME: does one step, shows what it tells with its name before each line, and keeps how many passed and failed.
+# counted NAME: does one step, shows what it tells with its name before each line, and what it cost, and keeps how many passed and
+# failed.
 counted() {
     sh -c 'echo $$ > "$0" && exec timeout "$@"' "$work/$1.process" --kill-after 30 $longest_step \
         sh "$0" --alone "$work" "$1" > "$work/$1.told" 2>&1
@@ -37,6 +38,11 @@ counted() {
                 print name ": " passed + 0 " passed, " failed + 0 " failed"
             }
         ' | tee "$work/$1.count"
+    times > "$work/$1.times"
+    awk -v name="$1" '
+        function seconds(text,    part) { split(text, part, "m"); return part[1] * 60 + part[2] }
+        NR == 2 { printf "%s: %.0f processor seconds\n", name, seconds($1) + seconds($2) }
+    ' "$work/$1.times"
 }
 
 case $1 in

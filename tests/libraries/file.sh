@@ -15,8 +15,8 @@ trap 'rm -rf "$work"' EXIT
 chmod 755 "$work"
 export SERYUGO_TRY="$work"
 
-for program in tests/c/file.c tests/c/file_traps.c tests/c/shortened.c tests/c/kills.c tests/c/exchanges.c tests/c/exchange_faults.c \
-    tests/c/exchange_syncs.c tests/c/disk_waits.c tests/c/crashes.c examples/c/durable.c; do
+for program in tests/c/file.c tests/c/file_traps.c tests/c/shortened.c tests/c/seals.c tests/c/kills.c tests/c/exchanges.c \
+    tests/c/exchange_faults.c tests/c/exchange_syncs.c tests/c/disk_waits.c tests/c/crashes.c examples/c/durable.c; do
     "${CC:-cc}" -std=gnu11 -O2 -Wall -Wextra -Werror -I "$prefix/include" "$program" "$prefix/lib/libseryugo.a" -pthread \
         -ldl -o "$work/$(basename "$program" .c)"
 done
@@ -25,10 +25,11 @@ done
 # A fault has the words of `cml check`: those of the crate, in the same order.
 sed -n '/^pub enum What/,/^}/s/.*#\[error("\(.*\)")\]/\1/p' crates/cml_journal/src/fault.rt > "$work/faults"
 sed -n '/^const char \*seryugo_fault_text/,/^}/s/^ *"\(.*\)",$/\1/p' lib/open.c | cmp - "$work/faults"
-mkdir -m 777 "$work/files" "$work/traps" "$work/short" "$work/exchanged" "$work/disk"
+mkdir -m 777 "$work/files" "$work/traps" "$work/short" "$work/exchanged" "$work/disk" "$work/sealed"
 "$work/file" "$work/files"
 "$work/file_traps" "$work/traps"
 "$work/shortened" "$work/short"
+"$work/seals" "$work/sealed"
 "$work/disk_waits" "$work/disk"
 "$work/crashes" "$work/disk" "$crashes"
 [ "$("$work/durable" "$work/letters.journal" && "$work/durable" "$work/letters.journal")" = 'letter 0

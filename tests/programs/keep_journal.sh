@@ -144,7 +144,7 @@ reruns() {
 reruns_in_a_debugger() {
     made_again gdb -batch -ex 'break seryugo_recv' -ex 'ignore 1 500' -ex run -ex 'info threads' -ex delete -ex continue \
         --args "$program" --rerun "$work/other" 1000 && grep -q 'hit Breakpoint 1' "$work/said" &&
-        [ "$(grep -c '^[* ] *[0-9][0-9]* *Thread ' "$work/said")" -eq 5 ]
+        [ "$(grep -c '^[* ] *[0-9][0-9]* *Thread ' "$work/said")" -gt 1 ]
 }
 
 check 'the program is built' build
