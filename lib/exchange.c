@@ -102,7 +102,8 @@ static bool begin_naming(struct seryugo_file *file)
     pthread_mutex_lock(&file->lock);
     if (exchange->stage == SERYUGO_STAGE_BOTH) {
         seryugo_file_catch_up(file);
-        is_so = seryugo_beside_tell(exchange, atomic_load(&file->told)) && seryugo_beside_move(file) == SERYUGO_STEP_RENAME;
+        is_so = (seryugo_beside_tell(exchange, atomic_load(&file->told)) && seryugo_beside_move(file) == SERYUGO_STEP_RENAME)
+                || seryugo_exchange_fails(exchange, "the new file has less than the old one", 0);
         seryugo_exchange_set_stage(file, is_so ? SERYUGO_STAGE_NAMING : SERYUGO_STAGE_FAILED);
     }
     pthread_mutex_unlock(&file->lock);
@@ -124,6 +125,7 @@ static uint64_t end_step(struct seryugo_file *file, enum seryugo_ending ending)
 /* Returns 0 or errno. After a failure either file may have the name on the disk. */
 static int sync_folder(struct seryugo_file *file)
 {
+    uint64_t way;
     uint32_t step;
     int error = EIO;
 
@@ -133,7 +135,8 @@ static int sync_folder(struct seryugo_file *file)
     if (step == SERYUGO_STEP_SYNC_FOLDER) {
         error = fsync(file->exchange->old.folder) == 0 ? 0 : errno;
     }
-    return end_step(file, error == 0 ? SERYUGO_ENDING_DONE : SERYUGO_ENDING_FAILED) == SERYUGO_WAY_OVER ? 0 : error;
+    way = end_step(file, error == 0 ? SERYUGO_ENDING_DONE : SERYUGO_ENDING_FAILED);
+    return error == 0 && way != SERYUGO_WAY_OVER ? EIO : error;
 }
 
 /* The new file has the name on the disk, so it is the file that is synced and grows. */

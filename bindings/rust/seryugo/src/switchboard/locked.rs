@@ -56,13 +56,27 @@ impl<R: MessageKind> Switchboard<R> {
             return (T::refused(code::FORKED), 0);
         };
         let answer = state.call(call);
+        mem::forget(panicking);
+        if state.ends_at_once() {
+            return (answer, 0);
+        }
+        self.end_call::<SETTLES, T>(state, by, answer)
+    }
+
+    /// Ends a call where a seat may be due, or a file has the journal. It isn't part of each call's
+    /// code, so that a caller's compiler takes that into the caller.
+    #[inline(never)]
+    fn end_call<const SETTLES: bool, T: Outcome>(
+        &self,
+        mut state: Guard<'_, State<R>>,
+        by: Option<&Parker>,
+        answer: T,
+    ) -> (T, u64) {
         if state.has_file() {
-            mem::forget(panicking);
             return self.keep_call::<SETTLES, T>(state, by, answer, None);
         }
         let due = state.next_due();
         drop(state);
-        mem::forget(panicking);
         self.wake_at(due, by);
         (answer, 0)
     }
@@ -90,8 +104,23 @@ impl<R: MessageKind> Switchboard<R> {
             return (code::FORKED, 0);
         };
         let code = state.ask_by(by, ask, call);
+        mem::forget(panicking);
+        if state.ends_at_once() {
+            return (code, 0);
+        }
+        self.end_ask::<SETTLES>(state, by, ask, code)
+    }
+
+    /// Ends such a call as `end_call` does.
+    #[inline(never)]
+    fn end_ask<const SETTLES: bool>(
+        &self,
+        mut state: Guard<'_, State<R>>,
+        by: &Parker,
+        ask: Ask,
+        code: u32,
+    ) -> (u32, u64) {
         if state.has_file() {
-            mem::forget(panicking);
             if code == code::PARKED {
                 // It has no answer yet.
                 return self.keep_call::<false, u32>(state, Some(by), code, Some(ask.seat));
@@ -103,7 +132,6 @@ impl<R: MessageKind> Switchboard<R> {
         let may_be_due = ask.is_again || code != code::PARKED;
         let due = may_be_due.then(|| state.next_due()).flatten();
         drop(state);
-        mem::forget(panicking);
         self.wake_at(due, Some(by));
         (code, 0)
     }

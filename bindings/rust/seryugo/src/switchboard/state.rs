@@ -17,6 +17,9 @@ use std::collections::BTreeMap;
 use std::io::{self, ErrorKind};
 use std::sync::Arc;
 
+/// No switchboard has so many seats.
+const FILE: u64 = 1 << 63;
+
 /// The state under the lock. What each call uses comes first, so that it lies in the lock's cache
 /// line: each line moves from the thread that called before to the one that calls.
 #[repr(C)]
@@ -25,8 +28,9 @@ pub(crate) struct State<R: MessageKind> {
     /// The journal surely has room for this many more. Without a full-journal policy or a file no
     /// call asks, and with a file each does.
     pub(super) spare: u64,
-    /// How many seats are parked.
-    parked: u64,
+    /// What a call sees to once it is made: how many seats are parked, and `FILE` more if a file
+    /// keeps the journal.
+    after_call: u64,
     /// How many calls were made that may park a seat or make one due.
     calls: u64,
     /// The file that keeps the journal.
@@ -76,7 +80,7 @@ impl<R: MessageKind> State<R> {
             seats: 0,
             expected: Expected::default(),
             free_answers: Vec::new(),
-            parked: 0,
+            after_call: 0,
             calls: 0,
             lanes: BTreeMap::new(),
             lost: 0,
@@ -87,12 +91,23 @@ impl<R: MessageKind> State<R> {
     /// Keeps the journal in a file, which has let this room go on.
     pub fn set_file(&mut self, file: Option<Arc<File>>) {
         self.spare = if file.is_some() { 0 } else { u64::MAX };
+        self.after_call = self.parked() + if file.is_some() { FILE } else { 0 };
         self.file = file;
     }
 
-    #[inline]
     pub fn has_file(&self) -> bool {
         self.file.is_some()
+    }
+
+    /// Whether a call that was made sees to nothing more: no seat is parked, so that none is due, and
+    /// no file keeps the journal.
+    #[inline]
+    pub fn ends_at_once(&self) -> bool {
+        self.after_call == 0
+    }
+
+    fn parked(&self) -> u64 {
+        self.after_call & !FILE
     }
 
     /// Stores what the room has had since the last time in its file.
@@ -282,10 +297,9 @@ impl<R: MessageKind> State<R> {
 
     /// The place of the next seat that is due among those that were made here. Each seat that is
     /// due is given once.
-    #[inline]
     pub fn next_due(&mut self) -> Option<u64> {
         // Only a parked seat is ever due.
-        if self.parked == 0 {
+        if self.parked() == 0 {
             return None;
         }
         let mut seat = 0;
@@ -350,12 +364,19 @@ impl<R: MessageKind> State<R> {
         }
         self.calls += 1;
         let code = call(&mut self.handle);
-        self.parked =
-            (self.parked + u64::from(code == code::PARKED)).saturating_sub(u64::from(ask.is_again));
+        if ask.is_again || code == code::PARKED {
+            self.note_parked(ask.is_again, code);
+        }
         match code {
             code::JOURNAL_FULL if room.is_err() => code::NOT_KEPT,
             _ => code,
         }
+    }
+
+    /// A seat was parked before such a call, or is now.
+    fn note_parked(&mut self, was: bool, code: u32) {
+        self.after_call =
+            (self.after_call + u64::from(code == code::PARKED)).saturating_sub(u64::from(was));
     }
 
     /// Makes such a call of the seat with this parker.
@@ -388,7 +409,7 @@ impl<R: MessageKind> State<R> {
     /// Withdraws the call of a seat, if it is parked.
     pub fn withdraw(&mut self, seat: u64) {
         let code = raw::seryugo_withdraw(&mut self.handle, seat);
-        self.parked = self.parked.saturating_sub(u64::from(code == code::DONE));
+        self.after_call = self.after_call.saturating_sub(u64::from(code == code::DONE));
     }
 }
 
@@ -466,7 +487,7 @@ mod tests {
         for _ in 0..1_000 {
             let mut state = room();
             call(&mut state, &mut random);
-            let parked = state.parked;
+            let parked = state.parked();
             let is_parked =
                 |seat: &u64| raw::seryugo_withdraw(&mut state.handle, *seat) == code::DONE;
             assert_eq!(parked, (0..SEATS).filter(is_parked).count() as u64);
