@@ -274,17 +274,18 @@ int main(int many, char **words)
     if (many < 3) {
         return 64;
     }
-    /* A wait that never ends is a fault. */
-    alarm(600);
     snprintf(path, sizeof path, "%s/crashes.journal", words[1]);
     snprintf(image_path, sizeof image_path, "%s/image.journal", words[1]);
     crashes = strtoull(words[2], NULL, 10);
     seed = many > 3 ? strtoull(words[3], NULL, 10) : (uint64_t)getpid();
     for (uint64_t at = 0; at < crashes; at += EACH_ROUND) {
+        /* A wait that never ends is a fault. */
+        alarm(600);
         calls += crash_often(crashes - at < EACH_ROUND ? crashes - at : EACH_ROUND);
     }
     needs(calls > crashes, "calls returned", calls, crashes);
     for (uint64_t number = 1; number <= 20; number++) {
+        alarm(600);
         fail_sync(number);
     }
     unlink(path);

@@ -1,6 +1,6 @@
 /* How long callers wait while a long file becomes short: `state FILE`. One thread sends and receives 64 bytes, while 1,000, 100,000 or
  * 1,000,000 such messages wait. It prints the milliseconds of the longest call of an exchange, and how long it takes to have the
- * room's state, which one of the calls does: each the median of five. */
+ * room's state, which one of the calls does: each the median of five. It syncs often, or calls would wait for the disk too. */
 #include <seryugo_switchboard.h>
 #include <stdio.h>
 #include <stdlib.h>
@@ -83,6 +83,7 @@ static double call_on(uint64_t done)
         taken = call_once(at % 2 == 0);
         longest = taken > longest ? taken : longest;
         if (at % 256 == 255) {
+            need(seryugo_switchboard_sync(&board) == SERYUGO_DONE);
             seryugo_file_exchanges(board.file, &ended);
         }
     }
