@@ -48,16 +48,23 @@ absolute() { echo "$(cd "$(dirname "$1")" && pwd)/$(basename "$1")"; }
 # any MOST: a random number below this.
 any() { od -An -N2 -tu2 /dev/urandom | awk -v most="$1" '{ print $1 % most }'; }
 
-# check CASE COMMAND..: the command ends well. Otherwise the end of what it says is shown.
+# check CASE COMMAND..: the command ends well. Otherwise the end of what it says is shown. So is what it cost, if that is much.
 check() {
     checked=$1
     shift
+    times > "$work/costs"
     if "$@" > "$work/told" 2>&1; then
         pass
     else
         fail "$checked"
         tail -n 20 "$work/told"
     fi
+    times >> "$work/costs"
+    awk -v name="$checked" '
+        function seconds(text,    part) { split(text, part, "m"); return part[1] * 60 + part[2] }
+        NR == 2 { cost = -seconds($1) - seconds($2) }
+        NR == 4 && (cost += seconds($1) + seconds($2)) >= 20 { printf "%s: %.0f processor seconds\n", name, cost }
+    ' "$work/costs"
 }
 
 # c_source PROGRAM: the file of a program in C.

@@ -6,7 +6,8 @@
  * TOLD           a file that is made at the first refusal
  * REFUSE_EACH    a folder: each request for memory is refused in turn, in a child that is forked there. Child N writes into the files
  *                out.N and err.N what a run with that request refused would write, and a line `N STATUS` tells how it ended. The
- *                program itself is refused nothing. It may have no threads, and read only what standard input leads to.
+ *                program itself is refused nothing, and reads only what standard input leads to. Once it starts a thread no child is
+ *                forked: that would have one thread alone.
  */
 #define _GNU_SOURCE
 #include <dlfcn.h>
@@ -22,6 +23,7 @@
 
 /* Of a child: the request that is refused. */
 static long refused_here;
+static int has_threads;
 
 /* Opens the file that a descriptor leads to once more, so that a child's place in it is its own. */
 static int open_again(int descriptor) {
@@ -89,7 +91,7 @@ static int refuses(long *requests, const char *variable) {
     long request = __atomic_add_fetch(requests, 1, __ATOMIC_SEQ_CST);
     long refused = refused_here != 0 ? refused_here : number ? atol(number) : 0;
     if (each && refused_here == 0)
-        return is_child(each, request);
+        return !has_threads && is_child(each, request);
     if (refused == 0 || request < refused || (request > refused && !getenv("REFUSE_REST")))
         return 0;
     if (told && request == refused)
@@ -122,9 +124,7 @@ void *realloc(void *block, size_t size) {
 int pthread_create(pthread_t *thread, const pthread_attr_t *attributes, void *(*start)(void *), void *argument) {
     static int (*real)(pthread_t *, const pthread_attr_t *, void *(*)(void *), void *);
     static long requests;
-    /* A child that is forked has one thread alone. */
-    if (getenv("REFUSE_EACH"))
-        _exit(70);
+    has_threads = 1;
     if (!real)
         real = (int (*)(pthread_t *, const pthread_attr_t *, void *(*)(void *), void *))dlsym(RTLD_NEXT, "pthread_create");
     return refuses(&requests, "REFUSE_THREAD") ? EAGAIN : real(thread, attributes, start, argument);

@@ -41,23 +41,25 @@ refused() {
     [ -e "$room/told" ] && rm "$room/told"
 }
 
-# A program with threads runs once for each request.
-refuse_each() {
-    last=1
-    while refused "$last" "$@" && [ "$last" -lt 100000 ]; do
-        last=$((last + 1))
-    done
-}
-
-# Another program runs once. Where it makes a request, a child goes on without it.
+# The program runs once. Where it makes a request, a child goes on without it.
 refuse_in_children() {
-    : > "$room/statuses"
     bounded env REFUSE_EACH="$room" "$rest" LD_PRELOAD="$work/refuse.so" "$@" < "$input" > "$room/out" 2> "$room/err"
     status=$?
     last=$(($(wc -l < "$room/statuses") + 1))
+}
+
+# It was refused nothing itself: that is the last run.
+end_with_it() {
     echo "$last $status" >> "$room/statuses"
     mv "$room/out" "$room/out.$last"
     mv "$room/err" "$room/err.$last"
+}
+
+# It runs once for each request that it makes from here on.
+refuse_the_rest() {
+    while refused "$last" "$@" && [ "$last" -lt 100000 ]; do
+        last=$((last + 1))
+    done
 }
 
 # What a table's lines came to in each run.
@@ -142,9 +144,13 @@ case $kind in
     replay | chart | journal | compact | written | explored) "$@" < "$input" > "$room/report" ;;
     faulty) "$@" < "$input" 2> "$room/report" ;;
 esac
+last=1
+: > "$room/statuses"
+[ "$kind" = threads ] || refuse_in_children "$@"
+# From its first thread on, no child can be forked.
 case $kind in
-    run | threads) refuse_each "$@" ;;
-    *) refuse_in_children "$@" ;;
+    run | threads) refuse_the_rest "$@" ;;
+    *) end_with_it ;;
 esac
 case $kind in
     table | texts) judge_table ;;

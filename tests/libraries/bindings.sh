@@ -183,7 +183,7 @@ from_rust() {
         done
     fi
     check 'letters in Rust, kept in a file' letters_from_rust
-    check 'messages are timed in Rust' cargo_does run --release --example speed -- 4000
+    check 'messages are timed in Rust' cargo_does run --release --example speed -- 400 '' 1
     check 'journals are timed in Rust' cargo_does run --release --example journals -- 40001
 }
 

@@ -400,17 +400,16 @@ from_python() {
     check "the README's example in Python" page bindings/python/README.md
 }
 
-# What bindings/try.sh installs without a proof, from an empty environment.
+# What bindings/try.sh installs without a proof, from an empty environment. It compiles cml_chart as it does cml.
 tried() {
-    env -i PATH="$PATH" sh bindings/try.sh "$work/tried" && prefix=$work/tried && built calls && built messages -static &&
-        tried_programs
+    env -i PATH="$PATH" sh bindings/try.sh "$work/tried" cml && prefix=$work/tried && built calls && built messages -static &&
+        bounded "$prefix/bin/cml" replay < examples/scripts/hello_mailbox.cml | cmp - examples/scripts/hello_mailbox.report
 }
 
-# The programs perform README's first script, and draw its picture.
-tried_programs() {
-    stalled=examples/scripts/three_philosophers
-    bounded "$prefix/bin/cml" replay < examples/scripts/hello_mailbox.cml | cmp - examples/scripts/hello_mailbox.report &&
-        bounded "$prefix/bin/cml" replay < $stalled.cml | bounded "$prefix/bin/cml_chart" --script $stalled.cml | cmp - $stalled.svg
+# Without a folder, or with another program, it installs nothing and says how it is called.
+refuses_other_words() {
+    ! sh bindings/try.sh 2> "$work/words" && grep -q 'PREFIX \[cml|cml_chart\]' "$work/words" &&
+        ! sh bindings/try.sh "$work/other" chart 2> "$work/words" && [ ! -e "$work/other" ]
 }
 
 check 'the archive of rooms is there' [ -s "$rooms" ]
@@ -428,6 +427,7 @@ if has cc 'all programs'; then
     if has python3 'the package for Python'; then from_python; fi
     if has rt 'the library without a proof' && has pkg-config 'the library without a proof'; then
         check 'the library without a proof' tried
+        check 'other words for the library without a proof' refuses_other_words
     fi
 fi
 
