@@ -21,7 +21,7 @@ kit=$(dirname "$(rt doc)")
 work=$(mktemp -d)
 trap 'rm -rf "$work"' EXIT
 . tests/lib/tried.sh
-echo "compiling the library and $programs without a proof"
+echo "compiling without a proof: the library $programs"
 for crate in $programs; do
     { build "$crate" "crates/$crate/src/main.rt" || true; } > "$work/$crate.told" &
 done

@@ -1,4 +1,4 @@
-/* A journal's file, part 10: pieces with sums. The helper sums behind callers what they have stored. A caller under the room's
+/* A journal's file, part 10: pieces with sums. The helper's thread sums what callers have stored. A caller under the room's
  * lock ends a piece by a line with its sum, and begins the next one. */
 #ifndef _GNU_SOURCE
 #define _GNU_SOURCE
@@ -96,7 +96,7 @@ static bool is_at_rest(const struct seryugo_file *file)
 }
 
 /* Sums a part without the lock. */
-static bool sum_behind(struct seryugo_file *file, uint64_t end)
+static bool sum_stored(struct seryugo_file *file, uint64_t end)
 {
     bool is_summed;
 
@@ -118,7 +118,7 @@ void seryugo_seal_look(struct seryugo_file *file, bool is_time)
         return;
     }
     seal->is_due = seal->is_due || is_time;
-    is_summed = told == seal->summed || sum_behind(file, told);
+    is_summed = told == seal->summed || sum_stored(file, told);
     if (atomic_load(&file->told) - seal->summed <= CALLER_MOST) {
         atomic_store(&file->is_seal_wanted, seal->is_due);
     } else {

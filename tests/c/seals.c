@@ -1,5 +1,5 @@
-/* A journal's file whose text has sums: seals FOLDER. Callers seal what was summed behind them; a changed byte is found; and a text
- * that ends anywhere within a seal is gone on with. */
+/* A journal's file whose text has sums: seals FOLDER. A caller seals what the helper has summed. Opening fails if a byte has changed. It
+ * goes on with a text that ends anywhere within a seal. */
 #include "filed.h"
 
 /* The text of the file, up to its first byte 0. */
@@ -88,25 +88,25 @@ static uint64_t make_mailbox(uint64_t seat)
 /* ---- seals ---- */
 
 /* With time, or with many entries alone, a piece is sealed while the file is open. */
-static void seal_behind(uint32_t flags, uint64_t milliseconds)
+static void seal_in_use(uint32_t flags, uint64_t milliseconds)
 {
     uint64_t seat, made;
 
-    open_sealed("behind", SERYUGO_NUMBERS, flags, milliseconds);
+    open_sealed("in_use", SERYUGO_NUMBERS, flags, milliseconds);
     seat = new_seat();
     made = make_mailbox(seat);
     /* The helper may need long to sum so many entries. */
     made += milliseconds == 0 ? pass(seat, 40000) : 0;
-    while (count_lines("behind", "end ") == 0) {
-        HAS(get("behind") < sizeof content);
+    while (count_lines("in_use", "end ") == 0) {
+        HAS(get("in_use") < sizeof content);
         made += pass(seat, 1);
         usleep(2000);
     }
     HAS(milliseconds != 0 || made > 65536);
-    IS(count_lines("behind", "end ") + 1, count_lines("behind", "journal 3"));
-    close_whole("behind", made, __LINE__);
-    IS(count_lines("behind", "end "), count_lines("behind", "journal 3"));
-    unlink("behind");
+    IS(count_lines("in_use", "end ") + 1, count_lines("in_use", "journal 3"));
+    close_whole("in_use", made, __LINE__);
+    IS(count_lines("in_use", "end "), count_lines("in_use", "journal 3"));
+    unlink("in_use");
 }
 
 /* It is opened, used and closed again and again. Each text is a whole journal. */
@@ -253,9 +253,9 @@ int main(int many, char **words)
     if (many != 2 || chdir(words[1]) != 0) {
         return 64;
     }
-    seal_behind(0, 1);
-    seal_behind(SERYUGO_FILE_BY_WRITES, 1);
-    seal_behind(0, 0);
+    seal_in_use(0, 1);
+    seal_in_use(SERYUGO_FILE_BY_WRITES, 1);
+    seal_in_use(0, 0);
     seal_each_time();
     end_anywhere();
     find_damage();

@@ -183,8 +183,8 @@ from_rust() {
         done
     fi
     check 'letters in Rust, kept in a file' letters_from_rust
-    check 'messages are timed in Rust' cargo_does run --release --example speed -- 400 '' 1
-    check 'journals are timed in Rust' cargo_does run --release --example journals -- 40001
+    check 'messages are timed in Rust' cargo_does run --example speed -- 400 '' 1
+    check 'journals are timed in Rust' cargo_does run --example journals -- 40001
 }
 
 check 'the archive of rooms is there' [ -s "$rooms" ]
