@@ -1,8 +1,8 @@
 #!/bin/sh
 # Installs the library for C and all that calls C: `sh bindings/install.sh PREFIX`. It writes the headers into PREFIX/include, and into
 # PREFIX/lib the static library, the shared library, and pkgconfig/seryugo.pc. A program is then built by
-# `cc program.c $(pkg-config --cflags --libs seryugo)`, with PREFIX/lib/pkgconfig in PKG_CONFIG_PATH. The part of the library that keeps a
-# journal in a file is in C (lib/): this script compiles it.
+# `cc program.c $(pkg-config --cflags --libs seryugo)`, with PREFIX/lib/pkgconfig in PKG_CONFIG_PATH. The part of the library that names calls
+# and keeps a journal in a file is in C (lib/): this script compiles it.
 #
 # It needs the archive that `(cd crates/cml_c && rt lib)` proves and writes. SERYUGO_ARCHIVE names another. If the archive of
 # `crates/cml_script_c` is there, or SERYUGO_SCRIPT_ARCHIVE names it, the library seryugo_script is installed too. SERYUGO_KIT

@@ -364,6 +364,49 @@ static inline uint32_t seryugo_bytes_put(struct seryugo *room, uint64_t seat, ui
 static inline uint32_t seryugo_bytes_swap(struct seryugo *room, uint64_t seat, uint64_t variable, const void *at, size_t length,
                                           bool is_again, struct seryugo_bytes *held);
 
+/* ---- a call as data ---- */
+
+enum seryugo_call_kind {
+    SERYUGO_CALL_NEW_MAILBOX = 0,
+    SERYUGO_CALL_NEW_CHANNEL = 1,
+    SERYUGO_CALL_NEW_PORT = 2,
+    SERYUGO_CALL_COPY_PORT = 3,
+    SERYUGO_CALL_CLOSE_PORT = 4,
+    SERYUGO_CALL_NEW_IVAR = 5,
+    SERYUGO_CALL_NEW_MVAR = 6,
+    SERYUGO_CALL_MVAR_INIT = 7,
+    SERYUGO_CALL_SEND = 8,
+    SERYUGO_CALL_MULTICAST = 9,
+    SERYUGO_CALL_RECV = 10,
+    SERYUGO_CALL_RECV_POLL = 11,
+    SERYUGO_CALL_PUT = 12,
+    SERYUGO_CALL_GET = 13,
+    SERYUGO_CALL_GET_POLL = 14,
+    SERYUGO_CALL_TAKE = 15,
+    SERYUGO_CALL_TAKE_POLL = 16,
+    SERYUGO_CALL_SWAP = 17
+};
+
+/* Any of the calls above, for a program that has calls as data. `kind` is one of enum seryugo_call_kind. `takes_numbers` and
+ * `takes_bytes` say in which rooms it may be made. It sends `number` in a room of numbers, and in one of bytes the `length` bytes
+ * from `at` on. What its kind doesn't have isn't read. */
+struct seryugo_asked {
+    uint32_t kind;
+    bool is_again;
+    bool takes_numbers;
+    bool takes_bytes;
+    uint64_t seat;
+    uint64_t object;
+    uint64_t number;
+    const void *at;
+    size_t length;
+};
+
+/* Makes such a call, as the function of its name does. Writes the name or the number that it gives to *given, or hands over a message
+ * of bytes. SERYUGO_WRONG_HANDLE: the call isn't for such a room. SERYUGO_OUT_OF_BOUNDS: there is no call of this kind, or the
+ * pointer is null and the length isn't 0. */
+static inline uint32_t seryugo_call(struct seryugo *room, struct seryugo_asked asked, uint64_t *given, struct seryugo_bytes *message);
+
 /*
  * ---- who is woken ----
  *
@@ -486,27 +529,6 @@ static inline uint32_t seryugo_cut_open(struct seryugo *room)
 }
 
 enum seryugo_maker_kind { SERYUGO_SEAT = 0, SERYUGO_LANE = 1, SERYUGO_FEED = 2 };
-
-enum seryugo_call_kind {
-    SERYUGO_CALL_NEW_MAILBOX = 0,
-    SERYUGO_CALL_NEW_CHANNEL = 1,
-    SERYUGO_CALL_NEW_PORT = 2,
-    SERYUGO_CALL_COPY_PORT = 3,
-    SERYUGO_CALL_CLOSE_PORT = 4,
-    SERYUGO_CALL_NEW_IVAR = 5,
-    SERYUGO_CALL_NEW_MVAR = 6,
-    SERYUGO_CALL_MVAR_INIT = 7,
-    SERYUGO_CALL_SEND = 8,
-    SERYUGO_CALL_MULTICAST = 9,
-    SERYUGO_CALL_RECV = 10,
-    SERYUGO_CALL_RECV_POLL = 11,
-    SERYUGO_CALL_PUT = 12,
-    SERYUGO_CALL_GET = 13,
-    SERYUGO_CALL_GET_POLL = 14,
-    SERYUGO_CALL_TAKE = 15,
-    SERYUGO_CALL_TAKE_POLL = 16,
-    SERYUGO_CALL_SWAP = 17
-};
 
 enum seryugo_reply_kind {
     SERYUGO_REPLY_DONE = 0,
@@ -1105,6 +1127,7 @@ static inline bool seryugo_makes_room(struct seryugo_keeper *keeper, struct sery
  * Don't call these from C. Those whose names end in _from don't test the pointer: unless the length is 0, it has to be good.
  */
 
+uint32_t seryugo_call_from(struct seryugo *room, const struct seryugo_asked *asked, uint64_t *given, struct seryugo_bytes *message);
 void seryugo_bytes_release(struct seryugo_share owner);
 uint32_t seryugo_bytes_send_from(struct seryugo *room, uint64_t seat, uint64_t mailbox, const void *at, size_t length);
 uint32_t seryugo_bytes_multicast_from(struct seryugo *room, uint64_t seat, uint64_t channel, const void *at, size_t length);
@@ -1122,6 +1145,17 @@ uint32_t seryugo_reading_take_from(struct seryugo *reading, const void *at, size
 static inline bool seryugo_is_astray(const void *at, size_t length)
 {
     return at == NULL && length != 0;
+}
+
+static inline uint32_t seryugo_call(struct seryugo *room, struct seryugo_asked asked, uint64_t *given, struct seryugo_bytes *message)
+{
+    if (seryugo_is_astray(asked.at, asked.length)) {
+        return SERYUGO_OUT_OF_BOUNDS;
+    }
+    if (asked.at == NULL) {
+        asked.at = "";
+    }
+    return seryugo_call_from(room, &asked, given, message);
 }
 
 static inline void seryugo_bytes_free(struct seryugo_bytes message)

@@ -43,6 +43,43 @@ static void open_room_with_lane(struct seryugo *made, bool *has_made, struct ser
     IS(0, number);
 }
 
+/* A call as data, which is made as by the function of its name. */
+static uint32_t ask(uint32_t kind, bool is_again, uint64_t object, uint64_t number, uint64_t *given)
+{
+    struct seryugo_asked asked = { kind, is_again, true, false, 0, object, number, NULL, 0 };
+    struct seryugo_bytes message;
+
+    return seryugo_call(&room, asked, given, &message);
+}
+
+static void try_calls_as_data(void)
+{
+    struct seryugo_asked astray = { SERYUGO_CALL_SEND, false, true, true, 0, 0, 0, NULL, 1 };
+    struct seryugo_bytes message;
+    uint64_t mailbox = 77, seat = 77, given = 77;
+
+    RETURNS(DONE, seryugo_room_open(100, &room));
+    has_room = true;
+    RETURNS(DONE, seryugo_new_seat(&room, &seat));
+    RETURNS(DONE, seryugo_new_seat(&room, &seat));
+    RETURNS(DONE, ask(SERYUGO_CALL_NEW_MAILBOX, false, 0, 0, &mailbox));
+    IS(0, mailbox);
+    RETURNS(NOTHING, ask(SERYUGO_CALL_RECV_POLL, false, mailbox, 0, &given));
+    RETURNS(PARKED, ask(SERYUGO_CALL_RECV, false, mailbox, 0, &given));
+    RETURNS(GONE, ask(SERYUGO_CALL_SEND, false, mailbox, 5, &given));
+    RETURNS(DONE, seryugo_send(&room, 1, mailbox, 5));
+    IS(77, given);
+    RETURNS(DONE, ask(SERYUGO_CALL_RECV, true, mailbox, 0, &given));
+    IS(5, given);
+    RETURNS(OUT_OF_BOUNDS, ask(SERYUGO_CALL_SWAP + 1, false, mailbox, 0, &given));
+    RETURNS(OUT_OF_BOUNDS, seryugo_call(&room, astray, &given, &message));
+    astray.length = 0;
+    astray.takes_numbers = false;
+    RETURNS(WRONG_HANDLE, seryugo_call(&room, astray, &given, &message));
+    IS(5, given);
+    close_one(&has_room, room);
+}
+
 /* The end of another room's lane of the same number, with another count of messages, closes nothing. The lane's end closes it. */
 static void try_an_end_of_another_room(void)
 {
@@ -418,6 +455,7 @@ int main(void)
     uint64_t one, two;
 
     try_the_version();
+    try_calls_as_data();
     try_an_end_of_another_room();
     try_rooms(&one, &two);
     try_mailboxes(one, two);

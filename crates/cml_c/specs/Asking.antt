@@ -3,7 +3,6 @@ use Rattle.std.specs.Prelude.{ℕ, ◌≡◌, Bool, true, false, Option, Some}
 use Rattle.cml_log.specs.{chunk_of}
 use Rattle.cml_board.specs.{Call, Reply, want_in, Want}
 use Rattle.cml_board.specs.declared.outcome.Outcome.{Outcome}
-use Rattle.cml_board.specs.declared.call.Call.TheVariants as call
 use Rattle.cml_board.specs.declared.entry.Reply.TheVariants as reply
 use Rattle.cml_room.specs.{RoomShown, MayAsk, state_of, Asks, Turns, news_by, asked_by}
 use Rattle.cml_room.specs.declared.state.State.TheVariants.{Parked}
@@ -12,10 +11,7 @@ use Rattle.cml_c.specs.declared.code.Code.{Code}
 use Rattle.cml_c.specs.declared.code.Code.TheVariants.{Done, Nothing, Put, Closed, Parked}
 use Rattle.cml_c.specs.declared.owned.Owned.{Owned}
 use Rattle.cml_c.specs.Codes.{number, of_refusal}
-use Rattle.cml_c.specs.declared.sending.Sending.{Sending}
-use Rattle.cml_c.specs.declared.sending.Sending.TheVariants as sending
-use Rattle.cml_c.specs.declared.owned.Resource.{Resource}
-use Rattle.cml_c.specs.Handles.{OnAnyMessages, OnNumbers, OnRoom}
+use Rattle.cml_c.specs.Handles.{OnNumbers, OnRoom}
 
 -- how many messages a room's chunks hold
 abbrev pub chunk : ℕ
@@ -74,31 +70,11 @@ pub record Makes {M : Type 0} (sure again : Bool) (seat : ℕ) (call : Call M) (
   pub told : code ≡ number (told_outcome becomes)
   pub gives : Gives becomes
 
--- a call that sends this message
-abbrev pub sending_call : {M : Type 0} → Sending → M → Call M
-sending_call (sending.Send mailbox) message = call.Send mailbox message
-sending_call (sending.Cast channel) message = call.Cast channel message
-sending_call sending.MVarInit message = call.MVarInit message
-sending_call (sending.Put variable) message = call.Put variable message
-
--- the same in a room that a handle leads to, where the name that is given is written
-abbrev pub Gives : {M : Type 0} → Bool → ℕ → Call M → ℕ → ℕ → Type 0 → ℕ → Resource M → Resource M → Type 0
-Gives sure seat call before after same code old new =
-    OnRoom (Makes sure false seat call code (λ becomes. after ≡ named_outcome before becomes)) same code old new
-
--- this call in whichever room a handle leads to, with the content before and after of the place where a name is written
-abbrev pub Names : ℕ → ((M : Type 0) → Call M) → Owned → Owned → ℕ → ℕ → ℕ → Type 0
-Names seat call old new code before after = OnAnyMessages (λ M sure. Gives sure seat (call M) before after) (after ≡ before) code old new
-
--- the same where nothing is written
-abbrev pub NamesNothing : ℕ → ((M : Type 0) → Call M) → Owned → Owned → ℕ → Type 0
-NamesNothing seat call old new code = (after : ℕ) × Names seat call old new code 0 after
-
 -- a call in a room of numbers, with the content before and after of the place where a number is written
 abbrev pub Calls : Bool → ℕ → Call ℕ → Owned → Owned → ℕ → ℕ → ℕ → Type 0
 Calls again seat call old new code before after =
     OnNumbers (OnRoom (Makes true again seat call code (λ becomes. after ≡ written_outcome before becomes))) (after ≡ before) code old new
 
--- the same of a call that gives no number
-abbrev pub CallsPlain : Bool → ℕ → Call ℕ → Owned → Owned → ℕ → Type 0
-CallsPlain again seat call old new code = (after : ℕ) × Calls again seat call old new code 0 after
+-- the same of a call that a free seat makes, and that gives no number
+abbrev pub CallsPlain : ℕ → Call ℕ → Owned → Owned → ℕ → Type 0
+CallsPlain seat call old new code = (after : ℕ) × Calls false seat call old new code 0 after

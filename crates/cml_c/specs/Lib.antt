@@ -10,6 +10,7 @@ pub mod MessageKinds
 pub mod Opening
 pub mod Seats
 pub mod Due
+pub mod Door
 pub mod Floors
 pub mod Reserved
 pub mod Lanes
@@ -33,15 +34,14 @@ pub use Owning.{owned_coded, slot_coded}
 pub use Lending.{with_owned}
 pub use Codes.{number, of_refusal, written_count}
 pub use Handles.{OnBoth, OnBytes, OnChecker, OnAnyMessages, OnAnyOwned, OnFeed, OnJournal, OnNumbers, OnReading, OnRoom}
-pub use Asking.{Calls, CallsPlain, Makes, MayMake, MayWant, Names, NamesNothing, chunk, named_outcome, sending_call, told_reply}
-pub use Asking.{written_outcome}
+pub use Asking.{Calls, CallsPlain, Makes, MayMake, MayWant, chunk, named_outcome, told_reply, written_outcome}
 pub use Needing.{HoldsLong, IsGiven, IsOwed, IsShortReply, IsShortResponse, IsThere, MayBeLong, NeedsBlock, WouldGive}
-pub use Messages.{CallsBytes, FillsBytes, HandsHeld, HandsOutcome, HandsShare, IsHanded, MakesBytes, MakesCopied, NotCopied, SwapsBytes}
-pub use Messages.{SwapsCopied}
+pub use Messages.{CallsBytes, GivesBytes, HandsHeld, HandsOutcome, HandsShare, IsHanded, LacksMemory, MakesBytes, NotCopied, SendsBytes}
 pub use MessageKinds.{message_kinds}
 pub use Opening.{IsLimit, IsNew, OpensAChecker, OpensARoom, OpensCheckerOf, OpensRoomOf, Writes}
 pub use Seats.{Leaves, MakesSeat, Withdraws}
 pub use Due.{GivesNext, TellsDue}
+pub use Door.{MakesAsked, MakesBytesAsked, MakesNumberAsked, SendsFor, call_asked, no_call}
 pub use Floors.{Counts, Does}
 pub use Reserved.{CutsReserved, ReservesSome}
 pub use Lanes.{Closes, ClosesEnd, ClosesLane, DropsLane, Finishes, OpensLane, Sends, SendsCopied, told_dropped, told_sent, written_dropped}

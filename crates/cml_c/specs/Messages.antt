@@ -1,7 +1,7 @@
 -- What a call in a room of bytes returns to C, and the messages that it hands over.
-use Rattle.std.specs.Prelude.{ℕ, ◌≡◌, ◌<◌, ◌^◌, ◌⊎◌, Bool, false, List, length, take, Option, Some, None}
+use Rattle.std.specs.Prelude.{ℕ, ◌≡◌, ◌<◌, ◌^◌, ◌⊎◌, Bool, true, false, List, [], length, take, Option, Some, None, ⊤}
 use Rattle.cml_calls.specs.{IsTooLong}
-use Rattle.cml_board.specs.{Call, Reply}
+use Rattle.cml_board.specs.{Call, Reply, has_message}
 use Rattle.cml_board.specs.declared.outcome.Outcome.{Outcome}
 use Rattle.cml_board.specs.declared.entry.Reply.TheVariants as reply
 use Rattle.cml_room.specs.{RoomShown}
@@ -47,55 +47,32 @@ HandsHeld (Some (Some held)) code from to = HandsShare held code from to
 HandsHeld (Some None) code from to = (code ≡ number Nothing) × (to ≡ from)
 HandsHeld None code from to = (code ≡ number NoSuch) × (to ≡ from)
 
--- the call needs a block, and there is no memory for it: nothing is changed
-pub record HasNoMemory (again : Bool) (seat : ℕ) (call : Call (List ℕ)) (from to : SeryugoBytes) (code : ℕ)
-    (old new : RoomShown (List ℕ)) : Type 0 where
-  pub told : code ≡ number NoMemory
-  pub needs : NeedsBlock again seat call old
-  pub written : to ≡ from
-  pub room : new ≡ old
-
--- the call is made, or has no memory
-pub record MakesBytes (again : Bool) (seat : ℕ) (call : Call (List ℕ)) (code : ℕ) (from to : SeryugoBytes)
-    (old new : RoomShown (List ℕ)) : Type 0 where
-  pub becomes : Makes false again seat call code (HandsOutcome from to) old new ⊎ HasNoMemory again seat call from to code old new
-
--- a call in a room of bytes, with the content before and after of the place where a message is handed over
-abbrev pub CallsBytes : Bool → ℕ → Call (List ℕ) → Owned → Owned → ℕ → SeryugoBytes → SeryugoBytes → Type 0
-CallsBytes again seat call old new code from to = OnBytes (OnRoom (MakesBytes again seat call code from to)) (to ≡ from) code old new
-
 -- the bytes were not copied: they are too many, or there is no memory for them
 abbrev pub NotCopied : List ℕ → ℕ → Type 0
 NotCopied bytes code = ((code ≡ number NoMemory) × (length bytes < 2 ^ 32)) ⊎ ((code ≡ number OutOfBounds) × IsTooLong bytes)
 
--- they were not copied for a call that the seat may make: nothing is changed
-pub record CopiesNone {M : Type 0} (again : Bool) (seat : ℕ) (bytes : List ℕ) (call : Call M) (same : Type 0) (code : ℕ)
-    (old new : RoomShown M) : Type 0 where
-  pub may : MayMake again old seat call
-  pub refused : NotCopied bytes code
-  pub unwritten : same
-  pub room : new ≡ old
+-- why a call that the seat may make isn't made: it needs a block, and there is no memory for it; or what it sends isn't copied
+abbrev pub LacksMemory : Bool → ℕ → List ℕ → Call (List ℕ) → ℕ → RoomShown (List ℕ) → Type 0
+LacksMemory again seat sent call code room =
+    ((code ≡ number NoMemory) × NeedsBlock again seat call room)
+    ⊎ ((has_message call ≡ true) × MayMake again room seat call × NotCopied sent code)
 
--- the bytes are copied, and the call is made with them, and a name that it gives is written; or they are not copied
-abbrev pub MakesCopied : ℕ → List ℕ → Call (List ℕ) → ℕ → ℕ → ℕ → RoomShown (List ℕ) → RoomShown (List ℕ) → Type 0
-MakesCopied seat bytes call code before after old new =
-    Makes false false seat call code (λ becomes. after ≡ named_outcome before becomes) old new
-    ⊎ CopiesNone false seat bytes call (after ≡ before) code old new
+-- a call with a copy of these bytes is made, and this is given; or it isn't, and then nothing is changed
+pub record MakesBytes (again : Bool) (seat : ℕ) (sent : List ℕ) (call : Call (List ℕ)) (code : ℕ) (Gives : Outcome (List ℕ) → Type 0)
+    (same : Type 0) (old new : RoomShown (List ℕ)) : Type 0 where
+  pub becomes : Makes false again seat call code Gives old new ⊎ (LacksMemory again seat sent call code old × same × (new ≡ old))
 
--- the same in the room that a handle leads to
-abbrev pub FillsBytes : ℕ → List ℕ → Call (List ℕ) → Owned → Owned → ℕ → ℕ → ℕ → Type 0
-FillsBytes seat bytes call old new code before after =
-    OnBytes (OnRoom (MakesCopied seat bytes call code before after)) (after ≡ before) code old new
+-- the name that the call gives is written, and the message is handed over
+pub record GivesBytes (before after : ℕ) (from to : SeryugoBytes) (becomes : Outcome (List ℕ)) : Type 0 where
+  pub name : after ≡ named_outcome before becomes
+  pub message : HandsOutcome from to becomes
 
--- the same of a call that gives none, and of one that gives a message
+-- a call that sends nothing and gives no name, in a room of bytes, with the content before and after of the place where a message is
+-- handed over
+abbrev pub CallsBytes : Bool → ℕ → Call (List ℕ) → Owned → Owned → ℕ → SeryugoBytes → SeryugoBytes → Type 0
+CallsBytes again seat call old new code from to = (after : ℕ) × OnBytes
+    (OnRoom (MakesBytes again seat [] call code (GivesBytes 0 after from to) ((after ≡ 0) × (to ≡ from)))) (to ≡ from) code old new
+
+-- a call that a free seat makes, that sends a copy of these bytes and gives nothing
 abbrev pub SendsBytes : ℕ → List ℕ → Call (List ℕ) → Owned → Owned → ℕ → Type 0
-SendsBytes seat bytes call old new code = (after : ℕ) × FillsBytes seat bytes call old new code 0 after
-
-abbrev pub SwapsCopied : Bool → ℕ → List ℕ → Call (List ℕ) → ℕ → SeryugoBytes → SeryugoBytes
-    → RoomShown (List ℕ) → RoomShown (List ℕ) → Type 0
-SwapsCopied again seat bytes call code from to old new =
-    MakesBytes again seat call code from to old new ⊎ CopiesNone again seat bytes call (to ≡ from) code old new
-
-abbrev pub SwapsBytes : Bool → ℕ → List ℕ → Call (List ℕ) → Owned → Owned → ℕ → SeryugoBytes → SeryugoBytes → Type 0
-SwapsBytes again seat bytes call old new code from to =
-    OnBytes (OnRoom (SwapsCopied again seat bytes call code from to)) (to ≡ from) code old new
+SendsBytes seat sent call old new code = OnBytes (OnRoom (MakesBytes false seat sent call code (λ becomes. ⊤) ⊤)) ⊤ code old new

@@ -1,8 +1,8 @@
 //! A seat's call, and the code of what becomes of it.
-ghost use Rattle.std.specs.Prelude.{ℕ, ◌≡◌, false};
+ghost use Rattle.std.specs.Prelude.{ℕ, ◌≡◌};
 ghost use Rattle.cml_board.specs.{Call, entries_in, outcome_of};
 ghost use Rattle.cml_room.specs.{Asks, Turns, news_by, asked_by};
-ghost use Rattle.cml_c.specs.{number, Calls, CallsPlain, MayMake, chunk, named_outcome, written_outcome, told_reply};
+ghost use Rattle.cml_c.specs.{number, Calls, MayMake, chunk, written_outcome, told_reply};
 ghost use Rattle.cml_c.specs.Asking.{told_outcome};
 
 use crate::code::Code;
@@ -27,18 +27,6 @@ pub(crate) fn ask<M: Message>(
         return room.call_again(seat, call);
     }
     room.call(seat, call)
-}
-
-/// The code of what became of a call. A name that it gave is written.
-#[inline(always)]
-pub(crate) fn tell_name<M: Message>(response: Response<M>, name: &mut u64) -> u32
-    ensures code { (entries : ℕ) (call : Call M) → result ≡ number (told_outcome (outcome_of entries call response)) }
-    ensures written { (entries : ℕ) (call : Call M) → name.new ≡ named_outcome name.old (outcome_of entries call response) }
-{
-    if let Response::Reply(Reply::Made(made)) = &response {
-        *name = made.0;
-    }
-    code_of_response(&response).number()
 }
 
 /// The code of what became of a call.
@@ -80,18 +68,9 @@ pub(crate) fn make_call(
     with_kind!(handle, Numbers(Room(room)) => tell(ask(&mut room.room, seat, is_again, call), given))
 }
 
-/// Makes a call that gives none.
-#[inline(always)]
-pub(crate) fn make_plain_call(handle: &mut Handle, seat: u64, call: Call<u64>) -> u32
-    ensures { CallsPlain false seat call handle.old.owned handle.new.owned result }
-{
-    let mut given = 0;
-    make_call(handle, seat, false, call, &mut given)
-}
-
 /// The code of what became of a call. A number that it gave is written.
 #[inline(always)]
-fn tell(response: Response<u64>, given: &mut u64) -> u32
+pub(crate) fn tell(response: Response<u64>, given: &mut u64) -> u32
     ensures code { (entries : ℕ) (call : Call ℕ) → result ≡ number (told_outcome (outcome_of entries call response)) }
     ensures written { (entries : ℕ) (call : Call ℕ) → given.new ≡ written_outcome given.old (outcome_of entries call response) }
 {

@@ -2,41 +2,18 @@
 ghost use Rattle.std.specs.Prelude.{ℕ, ◌≡◌, List, IsSome, OnOk};
 ghost use Rattle.cml_c.specs.Asking.{told_outcome};
 ghost use Rattle.cml_board.specs.{Call, outcome_of};
-ghost use Rattle.cml_c.specs.{number, IsShortResponse, CallsBytes, MakesBytes, HandsOutcome};
+ghost use Rattle.cml_c.specs.{number, named_outcome, IsShortResponse, GivesBytes, MakesBytes, HandsOutcome};
 
 use crate::asking::{ask, code_of_reply, code_of_response};
 use crate::blocks::needs_block;
 use crate::code::Code;
-use crate::handle::Handle;
 use crate::keeper::Held;
 use crate::messages::{SeryugoBytes, hand_over, new_block, show_short};
-use crate::owned::{Owned, Resource, RoomOf, RoomWithSpare};
+use crate::owned::{RoomOf, RoomWithSpare};
 use cml_board::{Bytes, Call, Reply, Response};
 use std::alloc::{AllocError, Global};
 
-/// Makes a call, and hands over the message that it gives.
-#[inline(always)]
-pub(crate) fn make_call(
-    alloc: Global,
-    handle: &mut Handle,
-    seat: u64,
-    is_again: bool,
-    call: Call<Bytes>,
-    given: &mut SeryugoBytes,
-) -> u32
-    ensures { CallsBytes is_again seat call handle.old.owned handle.new.owned result given.old given.new }
-{
-    match handle.as_mut() {
-        Owned::Bytes(Resource::Room(room)) => make_in_room(
-            alloc, room, seat, is_again, call, given,
-        ),
-        _ => {
-            drop(call);
-            Code::WrongHandle.number()
-        }
-    }
-}
-
+/// Makes a call, and writes the name or hands over the message that it gives.
 #[inline(always)]
 pub(crate) fn make_in_room(
     alloc: Global,
@@ -44,15 +21,18 @@ pub(crate) fn make_in_room(
     seat: u64,
     is_again: bool,
     call: Call<Bytes>,
+    name: &mut u64,
     given: &mut SeryugoBytes,
 ) -> u32
-    ensures { MakesBytes is_again seat call result given.old given.new room.old.room room.new.room }
+    ensures { (sent : List ℕ) → MakesBytes is_again seat sent call result (GivesBytes name.old name.new given.old given.new)
+        ((name.new ≡ name.old) × (given.new ≡ given.old)) room.old.room room.new.room }
 {
     // The memory that keeps a long message is there first, so that none is received without it.
     if stock(alloc, &mut room.spare).is_err() {
-        return make_without_block(&mut room.room, seat, is_again, call, given);
+        return make_without_block(&mut room.room, seat, is_again, call, name, given);
     }
     let response = ask(&mut room.room, seat, is_again, call);
+    write_name(&response, name);
     tell(&mut room.spare, response, given)
 }
 
@@ -63,15 +43,29 @@ fn make_without_block(
     seat: u64,
     is_again: bool,
     call: Call<Bytes>,
+    name: &mut u64,
     given: &mut SeryugoBytes,
 ) -> u32
-    ensures { MakesBytes is_again seat call result given.old given.new room.old room.new }
+    ensures { (sent : List ℕ) → MakesBytes is_again seat sent call result (GivesBytes name.old name.new given.old given.new)
+        ((name.new ≡ name.old) × (given.new ≡ given.old)) room.old room.new }
 {
     if needs_block(room, seat, is_again, &call) {
         drop(call);
         return Code::NoMemory.number();
     }
-    tell_short(ask(room, seat, is_again, call), given).number()
+    let response = ask(room, seat, is_again, call);
+    write_name(&response, name);
+    tell_short(response, given).number()
+}
+
+/// Writes the name that a call gave.
+#[inline(always)]
+fn write_name(response: &Response<Bytes>, name: &mut u64)
+    ensures { (entries : ℕ) (call : Call (List ℕ)) → name.new ≡ named_outcome name.old (outcome_of entries call response.now) }
+{
+    if let Response::Reply(Reply::Made(made)) = response {
+        *name = made.0;
+    }
 }
 
 /// Sees that there is a spare block.

@@ -144,7 +144,7 @@ fn who_of(maker: &SeryugoMaker) -> Option<Who>
     }
 }
 
-fn call_of<M: Message>(number: u32, object: Name, message: M) -> Option<Call<M>>
+pub(crate) fn call_of<M: Message>(number: u32, object: Name, message: M) -> Option<Call<M>>
     ensures { result ≡ call_at number object message }
 {
     if let Some(make) = Make::of_number(number) {
