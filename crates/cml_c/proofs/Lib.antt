@@ -6,6 +6,7 @@ mod RoomShorteningLemmas
 mod TakingLemmas
 mod NeedingLemmas
 mod RefusingLemmas
+mod DoorLemmas
 mod GoingRoundLemmas
 mod PuttingLemmas
 mod AddingLemmas

@@ -36,12 +36,13 @@ pub use Codes.{number, of_refusal, written_count}
 pub use Handles.{OnBoth, OnBytes, OnChecker, OnAnyMessages, OnAnyOwned, OnFeed, OnJournal, OnNumbers, OnReading, OnRoom}
 pub use Asking.{Calls, CallsPlain, Makes, MayMake, MayWant, chunk, named_outcome, told_reply, written_outcome}
 pub use Needing.{HoldsLong, IsGiven, IsOwed, IsShortReply, IsShortResponse, IsThere, MayBeLong, NeedsBlock, WouldGive}
-pub use Messages.{CallsBytes, GivesBytes, HandsHeld, HandsOutcome, HandsShare, IsHanded, LacksMemory, MakesBytes, NotCopied, SendsBytes}
+pub use Messages.{CallsBytes, CallsNameless, GivesBytes, HandsHeld, HandsOutcome, HandsShare, IsHanded, LacksMemory, MakesBytes, NotCopied}
+pub use Messages.{SendsBytes}
 pub use MessageKinds.{message_kinds}
 pub use Opening.{IsLimit, IsNew, OpensAChecker, OpensARoom, OpensCheckerOf, OpensRoomOf, Writes}
 pub use Seats.{Leaves, MakesSeat, Withdraws}
 pub use Due.{GivesNext, TellsDue}
-pub use Door.{MakesAsked, MakesBytesAsked, MakesNumberAsked, SendsFor, call_asked, no_call}
+pub use Door.{MakesAsked, MakesBytesAsked, MakesNumberAsked, OrNone, SendsFor, call_asked, no_call}
 pub use Floors.{Counts, Does}
 pub use Reserved.{CutsReserved, ReservesSome}
 pub use Lanes.{Closes, ClosesEnd, ClosesLane, DropsLane, Finishes, OpensLane, Sends, SendsCopied, told_dropped, told_sent, written_dropped}

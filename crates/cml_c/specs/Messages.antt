@@ -67,11 +67,15 @@ pub record GivesBytes (before after : ℕ) (from to : SeryugoBytes) (becomes : O
   pub name : after ≡ named_outcome before becomes
   pub message : HandsOutcome from to becomes
 
--- a call that sends nothing and gives no name, in a room of bytes, with the content before and after of the place where a message is
--- handed over
-abbrev pub CallsBytes : Bool → ℕ → Call (List ℕ) → Owned → Owned → ℕ → SeryugoBytes → SeryugoBytes → Type 0
-CallsBytes again seat call old new code from to = (after : ℕ) × OnBytes
-    (OnRoom (MakesBytes again seat [] call code (GivesBytes 0 after from to) ((after ≡ 0) × (to ≡ from)))) (to ≡ from) code old new
+-- a call that sends nothing, in a room of bytes, with the content before and after of the places where a name and a message are written
+abbrev pub CallsBytes : Bool → ℕ → Call (List ℕ) → Owned → Owned → ℕ → ℕ → ℕ → SeryugoBytes → SeryugoBytes → Type 0
+CallsBytes again seat call old new code before after from to = OnBytes
+    (OnRoom (MakesBytes again seat [] call code (GivesBytes before after from to) ((after ≡ before) × (to ≡ from))))
+    ((after ≡ before) × (to ≡ from)) code old new
+
+-- the same of a call that gives no name
+abbrev pub CallsNameless : Bool → ℕ → Call (List ℕ) → Owned → Owned → ℕ → SeryugoBytes → SeryugoBytes → Type 0
+CallsNameless again seat call old new code from to = (after : ℕ) × CallsBytes again seat call old new code 0 after from to
 
 -- a call that a free seat makes, that sends a copy of these bytes and gives nothing
 abbrev pub SendsBytes : ℕ → List ℕ → Call (List ℕ) → Owned → Owned → ℕ → Type 0

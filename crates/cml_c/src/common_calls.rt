@@ -1,7 +1,7 @@
 //! Sends and receives. Most calls are these, and here they take fewer instructions than by the door.
-ghost use Rattle.std.specs.Prelude.{ℕ, ◌≡◌, List, ⊤};
+ghost use Rattle.std.specs.Prelude.{◌≡◌, [], false, ⊤};
 ghost use Rattle.cml_board.specs.declared.call.Call.TheVariants.{Send, Recv};
-ghost use Rattle.cml_c.specs.{Calls, CallsPlain, CallsBytes, MakesBytes, SendsBytes};
+ghost use Rattle.cml_c.specs.{Calls, CallsPlain, CallsBytes, CallsNameless, GivesBytes, MakesBytes, SendsBytes};
 
 use crate::asking::{ask, code_of_response, make_call};
 use crate::blocks::may_make;
@@ -9,7 +9,7 @@ use crate::bytes_asking::make_in_room;
 use crate::code::Code;
 use crate::handle::Handle;
 use crate::messages::{SeryugoBytes, copied};
-use crate::owned::{RoomOf, with_kind};
+use crate::owned::{RoomOf, RoomWithSpare, with_kind};
 use cml_board::{Bytes, Call, Name};
 use std::alloc::Global;
 
@@ -82,10 +82,55 @@ pub extern "C" fn seryugo_bytes_recv(
     is_again: bool,
     message: &mut SeryugoBytes,
 ) -> u32
-    ensures { CallsBytes is_again seat (Recv (record { 0 = source })) room.old.owned room.new.owned result message.old message.new }
+    ensures { CallsNameless is_again seat (Recv (record { 0 = source })) room.old.owned room.new.owned result message.old message.new }
 {
     let mut name = 0;
-    with_kind!(room, Bytes(Room(room)) => {
-        make_in_room(alloc, room, seat, is_again, Call::Recv(Name(source)), &mut name, message)
-    })
+    receive(
+        alloc,
+        room,
+        seat,
+        is_again,
+        Name(source),
+        &mut name,
+        message,
+    )
+}
+
+#[inline(always)]
+fn receive(
+    alloc: Global,
+    room: &mut Handle,
+    seat: u64,
+    is_again: bool,
+    source: Name,
+    name: &mut u64,
+    message: &mut SeryugoBytes,
+) -> u32
+    ensures { CallsBytes is_again seat (Recv source) room.old.owned room.new.owned result name.old name.new message.old message.new }
+{
+    with_kind!(room, Bytes(Room(room)) => receive_in(alloc, room, seat, is_again, source, name, message))
+}
+
+#[inline(always)]
+fn receive_in(
+    alloc: Global,
+    room: &mut RoomWithSpare<Bytes>,
+    seat: u64,
+    is_again: bool,
+    source: Name,
+    name: &mut u64,
+    message: &mut SeryugoBytes,
+) -> u32
+    ensures { MakesBytes is_again seat [] (Recv source) result (GivesBytes name.old name.new message.old message.new)
+        ((name.new ≡ name.old) × (message.new ≡ message.old)) room.old.room room.new.room }
+{
+    make_in_room(
+        alloc,
+        room,
+        seat,
+        is_again,
+        Call::Recv(source),
+        name,
+        message,
+    )
 }
