@@ -1,11 +1,11 @@
 //! A script under way, of which any thread may take its next step.
 ghost use Rattle.std.specs.Prelude.{◌≡◌, ◌↔◌, IfOk, IsTrue, string_bytes};
 ghost use Rattle.cml_board.specs.{no_entries};
-ghost use Rattle.cml_script.specs.{IsReportOf, no_rings};
+ghost use Rattle.cml_report.specs.{IsReportOf, no_rings};
 
 use cml_board::{Board, BoardLog, Call, Name, Refusal, Reply, Response, Text, Want, Who};
 use cml_grammar::{Action, Makes, Named, Script, Step};
-use cml_script::{Ending as Ended, Plan, Played, Stop, Tally, conclude};
+use cml_report::{Ending as Ended, Plan, Played, Stop, Tally, conclude};
 use std::alloc::{AllocError, Global};
 
 /// How many threads a script may have.
