@@ -1,10 +1,11 @@
 -- How many messages an object received.
-use Rattle.std.proofs.Common.{◌≡◌, ℕ, ◌-◌, ◌≤◌, true, length, Some, refl, sym, ap, subst, ◌∙◌, arith}
+use Rattle.std.proofs.Common.{◌≡◌, ℕ, ◌-◌, ◌≤◌, ◌&&◌, true, [], length, Some, refl, sym, ap, subst, ◌∙◌, arith}
 use Rattle.std.specs.Option.{option_map, option_and_then}
+use Rattle.std.proofs.lemmas.Bool.{cond-true, and_from}
 use Rattle.std.proofs.lemmas.Option.{same_Some}
 use Rattle.cml_log.specs.Log.{Log}
-use Rattle.cml_log.specs.{IsOpen, place_of}
-use Rattle.cml_board.specs.{Object, Port as port_data, start_by, got, place, origin_of, is_a, got_count, map_log, log_in, log_at, key_in}
+use Rattle.cml_log.specs.{IsOpen, owed_items, place_of}
+use Rattle.cml_board.specs.{Object, Port as port_data, start_by, got, owed, owed_to, place, origin_of, is_a, is_open, got_count, map_log, log_in, log_at, key_in}
 use Rattle.cml_board.specs.{cursor_in, ReadsAt, Stands}
 use Rattle.cml_board.specs.Shown.{Shown}
 use Rattle.cml_board.specs.declared.object.Object.TheVariants.{Mailbox, Port}
@@ -22,6 +23,15 @@ module _ {M : Type 0} where
       → log_at board.objects source ≡ Some log → place_of log key ≡ place board.history name
   reading_place board name source key log own found =
       ap (λ l. place_of l key) (same_Some _ _ (sym found ∙ own.cursor.stands.found)) ∙ own.at
+
+  -- what it has still to read is what a mailbox or an open port is owed
+  pub reading_owed : (board : Shown M) (name source key : ℕ) (log : Log M) → ReadsAt board name source key
+      → log_at board.objects source ≡ Some log → owed_items log key ≡ owed_to board.history name
+  reading_owed board name source key log own found =
+      let both : (is_a is_receiver board.history name && is_open board.history name) ≡ true =
+      and_from (is_a is_receiver board.history name) (is_open board.history name) own.receiver own.opened in
+      ap (λ l. owed_items l key) (same_Some _ _ (sym found ∙ own.cursor.stands.found)) ∙ own.owes
+      ∙ sym (cond-true (is_a is_receiver board.history name && is_open board.history name) (owed board.history name) [] both)
 
   own_log : (chunk : ℕ) (board : Shown M) (name : ℕ) (object : Object M (Log M)) (log : Log M) → Stands chunk board name object
       → log_in object ≡ Some log → log_at board.objects name ≡ Some log

@@ -42,4 +42,3 @@ pub mod PartsLemmas
 pub mod NumberingLemmas
 pub mod SuitingLemmas
 pub mod RespondingLemmas
-pub mod SharingLemmas

@@ -2,7 +2,7 @@ ghost use Rattle.std.specs.Prelude.{◌≡◌, List, ◌^◌, ◌<◌, ◌≤◌
 ghost use Rattle.std.specs.Prelude.{option_copied, IfOk, OnOk, OnErr, IsOk, IsTrue, MatchOption, MatchBool};
 ghost use Rattle.cml_board.specs.{Entry, no_entries, entries_in, Lawful, made, origin_of, kind_of, is_open, is_a, sent_count, got_count};
 ghost use Rattle.cml_board.specs.{owed_count, owed_to, channel_of, start_of, first_of, kept_count, port_is_open, held_by, map_log};
-ghost use Rattle.cml_board.specs.{log_at, HasLog, ReadsAt, Stands, IsNoted, IsAsBefore, ShowsTheSame, HasRoom, Cuts, IsSound, base_of};
+ghost use Rattle.cml_board.specs.{log_at, HasLog, ReadsAt, Stands, IsNoted, IsAsBefore, HasRoom, Cuts, IsSound, base_of};
 ghost use Rattle.cml_board.specs.{next_base, full_at};
 ghost use Rattle.cml_calls.specs.{is_receiver};
 
@@ -19,10 +19,10 @@ use crate::call::Name;
 use crate::cut_entries::CutEntries;
 use crate::entry::Entry;
 use crate::message::Message;
-use crate::object::{self, Object, Reading};
+use crate::object::{self, Object, Reading, share_each};
 use cml_calls::Kind;
 use cml_log::{ChunkLog, Key, MessageLog};
-use objects::{log_at, share_at};
+use objects::log_at;
 use std::alloc::{AllocError, Global};
 use std::marker::Model;
 use std::mem;
@@ -341,14 +341,14 @@ impl<M: Message, L: MessageLog<M>> Board<M, L> {
     /// Returns messages equal to those that wait in a mailbox or are owed to an open port, in the order in which they are
     /// received. Returns an empty list for any other name. Takes one step for each message that it returns, however many the
     /// board keeps.
-    pub fn share_owed(&mut self, name: Name) -> Result<Vec<M>, AllocError>
-        ensures ok { IfOk result (λ messages. messages.items ≡ owed_to self.old.history name.0) }
-        ensures same { ShowsTheSame self.old self.new }
+    pub fn share_owed(&self, name: Name) -> Result<Vec<M>, AllocError>
+        ensures { IfOk result (λ messages. messages.items ≡ owed_to self.now.history name.0) }
     {
         let Some(cursor) = self.cursor(name) else {
             return Ok(Vec::new(self.alloc));
         };
-        share_at(&mut self.objects, self.alloc, cursor.0, cursor.1)
+        let owed = self.log(cursor.0).lend_owed(self.alloc, cursor.1)?;
+        share_each(self.alloc, &owed)
     }
 
     #[inline]

@@ -16,7 +16,6 @@ mod object;
 mod outcome;
 mod parts;
 mod restored;
-mod sharing;
 mod want;
 
 pub use answer::Answer;

@@ -2,7 +2,7 @@
 ghost use Rattle.std.specs.Prelude.{◌≡◌, ℕ, ◌-◌, ◌%◌, ◌<◌, length, false, Some, IsSome, OnOk, OnErr, IfOk, slice_get};
 ghost use Rattle.std.specs.Option.{option_map};
 ghost use Rattle.cml_log.specs.Log.{Log};
-ghost use Rattle.cml_log.specs.{next_of, IsOpen, place_of, owed_items, Opens};
+ghost use Rattle.cml_log.specs.{lent, next_of, IsOpen, place_of, owed_items, Opens};
 ghost use Rattle.cml_board.specs.{map_log, log_in, cursor_in, held_in, with_held, pushed, advanced, shut, OpensIn, kind_by, variable_call};
 ghost use Rattle.cml_board.specs.{begun_as};
 
@@ -116,6 +116,17 @@ pub fn share_first<M: Message, L: MessageLog<M>>(
         Some(message) => message.share(alloc),
         None => unreachable!(),
     }
+}
+
+/// Messages equal to those behind these references, in order.
+pub fn share_each<M: Message>(alloc: Global, messages: &Vec<&M>) -> Result<Vec<M>, AllocError>
+    ensures { IfOk result (λ shared. shared.items ≡ lent messages.now.items) }
+{
+    let mut shared = Vec::with_capacity(alloc, messages.len())?;
+    for message in messages {
+        shared.push_reserved(message.share(alloc)?);
+    }
+    Ok(shared)
 }
 
 // Moves the message at a cursor's place out of a log. If it owns no memory, or the log doesn't part with it, shares the equal one

@@ -1,6 +1,6 @@
 -- Lemmas on a chain of chunks, and on what the log sees of it.
 use Rattle.std.proofs.Common.{◌≡◌, ℕ, zero, suc, ◌+◌, ◌-◌, ◌*◌, ◌/◌, ◌%◌, ◌<◌, ◌≤◌, List, [], ◌∷◌, ◌++◌, length, set, map, take, drop}
-use Rattle.std.proofs.Common.{Option, Some, None, refl, sym, ap, subst, ◌∙◌, inl, inr, arith}
+use Rattle.std.proofs.Common.{Option, Some, None, unwrap_or, refl, sym, ap, subst, ◌∙◌, inl, inr, arith}
 use Rattle.std.specs.List.{slice_get}
 use Rattle.std.proofs.Math.Nat.{zero-div, mul-add, mul-one, mul-zero, mul-div-le, mod-lt}
 use Rattle.std.proofs.Math.Seq.{drop-nil, map-set_same, get_or-append_seam}
@@ -12,7 +12,7 @@ use denote.RawPtr.{Ptr}
 use Rattle.cml_log.specs.{Address, Chunk, block_at, IsKept, row_of, cell_of, row_at, link_at, items_of, Rewrites, with_row, with_link}
 use Rattle.cml_log.specs.{taken_of, taken_at, with_taken, unwritten}
 use Rattle.cml_log.specs.{with_cursors, Chunks, cell_at, count_of, count_at, LiesAt, end_of, passed, with_count, Pushed, IsLinked, IsChain}
-use Rattle.cml_log.proofs.BlockLemmas.{lies_where_kept, block_at-here, block_at-other, same_everywhere, taken_at-more, items_of-same}
+use Rattle.cml_log.proofs.BlockLemmas.{kept_where_lies, lies_where_kept, block_at-here, block_at-other, same_everywhere, taken_at-more, items_of-same}
 use Rattle.cml_log.proofs.LinkedLemmas.{product-next, IsLinked-recounted, items_of-written, IsLinked-written, items_of-joined}
 use Rattle.cml_log.proofs.LinkedLemmas.{IsLinked-joined, items_of-without, IsLinked-without}
 
@@ -542,3 +542,15 @@ module _ {T : Type 0} {N : ℕ} where
     link_leads number at there before =
         let after = chain.linked.links number (head_before number at there) (omega (arith, before, chain.in_tail)) in
         (after.0, after.2, after.3, lies_where_kept kept after.0.number after.0.at (after.1, after.4))
+
+    -- so does what is read of it, as the log sees it
+    pub leads_on : (c : Chunks T) (followed : ℕ) (at to : Address) → shown kept made given followed ≡ c
+        → LiesAt c.cells at.number at.at → at.number < end_of N c / N → to ≡ unwrap_or (link_at kept at.number) at
+        → (to.number ≡ at.number + 1) × LiesAt c.cells to.number to.at
+    leads_on c followed at to seen lies before read =
+        let there = kept_where_lies kept at.number at.at (subst (λ m. LiesAt m.cells at.number at.at) (sym seen) lies) in
+        let end = ap (end_of N) (sym seen) ∙ end_shown followed in
+        let leads = link_leads at.number at.at there (subst (λ n. at.number < n / N) end before) in
+        subst (λ (a : Address). (a.number ≡ at.number + 1) × LiesAt c.cells a.number a.at)
+        (sym (read ∙ ap (λ link. unwrap_or link at) leads.1))
+        (leads.2, subst (λ m. LiesAt m.cells leads.0.number leads.0.at) seen leads.3)

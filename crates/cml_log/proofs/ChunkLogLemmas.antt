@@ -1,8 +1,6 @@
 -- Lemmas on what each call leaves of a log in chunks.
-use Rattle.std.proofs.Common.{◌≡◌, ◌≢◌, ℕ, ◌+◌, ◌-◌, ◌*◌, ◌/◌, ◌%◌, ◌<◌, ◌≤◌, true, false, List, set, count_by, is_some, Option, Some, None}
+use Rattle.std.proofs.Common.{◌≡◌, ◌≢◌, ℕ, ◌+◌, ◌-◌, ◌/◌, ◌%◌, ◌<◌, ◌≤◌, true, false, List, set, count_by, is_some, Option, Some, None}
 use Rattle.std.proofs.Common.{sym, ap, subst, ◌∙◌, arith}
-use Rattle.std.proofs.Math.Nat.{div-mul-le_self}
-use Rattle.std.proofs.lemmas.Nat.{le-div}
 use Rattle.cml_log.specs.Log.{Log}
 use Rattle.cml_log.specs.{chunk_of, Address, Cursor, trimmed, with_item, with_place, Opens, Chunks, count_at, LiesAt, end_of, is_idle}
 use Rattle.cml_log.specs.{passed, with_count, Pushed, Passed, cursor_at, HoldsChunk, IsHeld, IsTrim, log_of}
@@ -11,7 +9,7 @@ use Rattle.cml_log.proofs.PassedLemmas.{idle_before}
 use Rattle.cml_log.proofs.StandingLemmas.{standing-lt, weight-elsewhere}
 use Rattle.cml_log.proofs.CursorsLemmas.{chunk_of-within, lies-recounted, count-other, given-le_end, IsTidy-shown, IsHeld-passed}
 use Rattle.cml_log.proofs.CursorsLemmas.{IsHeld-pushed, shown-pushed, IsHeld-closed, shown-passed, shown-set}
-use Rattle.cml_log.proofs.MovedLemmas.{next_begins, lies_left, idle_left, IsTrim-moved, left, stood, given_on, IsHeld-stepped}
+use Rattle.cml_log.proofs.MovedLemmas.{lies_left, idle_left, IsTrim-moved, left, stood, given_on, IsHeld-stepped}
 use Rattle.cml_log.proofs.MovedLemmas.{Passed-stepped, IsTrim-given, IsTrim-opened, Opens-shown}
 
 module _ {T : Type 0} where
@@ -71,14 +69,6 @@ module _ {T : Type 0} (n : ℕ) (c : Chunks T) (slots : List (Option Cursor)) (t
       moved_trims =
           trims_itself n c others _ (subst (IsTrim n c) (sym moves) (IsTrim-moved n c slots trim key cursor found below inside))
           (ap (log_of n c) moves ∙ shown-set n c slots key (Some (record { at = cursor.at; place = cursor.place + 1 })))
-
-    -- the chunk of a cursor whose next place begins one isn't the last
-    pub before_end : (cursor.place + 1) % n ≡ 0 → cursor.at.number < end_of n c / n
-    before_end begins =
-        let held = trim.is_held.held key cursor found in
-        let next = next_begins n cursor.place trim.is_held.holds_one begins in
-        let whole : (cursor.place + 1) / n * n ≤ end_of n c = omega (arith, div-mul-le_self (cursor.place + 1) n, below) in
-        omega (arith, le-div ((cursor.place + 1) / n) (end_of n c) n trim.is_held.holds_one whole, next, held.number)
 
     -- so one cursor more in the next chunk can be counted
     pub room_next : (number : ℕ) → number ≡ cursor.at.number + 1

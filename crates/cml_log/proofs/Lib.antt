@@ -18,3 +18,4 @@ mod CursorsLemmas
 mod MovedLemmas
 mod AheadLemmas
 mod ChunkLogLemmas
+mod LendingLemmas

@@ -10,7 +10,7 @@ pub mod Linked
 pub mod Cursors
 pub mod ChunkLog
 -- the names that others import from here
-pub use Log.{IsOpen, Opens, chunk_count, chunk_start, cursor_count, empty_log, least, next_of, owed_items, place_at, place_of, trimmed}
+pub use Log.{IsOpen, Opens, chunk_count, chunk_start, cursor_count, empty_log, least, lent, next_of, owed_items, place_at, place_of, trimmed}
 pub use Log.{with_item, with_place}
 pub use Holds.{IsTidy}
 pub use PlainLog.{IsSound, chunk_of}

@@ -1,6 +1,7 @@
 -- What a contract sees of a log of messages, and each change that a call makes to it.
 use Rattle.std.specs.Prelude.{◌≡◌, ◌≢◌, ℕ, ◌+◌, ◌-◌, ◌*◌, ◌/◌, min, List, [], ◌∷◌, ◌++◌, length, drop, Option, Some, None, is_some}
-use Rattle.std.specs.Prelude.{IsSome, count_by, slice_index_or, slice_set, unwrap_or, refl}
+use Rattle.std.specs.Prelude.{IsSome, count_by, map, slice_index_or, slice_set, unwrap_or, refl}
+use Rattle.std.specs.Borrow.{Bor}
 use Rattle.std.specs.Coded.{Coded, code_by, coded×, coded_ℕ, coded_list, coded_option}
 
 -- the place of the first kept item, the items kept from there on, and under each key the place of
@@ -27,6 +28,10 @@ least end (None ∷ rest) = least end rest
 least end (Some place ∷ rest) = least (min end place) rest
 
 module _ {T : Type 0} where
+  -- the items behind these references
+  abbrev pub lent : List (Bor T) → List T
+  lent items = map (λ item. item.now) items
+
   -- a log with no item and no cursor
   abbrev pub empty_log : Log T
   empty_log = record { first = 0; kept = []; places = [] }

@@ -2,7 +2,8 @@ ghost use Rattle.std.specs.Prelude.{◌≡◌, ℕ, ◌+◌, ◌-◌, ◌*◌, �
 ghost use Rattle.std.specs.Prelude.{option_copied, slice_get, ltb, IfOk, OnOk, OnErr, IfErr};
 
 use crate::Back;
-use crate::chunk::{Address, KeptChunks};
+use crate::chunk::{Address, Counter, KeptChunks};
+use crate::cursors::Cursor;
 use std::alloc::{AllocError, Global};
 use std::marker::Model;
 
@@ -39,6 +40,8 @@ impl<T: Drop, const N: usize> Model for Chain<T, N> {
 }
 
 impl<T: Drop, const N: usize> Chain<T, N> {
+    ghost use Rattle.cml_log.specs.Log.{lent};
+    ghost use Rattle.cml_log.specs.ChunkLog.{HoldsChunk};
     ghost use Rattle.cml_log.specs.Chain.{cell_at, count_at, LiesAt, end_of, is_idle, passed, with_count, Pushed, Passed, Begins};
 
     /// A chain of one empty chunk. Fails if `N` is 0 or above 1,024, if a chunk is too large, or without memory.
@@ -97,6 +100,60 @@ impl<T: Drop, const N: usize> Chain<T, N> {
             ≡ slice_get (drop (N * (at.number - self.now.given)) self.now.items) slot }
     {
         self.chunks.item(at, slot)
+    }
+
+    /// Lends the items from a place on, in order. It follows the link of each chunk that it leaves.
+    pub(crate) fn lend_from(
+        &self,
+        alloc: Global,
+        from: Cursor,
+        walked: &mut Counter,
+    ) -> Result<Vec<&T>, AllocError>
+        requires holds { HoldsChunk N self.now from }
+        requires left { N * self.now.given + self.now.taken ≤ from.place }
+        ensures items { IfOk result (λ items. lent items.items ≡ drop (from.place - N * self.now.given) self.now.items) }
+        ensures walked { OnOk result (walked.new.count + from.place / N ≡ walked.old.count + end_of N self.now / N) }
+    {
+        let mut items = Vec::with_capacity(alloc, (self.next - from.place) as usize)?;
+        let mut at = from;
+        for _place in from.place..self.next {
+            items.push_reserved(self.item_at(at));
+            at = self.walk_on(at, walked);
+        }
+        Ok(items)
+    }
+
+    // Lends the item at a place.
+    fn item_at(&self, at: Cursor) -> &T
+        requires some { 0 < N }
+        requires holds { HoldsChunk N self.now at }
+        requires left { N * self.now.given + self.now.taken ≤ at.place }
+        requires written { at.place < end_of N self.now }
+        ensures { slice_get (drop (at.place - N * self.now.given) self.now.items) 0 ≡ Some result.now }
+    {
+        match self.item(at.at, (at.place % N as u64) as usize) {
+            Some(item) => item,
+            None => unreachable!(),
+        }
+    }
+
+    // One place further.
+    fn walk_on(&self, at: Cursor, walked: &mut Counter) -> Cursor
+        requires some { 0 < N }
+        requires bounded { end_of N self.now < 2 ^ 64 }
+        requires holds { HoldsChunk N self.now at }
+        requires written { at.place < end_of N self.now }
+        ensures holds { HoldsChunk N self.now result }
+        ensures place { result.place ≡ at.place + 1 }
+        ensures walked { walked.new.count + at.place / N ≡ walked.old.count + result.place / N }
+    {
+        let Cursor { at, place } = at;
+        let place = place + 1;
+        if place % N as u64 != 0 {
+            return Cursor { at, place };
+        }
+        let at = self.chunks.walk_on(at, walked).unwrap_or(at);
+        Cursor { at, place }
     }
 
     /// Moves the item at a slot of the head out.

@@ -7,8 +7,8 @@ ghost use Rattle.cml_log.specs.{with_cursors, with_taken, taken_at, unwritten};
 mod raw;
 
 use crate::row::Row;
-pub(crate) use raw::Address;
-use raw::{Blocks, Counter, Link, Linked, Right, fits};
+pub(crate) use raw::{Address, Counter};
+use raw::{Blocks, Link, Linked, Right, fits};
 use std::alloc::{AllocError, Global};
 
 /// A chunk's block: its places, where the next chunk lies, and how many cursors are in it.
@@ -41,8 +41,8 @@ impl<T, const N: usize> Linked for Chunk<T, N> {
 }
 
 /// The chunks of a log, and how often a chunk was made, a chunk was freed, and a link was followed. The chunks' owner owns
-/// these counts: no other way leads to a block or to a count. A call that raises a count takes the chunks by `&mut`, so a
-/// call that takes them by `&` follows no link.
+/// these counts: no other way leads to a block or to a count. A call that raises a count takes the chunks by `&mut`. A walk
+/// takes them by `&`, and counts the links that it follows apart.
 pub(crate) struct KeptChunks<T, const N: usize> {
     blocks: Blocks<Chunk<T, N>>,
     made: Counter,
@@ -104,6 +104,16 @@ impl<T: Drop, const N: usize> KeptChunks<T, N> {
     {
         self.blocks.fit();
         self.blocks.follow(at, &mut self.followed)
+    }
+
+    /// Reads a chunk's link for a walk, which counts it.
+    pub(crate) fn walk_on(&self, at: Address, walked: &mut Counter) -> Option<Address>
+        requires { IsKept self.now.blocks.kept at.number at.at }
+        ensures link { result ≡ link_at self.now.blocks.kept at.number }
+        ensures counted { walked.new.count ≡ walked.old.count + 1 }
+    {
+        self.blocks.fit();
+        self.blocks.follow(at, walked)
     }
 
     /// Lends the item at a slot, if it was written.

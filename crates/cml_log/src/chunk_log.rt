@@ -5,6 +5,7 @@ ghost use Rattle.std.proofs.Common.{rules};
 ghost use Rattle.cml_log.specs.{chunk_of, cursor_at, end_of, log_of, trimmed, with_place, IsAhead, IsTrim, IsWhole};
 
 use crate::chain::Chain;
+use crate::chunk::Counter;
 use crate::cursors::{Cursor, Cursors};
 use crate::{Back, Key, MessageLog};
 use std::alloc::{AllocError, Global};
@@ -157,6 +158,11 @@ impl<T: Drop, const N: usize> MessageLog<T> for ChunkLog<T, N> {
         let cursor = self.cursors.get(k.0);
         self.chain
             .item(cursor.at, (cursor.place % N as u64) as usize)
+    }
+
+    fn lend_owed(&self, alloc: Global, k: Key) -> Result<Vec<&T>, AllocError> {
+        let cursor = self.cursors.get(k.0);
+        self.chain.lend_from(alloc, cursor, &mut Counter::zero())
     }
 
     #[inline(always)]

@@ -1,7 +1,7 @@
 ghost use Rattle.std.specs.Prelude.{◌≡◌, ℕ, ◌+◌, ◌-◌, ◌%◌, ◌<◌, ◌≤◌, ◌↔◌, Some, None, length, IsTrue, OnOk, OnErr, IfOk};
 ghost use Rattle.std.specs.Prelude.{IfErr, IfSome, IfNone, option_copied, slice_get};
 ghost use Rattle.cml_log.specs.Log.{Log, empty_log, next_of, IsOpen, place_of, owed_items, cursor_count, chunk_count};
-ghost use Rattle.cml_log.specs.Log.{chunk_start, trimmed, with_item, with_place, Opens};
+ghost use Rattle.cml_log.specs.Log.{chunk_start, lent, trimmed, with_item, with_place, Opens};
 
 use crate::{Back, Key};
 use std::alloc::{AllocError, Global};
@@ -10,7 +10,7 @@ use std::alloc::{AllocError, Global};
 ///
 /// Items lie in chunks of `CHUNK` places. Items before the chunk of the least place of an open cursor are dropped. Without
 /// a cursor, items before the chunk of the next place are dropped.
-/// Only `new`, a push that fills its chunk, and opening one more cursor allocate memory.
+/// Only `new`, a push that fills its chunk, opening one more cursor, and lending all that is owed allocate memory.
 pub trait MessageLog<T>: Drop {
     /// How many places a chunk has, from 1 to 1,024.
     const CHUNK: u64;
@@ -55,6 +55,11 @@ pub trait MessageLog<T>: Drop {
     fn peek(&self, k: Key) -> Option<&T>
         requires { IsOpen (log self.now) k }
         ensures { option_copied result ≡ slice_get (owed_items (log self.now) k) 0 };
+
+    /// Lends the items that a cursor has still to read, in order. Takes memory for one reference to each.
+    fn lend_owed(&self, alloc: Global, k: Key) -> Result<Vec<&T>, AllocError>
+        requires { IsOpen (log self.now) k }
+        ensures { IfOk result (λ items. lent items.items ≡ owed_items (log self.now) k) };
 
     /// Moves a cursor past the item at its place.
     fn advance(&mut self, k: Key)

@@ -99,6 +99,15 @@ impl<T: Drop, const N: usize> MessageLog<T> for PlainLog<T, N> {
         self.items.get(passed as usize)
     }
 
+    fn lend_owed(&self, alloc: Global, k: Key) -> Result<Vec<&T>, AllocError> {
+        let passed = (self.places[k.0] - self.first) as usize;
+        let mut items = Vec::with_capacity(alloc, self.items.len() - passed)?;
+        for at in passed..self.items.len() {
+            items.push_reserved(&self.items[at]);
+        }
+        Ok(items)
+    }
+
     fn advance(&mut self, k: Key) {
         step(&mut self.places, k.0);
         trim_to_least(

@@ -4,13 +4,12 @@ ghost use Rattle.cml_log.specs.Log.{Log};
 ghost use Rattle.cml_log.specs.{empty_log, next_of, owed_items, place_of};
 ghost use Rattle.cml_board.specs.declared.object.Object.TheVariants.{Channel, Variable};
 ghost use Rattle.cml_board.specs.{HasSource, AddsMade, seen_all, log_at, on_log, pushed, advanced, HasLog, HasRoomAt, HasCursor, HasOwed};
-ghost use Rattle.cml_board.specs.{HasPort, HasVariable, AddsMailbox, AddsPort, ClosesPort, SetsHeld, HasSameLogAt};
+ghost use Rattle.cml_board.specs.{HasPort, HasVariable, AddsMailbox, AddsPort, ClosesPort, SetsHeld};
 
 use super::note::Making;
 use crate::call::Name;
 use crate::message::Message;
 use crate::object::{self, Form, Object, Port, Reading};
-use crate::sharing::share_all;
 use cml_log::{Back, Key, MessageLog};
 use std::alloc::{AllocError, Global};
 
@@ -58,21 +57,6 @@ pub fn take_at<M: Message, L: MessageLog<M>>(
     ensures sure { OnErr result (M.SURE ≡ false) }
 {
     object::take(&mut objects[name.0 as usize], alloc, key, noted)
-}
-
-/// Shares all messages that a cursor of a log has still to read, in order.
-pub fn share_at<M: Message, L: MessageLog<M>>(
-    objects: &mut Vec<Object<M, L>>,
-    alloc: Global,
-    name: Name,
-    key: Key,
-) -> Result<Vec<M>, AllocError>
-    requires { HasCursor (seen_all L.log objects.old.items) name.0 key }
-    ensures ok { IfOk result (λ messages. (log : Log M) → log_at (seen_all L.log objects.old.items) name.0 ≡ Some log
-        → messages.items ≡ owed_items log key) }
-    ensures same { HasSameLogAt (seen_all L.log objects.old.items) (seen_all L.log objects.new.items) name.0 }
-{
-    share_all(&mut objects[name.0 as usize], alloc, key)
 }
 
 fn add_mailbox<M, L: MessageLog<M>>(

@@ -247,12 +247,11 @@ impl<C> Blocks<C> {
 }
 
 impl<C: Linked> Blocks<C> {
-    /// Reads where a block's content leads, and counts it. It takes the blocks by `&mut`, so a call with `&` follows no link.
-    pub(crate) fn follow(&mut self, address: Address, followed: &mut Counter) -> Option<Address>
-        requires { IsKept self.old.kept address.number address.at }
-        ensures link { (content : C) × (block_at self.old.kept address.number ≡ Some (address.at, content))
+    /// Reads where a block's content leads, and counts it. So a call that has no count to change follows no link.
+    pub(crate) fn follow(&self, address: Address, followed: &mut Counter) -> Option<Address>
+        requires { IsKept self.now.kept address.number address.at }
+        ensures link { (content : C) × (block_at self.now.kept address.number ≡ Some (address.at, content))
             × (result ≡ C.leads_to content) }
-        ensures kept { self.new ≡ self.old }
         ensures counted { followed.new.count ≡ followed.old.count + 1 }
     {
         self.fit();

@@ -3,7 +3,8 @@ use Rattle.std.proofs.lemmas.List.{map-set}
 use Rattle.cml_log.specs.{Address, Chunks, with_place, place_in, LiesAt, count_at, end_of, with_count, IsAhead, IsWhole, log_of}
 use Rattle.cml_log.proofs.AheadLemmas.{IsAhead-whole, IsAhead-stepped}
 use Rattle.cml_log.proofs.CursorsLemmas.{entered, lies-recounted}
-use Rattle.cml_log.proofs.ChunkLogLemmas.{TrimsTo, StandsIn, before_end, room_next, moved_trims, stands_in}
+use Rattle.cml_log.proofs.ChunkLogLemmas.{TrimsTo, StandsIn, room_next, moved_trims, stands_in}
+use Rattle.cml_log.proofs.LendingLemmas.{before_end}
 use Rattle.cml_log.proofs.chunk_log.step.Goals.{After-move_to, After-enter}
 use Rattle.cml_log.proofs.chunk_log.step.Goals as goal
 
@@ -60,8 +61,7 @@ follow-next-requires g c =
       omega arith,
       (
         held.lies,
-        before_end g.row.N c.args.chain.now c.args.cursors.now c.requires.trim c.args.key c.args.cursor
-            c.requires.found c.requires.below c.if-place-ne0.false,
+        before_end g.row.N c.args.chain.now c.args.cursor c.requires.trim.is_held.holds_one held c.requires.below c.if-place-ne0.false,
       ),
     )
 

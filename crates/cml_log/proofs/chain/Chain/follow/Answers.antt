@@ -1,7 +1,7 @@
-use Rattle.std.proofs.Common.{◌≡◌, ◌+◌, ◌<◌, ◌/◌, unwrap_or, sym, ap, subst, ◌∙◌, arith}
-use Rattle.cml_log.specs.{Address, LiesAt, end_of}
+use Rattle.std.proofs.Common.{◌≡◌, ◌+◌, sym, ap, subst, ◌∙◌, arith, unwrap_or}
+use Rattle.cml_log.specs.{LiesAt}
 use Rattle.cml_log.proofs.BlockLemmas.{kept_where_lies}
-use Rattle.cml_log.proofs.ChainLemmas.{end_shown, link_leads}
+use Rattle.cml_log.proofs.ChainLemmas.{leads_on}
 use Rattle.cml_log.proofs.chain.Chain.follow.Goals.{After-unwrap_or}
 use Rattle.cml_log.proofs.chain.Chain.follow.Goals as goal
 
@@ -16,17 +16,10 @@ follow-requires g c = (
 leads : (g : _) (c : After-unwrap_or g) → (c.unwrap_or.result.number ≡ c.args.at.number + 1)
     × LiesAt c.args.self.now.cells c.unwrap_or.result.number c.unwrap_or.result.at
 leads g c =
-    let there = kept_where_lies c.self.inside.chunks.blocks.kept c.args.at.number c.args.at.at
-    (subst (λ m. LiesAt m.cells c.args.at.number c.args.at.at) (sym c.self.view_is) c.requires.lies) in
-    let end = ap (end_of g.row.N) (sym c.self.view_is)
-    ∙ end_shown c.self.inside.chunks.blocks.kept c.self.inside.head c.self.inside.tail c.self.inside.next c.self.inside.chunks.made.count
-    c.self.inside.chunks.given.count c.self.invariant c.self.inside.chunks.followed.count in
-    let leads = link_leads c.self.inside.chunks.blocks.kept c.self.inside.head c.self.inside.tail c.self.inside.next
-    c.self.inside.chunks.made.count c.self.inside.chunks.given.count c.self.invariant c.args.at.number c.args.at.at there
-    (subst (λ n. c.args.at.number < n / g.row.N) end c.requires.before) in
-    subst (λ (a : Address). (a.number ≡ c.args.at.number + 1) × LiesAt c.args.self.now.cells a.number a.at)
-    (sym (c.unwrap_or.ensures ∙ ap (λ link. unwrap_or link c.args.at) (c.follow.ensures.link ∙ leads.1)))
-    (leads.2, subst (λ m. LiesAt m.cells leads.0.number leads.0.at) c.self.view_is leads.3)
+    leads_on c.self.inside.chunks.blocks.kept c.self.inside.head c.self.inside.tail c.self.inside.next c.self.inside.chunks.made.count
+    c.self.inside.chunks.given.count c.self.invariant c.args.self.now c.self.inside.chunks.followed.count c.args.at c.unwrap_or.result
+    c.self.view_is c.requires.lies c.requires.before
+    (c.unwrap_or.ensures ∙ ap (λ link. unwrap_or link c.args.at) c.follow.ensures.link)
 
 pub returns-clause-number : goal.returns-clause-number
 returns-clause-number g c = (leads g (goal.at.returns-clause-number g c).After-unwrap_or).0
