@@ -27,7 +27,7 @@ mod writing;
 
 pub use auditing::audit;
 pub use binding::{Binding, bind};
-pub use calls::{call_on, used_by, would_wait};
+pub use calls::{call_on, used_by, want_on, would_wait};
 pub use concluding::{conclude, conclude_as};
 pub use ending::{Ending, status_of};
 pub use form::Form;
