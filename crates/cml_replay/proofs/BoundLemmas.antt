@@ -5,7 +5,6 @@ use Rattle.std.specs.Option.{option_map}
 use Rattle.std.proofs.lemmas.Option.{slice_get-get_or}
 use Rattle.std.proofs.lemmas.List.{length-map}
 use Rattle.cml_board.specs.{Name}
-use Rattle.cml_calls.specs.declared.kind.Kind.TheVariants as kind
 use Rattle.cml_board.specs.declared.entry.Who.TheVariants.{Seat}
 use Rattle.cml_grammar.specs.{Step, names_of, source_of, ReadsStep, UsesEarlier, used_by}
 use Rattle.cml_report.specs.{Binding, History, next_position, declared_count, object_of, AreBindings}

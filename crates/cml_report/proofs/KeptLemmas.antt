@@ -1,5 +1,5 @@
 -- What is kept of a history: each name's object and each thread's count, also with one more entry.
-use Rattle.std.proofs.Common.{◌≡◌, ℕ, ◌+◌, ◌-◌, ◌<◌, ◌≤◌, Bool, true, false, cond, eqb, ltb, List, ◌∷◌, length, take, get_or, slice_get}
+use Rattle.std.proofs.Common.{◌≡◌, ℕ, ◌+◌, ◌-◌, ◌<◌, ◌≤◌, Bool, true, false, cond, eqb, ltb, List, [], ◌∷◌, length, take, get_or, slice_get}
 use Rattle.std.proofs.Common.{slice_set, replicate, Option, Some, None, IfSome, IsSome, refl, sym, ap, subst, ◌∙◌, arith, inl, inr}
 use Rattle.cml_board.specs.{Entry, kind_of, Lawful}
 use Rattle.cml_grammar.specs.{Lines, names_of, names_before, NamesAreGiven}

@@ -1,6 +1,6 @@
 -- The declared objects are the first that are made, each of its kind.
-use Rattle.std.proofs.Common.{◌≡◌, ℕ, ◌+◌, ◌<◌, ◌≤◌, ◌⊎◌, Bool, true, false, cond, ltb, List, ◌∷◌, ◌++◌, length, take, filter, slice_get}
-use Rattle.std.proofs.Common.{Option, Some, None, MatchBool, refl, sym, ap, subst, ◌∙◌, arith, inl, inr}
+use Rattle.std.proofs.Common.{◌≡◌, ℕ, ◌+◌, ◌<◌, ◌≤◌, ◌⊎◌, Bool, true, false, cond, ltb, List, [], ◌∷◌, ◌++◌, length, take, filter}
+use Rattle.std.proofs.Common.{slice_get, Option, Some, None, MatchBool, refl, sym, ap, subst, ◌∙◌, arith, inl, inr}
 use Rattle.std.specs.Option.{option_map, option_map_or, option_and_then}
 use Rattle.std.proofs.lemmas.Option.{same_Some, none-some, slice_get_within}
 use Rattle.std.proofs.lemmas.List.{length_push, length-append}
@@ -191,6 +191,6 @@ object_kind_is script history at line k own lawful made found kinded =
 -- what is made well is made of declared names
 pub well_declared : (script : Lines) (i : ℕ) (m : Makes) → i < length script.declarations
     → IsMadeWell (names_of script) i m → IsMadeOfDeclared script m
-well_declared script i (makes.Port channel) lt well = omega (arith, lt, well.1)
+well_declared script i (makes.Port source) lt well = omega (arith, lt, well.1)
 well_declared script i (makes.Feed feed) lt well = omega (arith, lt, well.1)
 well_declared script i m lt well = tt

@@ -5,7 +5,6 @@ use Rattle.std.specs.Io.KnownBytes.{Keeps}
 use Rattle.cml_grammar.specs.{Lines, IsScript}
 use Rattle.cml_report.specs.{Form, Stop, IsRead, AreAll, IsTextOf, IsRefused, History, Tallied, Played, Ending}
 use Rattle.cml_script.specs.{EndsUntold, IsRunText, IsUntold, IsUnsettled, AreScript, RunsAs}
-use Rattle.cml_report.specs.declared.stop.Stop.TheVariants as stop
 use Rattle.cml_board.specs.Shown.{Shown}
 use Rattle.cml_report.specs.declared.ending.Ending.TheVariants as ending
 use Rattle.cml_report.proofs.ReadLemmas.{all_read}
