@@ -1,11 +1,10 @@
 -- From stage to stage: what holds of the board while some objects are at the next stage and the others aren't.
 use Rattle.std.proofs.Common.{◌≡◌, ℕ, zero, suc, ◌+◌, ◌-◌, ◌<◌, ◌≤◌, inl, inr, List, length, Option, Some, None, refl, sym, ap, subst}
-use Rattle.std.proofs.Common.{◌∙◌, arith}
+use Rattle.std.proofs.Common.{arith}
 use Rattle.std.proofs.lemmas.Bool.{cases_lt}
 use Rattle.cml_board.specs.{Entry, Who, no_entries, Origin, mailbox, channel, port, ivar, mvar, source_by, Lawful, made, origin_of, sent}
 use Rattle.cml_board.specs.{entries_in}
 use Rattle.cml_board.specs.{facts_of}
-use Rattle.cml_board.specs.{ShowsTheSame}
 use Rattle.cml_board.specs.Facts.{Facts}
 use Rattle.cml_board.specs.Shown.{Shown}
 use Rattle.cml_compact.specs.{AllBy, begun_anew, begun_before, stock, stocked, settled, compact_size}
@@ -120,15 +119,6 @@ module _ {M : Type 0} where
         weights_one now (settled old) n source before each,
         weights_grow (settled old) n (length (made old)) within,
       )
-
-  -- a board that was looked at twice shows the same
-  pub same_twice : (old now new : Shown M) → ShowsTheSame old now → ShowsTheSame now new → ShowsTheSame old new
-  same_twice old now new one two = record {
-    history = two.history ∙ one.history;
-    past = two.past ∙ one.past;
-    limit = two.limit ∙ one.limit;
-    reserved = two.reserved ∙ one.reserved;
-  }
 
   -- of no entries all are anybody's
   pub all_by_none : (who : Who) (h : List (Entry M)) → h ≡ no_entries → AllBy who h

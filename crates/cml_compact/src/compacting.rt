@@ -1,5 +1,5 @@
 ghost use Rattle.std.specs.Prelude.{◌≡◌, ◌≤◌, ◌^◌, IfOk, IfErr};
-ghost use Rattle.cml_board.specs.{ShowsTheSame, entries_in};
+ghost use Rattle.cml_board.specs.{entries_in};
 ghost use Rattle.cml_compact.specs.{AllBy, Compacts, Stops, compact_size};
 
 use crate::making::make_all;
@@ -17,21 +17,20 @@ use std::alloc::Global;
 /// The new journal has no entry before them. What was counted since this board was made begins at 0: positions of entries, and
 /// how many messages an object sent and received. Its time grows with the number of those calls.
 ///
-/// Fails with `JournalFull` if the calls are more than `limit`, or with `NoMemory`. This board shows the same as before.
+/// Fails with `JournalFull` if the calls are more than `limit`, or with `NoMemory`.
 pub fn compact<M: Message, L: MessageLog<M>>(
     alloc: Global,
-    board: &mut Board<M, L>,
+    board: &Board<M, L>,
     who: Who,
     limit: u64,
 ) -> Result<Board<M, L>, Refusal>
     requires least { 1 ≤ limit }
     requires most { limit ≤ 2 ^ 32 }
-    ensures ok { IfOk result (λ new. Compacts board.old new) }
+    ensures ok { IfOk result (λ new. Compacts board.now new) }
     ensures fits { IfOk result (λ new. entries_in new.history ≤ limit) }
     ensures whose { IfOk result (λ new. AllBy who new.history) }
     ensures limit { IfOk result (λ new. new.limit ≡ limit) }
-    ensures err { IfErr result (Stops limit (compact_size board.old.history)) }
-    ensures same { ShowsTheSame board.old board.new }
+    ensures err { IfErr result (Stops limit (compact_size board.now.history)) }
 {
     board.facts();
     let Ok(slowest) = slowest(alloc, board) else {

@@ -1,7 +1,7 @@
 //! What a compaction plans: where in its channel's stream each port begins, and what is multicast again.
 ghost use Rattle.std.specs.Prelude.{ℕ, ◌≡◌, ◌+◌, ◌-◌, ◌<◌, ◌≤◌, ◌++◌, take, drop, length, slice_get, Some, OnOk, IfOk};
 ghost use Rattle.cml_calls.specs.declared.kind.Kind.TheVariants.{Channel};
-ghost use Rattle.cml_board.specs.{Lawful, ShowsTheSame, kind_of, made, owed_to};
+ghost use Rattle.cml_board.specs.{Lawful, kind_of, made, owed_to};
 ghost use Rattle.cml_compact.specs.{stock};
 ghost use Rattle.cml_compact.specs.Planning.{AreBeginnings, AreFewest, IsPlan, stream};
 ghost use Rattle.cml_compact.specs.Slowest.{AreSlowest};
@@ -41,12 +41,11 @@ impl<M> Plan<M> {
 /// Plans a compaction. Its time grows with the number of objects, and of messages that are multicast again.
 pub fn plan_of<M: Message, L: MessageLog<M>>(
     alloc: Global,
-    board: &mut Board<M, L>,
+    board: &Board<M, L>,
     slowest: &Vec<Name>,
 ) -> Result<Plan<M>, AllocError>
-    requires slowest { AreSlowest board.old.history (length (made board.old.history)) slowest.now.items }
-    ensures ok { IfOk result (λ plan. IsPlan board.old.history plan.begins.items plan.fronts.items plan.messages.items) }
-    ensures same { ShowsTheSame board.old board.new }
+    requires slowest { AreSlowest board.now.history (length (made board.now.history)) slowest.now.items }
+    ensures ok { IfOk result (λ plan. IsPlan board.now.history plan.begins.items plan.fronts.items plan.messages.items) }
 {
     let begins = beginnings(alloc, board, slowest)?;
     board.facts();
@@ -66,14 +65,13 @@ pub fn plan_of<M: Message, L: MessageLog<M>>(
 
 /// Adds what is multicast again on a channel, whose slowest port is `from`. Adds nothing for any other object.
 fn add_stream<M: Message, L: MessageLog<M>>(
-    board: &mut Board<M, L>,
+    board: &Board<M, L>,
     messages: &mut Vec<M>,
     name: Name,
     from: Name,
 ) -> Result<(), AllocError>
-    requires slowest { kind_of board.old.history name.0 ≡ Some Channel → owed_to board.old.history from.0 ≡ stock board.old.history name.0 }
-    ensures ok { OnOk result (messages.new.items ≡ messages.old.items ++ stream board.old.history name.0) }
-    ensures same { ShowsTheSame board.old board.new }
+    requires slowest { kind_of board.now.history name.0 ≡ Some Channel → owed_to board.now.history from.0 ≡ stock board.now.history name.0 }
+    ensures ok { OnOk result (messages.new.items ≡ messages.old.items ++ stream board.now.history name.0) }
 {
     match board.kind(name) {
         Some(Kind::Channel) => add_owed(board, messages, from),
@@ -81,18 +79,14 @@ fn add_stream<M: Message, L: MessageLog<M>>(
     }
 }
 
-/// Adds what this object is owed. If that is nothing, it opens no cursor, which would take memory.
+/// Adds what this object is owed.
 fn add_owed<M: Message, L: MessageLog<M>>(
-    board: &mut Board<M, L>,
+    board: &Board<M, L>,
     messages: &mut Vec<M>,
     from: Name,
 ) -> Result<(), AllocError>
-    ensures ok { OnOk result (messages.new.items ≡ messages.old.items ++ owed_to board.old.history from.0) }
-    ensures same { ShowsTheSame board.old board.new }
+    ensures ok { OnOk result (messages.new.items ≡ messages.old.items ++ owed_to board.now.history from.0) }
 {
-    if owed(board, from) == 0 {
-        return Ok(());
-    }
     for message in board.share_owed(from)? {
         messages.push(message)?;
     }

@@ -1,7 +1,7 @@
 //! The second stage: what is owed is sent again.
 ghost use Rattle.std.specs.Prelude.{ℕ, ◌≡◌, ◌<◌, ◌≤◌, ◌+◌, ◌-◌, ◌++◌, [], length, slice_get, Some, OnOk, IfErr};
 ghost use Rattle.cml_calls.specs.declared.kind.Kind.TheVariants.{Channel, Mailbox};
-ghost use Rattle.cml_board.specs.{Lawful, ShowsTheSame, kind_of, made, no_entries, entries_in, facts_of, owed_to};
+ghost use Rattle.cml_board.specs.{Lawful, kind_of, made, no_entries, entries_in, facts_of, owed_to};
 ghost use Rattle.cml_compact.specs.Stages.{stock};
 ghost use Rattle.cml_compact.specs.Slowest.{AreSlowest};
 ghost use Rattle.cml_compact.specs.Planning.{IsPlan};
@@ -19,19 +19,18 @@ use std::alloc::Global;
 /// Sends to each mailbox what waits in it, and multicasts on each channel the rest of its messages.
 pub fn send_all<M: Message, L: MessageLog<M>>(
     alloc: Global,
-    board: &mut Board<M, L>,
+    board: &Board<M, L>,
     new: &mut Board<M, L>,
     who: Who,
     slowest: &Vec<Name>,
     plan: &Plan<M>,
 ) -> Result<(), Refusal>
-    requires begun { Reaches new.old.limit new.old (length (made board.old.history)) (begun_anew board.old.history) }
-    requires slowest { AreSlowest board.old.history (length (made board.old.history)) slowest.now.items }
-    requires plan { IsPlan board.old.history plan.now.begins.items plan.now.fronts.items plan.now.messages.items }
-    ensures ok { OnOk result (Reaches new.old.limit new.new (length (made board.old.history)) (stocked board.old.history)) }
-    ensures err { IfErr result (Stops new.old.limit (compact_size board.old.history)) }
+    requires begun { Reaches new.old.limit new.old (length (made board.now.history)) (begun_anew board.now.history) }
+    requires slowest { AreSlowest board.now.history (length (made board.now.history)) slowest.now.items }
+    requires plan { IsPlan board.now.history plan.now.begins.items plan.now.fronts.items plan.now.messages.items }
+    ensures ok { OnOk result (Reaches new.old.limit new.new (length (made board.now.history)) (stocked board.now.history)) }
+    ensures err { IfErr result (Stops new.old.limit (compact_size board.now.history)) }
     ensures whose { AllBy who new.old.history → AllBy who new.new.history }
-    ensures same { ShowsTheSame board.old board.new }
 {
     board.facts();
     for name in 0..board.object_count() {
@@ -44,24 +43,23 @@ pub fn send_all<M: Message, L: MessageLog<M>>(
 /// Sends what is owed of a mailbox, or the rest of what is owed of a channel. The slowest port of a channel is `from`.
 fn send_one<M: Message, L: MessageLog<M>>(
     alloc: Global,
-    board: &mut Board<M, L>,
+    board: &Board<M, L>,
     new: &mut Board<M, L>,
     who: Who,
     name: Name,
     from: Name,
     plan: &Plan<M>,
 ) -> Result<(), Refusal>
-    requires lawful { Lawful board.old.history }
-    requires within { name.0 < length (made board.old.history) }
+    requires lawful { Lawful board.now.history }
+    requires within { name.0 < length (made board.now.history) }
     requires begins { new.old.past ≡ no_entries }
     requires kept { Lawful new.old.history }
-    requires begun { facts_of new.old.history name.0 ≡ begun_anew board.old.history name.0 }
-    requires slowest { kind_of board.old.history name.0 ≡ Some Channel → owed_to board.old.history from.0 ≡ stock board.old.history name.0 }
-    requires plan { IsPlan board.old.history plan.now.begins.items plan.now.fronts.items plan.now.messages.items }
-    ensures ok { OnOk result (Changes new.old new.new name.0 (stocked board.old.history name.0)) }
-    ensures err { IfErr result (StopsBefore new.old (begun_anew board.old.history name.0) (stocked board.old.history name.0)) }
+    requires begun { facts_of new.old.history name.0 ≡ begun_anew board.now.history name.0 }
+    requires slowest { kind_of board.now.history name.0 ≡ Some Channel → owed_to board.now.history from.0 ≡ stock board.now.history name.0 }
+    requires plan { IsPlan board.now.history plan.now.begins.items plan.now.fronts.items plan.now.messages.items }
+    ensures ok { OnOk result (Changes new.old new.new name.0 (stocked board.now.history name.0)) }
+    ensures err { IfErr result (StopsBefore new.old (begun_anew board.now.history name.0) (stocked board.now.history name.0)) }
     ensures whose { AllBy who new.old.history → AllBy who new.new.history }
-    ensures same { ShowsTheSame board.old board.new }
 {
     match board.kind(name) {
         Some(Kind::Mailbox) => send_owed(board, new, who, name),
@@ -121,9 +119,9 @@ fn share_all<M: Message, L: MessageLog<M>>(
     Ok(())
 }
 
-/// Sends what waits in this mailbox. If that is nothing, it opens no cursor, which would take memory.
+/// Sends what waits in this mailbox.
 fn send_owed<M: Message, L: MessageLog<M>>(
-    board: &mut Board<M, L>,
+    board: &Board<M, L>,
     new: &mut Board<M, L>,
     who: Who,
     mailbox: Name,
@@ -133,14 +131,10 @@ fn send_owed<M: Message, L: MessageLog<M>>(
     requires kind { kind_of new.old.history mailbox.0 ≡ Some Mailbox }
     requires empty { (facts_of new.old.history mailbox.0).sent ≡ [] }
     ensures ok { OnOk result (Changes new.old new.new mailbox.0
-        (record (facts_of new.old.history mailbox.0) { sent = owed_to board.old.history mailbox.0 })) }
-    ensures err { IfErr result (Stops new.old.limit (entries_in new.old.history + length (owed_to board.old.history mailbox.0))) }
+        (record (facts_of new.old.history mailbox.0) { sent = owed_to board.now.history mailbox.0 })) }
+    ensures err { IfErr result (Stops new.old.limit (entries_in new.old.history + length (owed_to board.now.history mailbox.0))) }
     ensures whose { AllBy who new.old.history → AllBy who new.new.history }
-    ensures same { ShowsTheSame board.old board.new }
 {
-    if owed(board, mailbox) == 0 {
-        return Ok(());
-    }
     match board.share_owed(mailbox) {
         Ok(messages) => give_all(new, who, mailbox, messages),
         Err(_) => Err(Refusal::NoMemory),

@@ -1,6 +1,5 @@
 //! Short journals: the entries of a compacted board.
 ghost use Rattle.std.specs.Prelude.{◌≡◌, ◌≤◌, ◌^◌, length, IfOk, IfErr};
-ghost use Rattle.cml_board.specs.{ShowsTheSame};
 ghost use Rattle.cml_compact.specs.{IsShortJournal, Stops, compact_size, last_seat};
 
 use crate::compacting::compact;
@@ -11,16 +10,15 @@ use std::alloc::Global;
 /// Returns the journal of a board that `compact` makes of this one, oldest entry first.
 pub fn short_journal<M: Message, L: MessageLog<M>>(
     alloc: Global,
-    board: &mut Board<M, L>,
+    board: &Board<M, L>,
     who: Who,
     limit: u64,
 ) -> Result<Vec<Entry<M>>, Refusal>
     requires least { 1 ≤ limit }
     requires most { limit ≤ 2 ^ 32 }
-    ensures ok { IfOk result (λ entries. IsShortJournal board.old who entries.items) }
+    ensures ok { IfOk result (λ entries. IsShortJournal board.now who entries.items) }
     ensures fits { IfOk result (λ entries. length entries.items ≤ limit) }
-    ensures err { IfErr result (Stops limit (compact_size board.old.history)) }
-    ensures same { ShowsTheSame board.old board.new }
+    ensures err { IfErr result (Stops limit (compact_size board.now.history)) }
 {
     let mut new = compact(alloc, board, who, limit)?;
     Ok(new.take_journal())
@@ -39,8 +37,8 @@ pub fn short_journal_of<M: Message, L: MessageLog<M>>(
     ensures fits { IfOk result (λ entries. length entries.items ≤ limit) }
     ensures err { IfErr result (Stops limit (compact_size restored.board.history)) }
 {
-    let (mut board, makers) = restored.into_parts();
-    short_journal(alloc, &mut board, last_seat(makers.seats), limit)
+    let (board, makers) = restored.into_parts();
+    short_journal(alloc, &board, last_seat(makers.seats), limit)
 }
 
 /// Returns the last of this many seats, or seat 0 if there is none. If it makes a short journal, the next seat has the number that

@@ -3,7 +3,7 @@ use Rattle.std.proofs.Common.{◌≡◌, ◌≢◌, ℕ, zero, suc, ◌<◌, ◌
 use Rattle.std.proofs.Common.{Option, Some, None, refl, sym, ap, ◌∙◌, arith, Result, Ok, Err}
 use Rattle.std.proofs.lemmas.Bool.{true≢false}
 use Rattle.std.proofs.lemmas.List.{length_push}
-use Rattle.std.specs.Prelude.{⊤, MatchResult}
+use Rattle.std.specs.Prelude.{⊤}
 use Rattle.cml_board.specs.{Refusal, Call, Entry, Applies}
 use Rattle.cml_board.specs.declared.outcome.Outcome.{Outcome}
 use Rattle.cml_board.specs.Shown.{Shown}
@@ -13,7 +13,7 @@ use Rattle.cml_board.specs.declared.entry.Reply.TheVariants.{Made}
 use Rattle.cml_board.specs.declared.outcome.Outcome.TheVariants.{Answered, WouldWait, Refused}
 use Rattle.cml_lanes.specs.{laned, fed, FloorShown, is_taken, is_open_lane, is_open_feed, OnPlace, is_barred, CutsAFloor, CutsOpenFloor}
 use Rattle.cml_lanes.specs.{FloorCall, Apply, Reserve, OpenLane, Drain, CloseLane, CloseCounted, DropLane, AbandonLane, OpenFeed, Pump}
-use Rattle.cml_lanes.specs.{EndFeed, Cut, TakeJournal, CutOpen, TakeJournalOpen, Compact, CompactAndCut, CutsShort, ShowsSameFloor}
+use Rattle.cml_lanes.specs.{EndFeed, Cut, TakeJournal, CutOpen, TakeJournalOpen}
 use Rattle.cml_lanes.specs.{AppliesSeat, IsCalled, AreCalled, Deed, as_it_was}
 use Rattle.cml_lanes.specs.{lane_drained, lane_gone, lane_opened, feed_pumped, feed_gone, feed_opened}
 use Rattle.cml_lanes.proofs.SlotsLemmas.{same_length}
@@ -170,14 +170,6 @@ module _ {M : Type 0} where
   cut_open_leaves : (old new : FloorShown M) → CutsOpenFloor old new → Leaves old new
   cut_open_leaves old new cut = none_leaves old new (untouched cut.lanes) (untouched cut.feeds) cut.board.history
 
-  shown_leaves : (old new : FloorShown M) → ShowsSameFloor old new → Leaves old new
-  shown_leaves old new same = none_leaves old new (untouched same.lanes) (untouched same.feeds) same.board.history
-
-  short_leaves : (old new : FloorShown M) (result : Result ⊤ Refusal)
-      → MatchResult result (λ _. CutsShort old new) (λ _. ShowsSameFloor old new) → Leaves old new
-  short_leaves old new (Ok done) cut = none_leaves old new (untouched cut.lanes) (untouched cut.feeds) cut.history
-  short_leaves old new (Err refusal) same = shown_leaves old new same
-
   -- each call does so
   call_leaves : (chunk : ℕ) (sure : Bool) (call : FloorCall M) (old new : FloorShown M) → IsCalled chunk sure call old new → Leaves old new
   call_leaves chunk sure (Apply seat call outcome) old new applies = record {
@@ -202,8 +194,6 @@ module _ {M : Type 0} where
   call_leaves chunk sure (TakeJournal result) old new told = cut_leaves old new result told
   call_leaves chunk sure CutOpen old new told = cut_open_leaves old new told.0
   call_leaves chunk sure TakeJournalOpen old new told = cut_open_leaves old new told
-  call_leaves chunk sure (Compact result) old new told = shown_leaves old new told
-  call_leaves chunk sure (CompactAndCut result) old new told = short_leaves old new result told
 
   -- over a run: of these places, and what the journal has of them
   run_lasts : {Side : Type 0} (slots : FloorShown M → List (Option Side)) (entries : List (Entry M) → ℕ → List M)

@@ -1,7 +1,7 @@
 -- What was reserved lasts over a run of a floor's calls.
 use Rattle.std.proofs.Common.{◌≡◌, ℕ, ◌+◌, ◌<◌, ◌≤◌, Bool, true, false, List, [], ◌∷◌, length, refl, subst, ap, ◌∙◌, arith, not, Result, Ok}
 use Rattle.std.proofs.Common.{Err}
-use Rattle.std.specs.Prelude.{⊤, MatchResult}
+use Rattle.std.specs.Prelude.{⊤}
 use Rattle.std.proofs.lemmas.Bool.{and_parts, false≢true}
 use Rattle.cml_board.specs.{Call, Entry, Who, Refusal, entries_in, IsSpared, IsAsBefore, Applies}
 use Rattle.cml_board.specs.declared.outcome.Outcome.{Outcome}
@@ -12,7 +12,7 @@ use Rattle.cml_board.specs.declared.outcome.Refusal.TheVariants.{NoMemory}
 use Rattle.cml_lanes.specs.{way_call, with_entries, Enters, FloorShown, is_barred, HoldsUp, Starves, added_since, TakesEntryAlone}
 use Rattle.cml_lanes.specs.{LaneTakesEntryAlone, FeedTakesEntryAlone, CutsAFloor, CutsOpenFloor, FloorCall, Apply, Reserve, OpenLane}
 use Rattle.cml_lanes.specs.{Drain, CloseLane, CloseCounted, DropLane, AbandonLane, OpenFeed, Pump, EndFeed, Cut, TakeJournal, CutOpen}
-use Rattle.cml_lanes.specs.{TakeJournalOpen, Compact, CompactAndCut, CutsShort, ShowsSameFloor, AppliesSeat, IsCalled, AreCalled}
+use Rattle.cml_lanes.specs.{TakeJournalOpen, AppliesSeat, IsCalled, AreCalled}
 use Rattle.cml_lanes.specs.{takes_journal, keeps_journal, Deed, as_it_was}
 use Rattle.cml_lanes.specs.{lane_drained, lane_gone, lane_opened, feed_pumped, feed_gone, feed_opened}
 use Rattle.cml_lanes.proofs.OneSlotLemmas.{stays_there}
@@ -99,21 +99,6 @@ module _ {M : Type 0} where
     kept = omega (arith, ap entries_in cut.board.history, kept);
   }
 
-  -- by a short journal, and by a cut with one
-  lasts_shown : (old new : FloorShown M) → ShowsSameFloor old new → Lasts old.board new.board
-  lasts_shown old new same = record {
-    grown = omega (arith, ap entries_in same.board.history);
-    kept = omega (arith, ap entries_in same.board.history, same.board.reserved);
-  }
-
-  lasts_short : (old new : FloorShown M) (result : Result ⊤ Refusal)
-      → MatchResult result (λ _. CutsShort old new) (λ _. ShowsSameFloor old new) → Lasts old.board new.board
-  lasts_short old new (Ok done) cut = record {
-    grown = omega (arith, ap entries_in cut.history);
-    kept = omega (arith, ap entries_in cut.history, cut.reserved);
-  }
-  lasts_short old new (Err refusal) same = lasts_shown old new same
-
   -- by one call
   lasts_once : (chunk : ℕ) (sure : Bool) (call : FloorCall M) (old new : FloorShown M) → not (takes_journal call) ≡ true
       → IsCalled chunk sure call old new → Lasts old.board new.board
@@ -136,8 +121,6 @@ module _ {M : Type 0} where
   lasts_once chunk sure (TakeJournal result) old new keeps told = absurd (false≢true keeps)
   lasts_once chunk sure CutOpen old new keeps told = lasts_cut_open old new told.0 told.1
   lasts_once chunk sure TakeJournalOpen old new keeps told = absurd (false≢true keeps)
-  lasts_once chunk sure (Compact result) old new keeps told = lasts_shown old new told
-  lasts_once chunk sure (CompactAndCut result) old new keeps told = lasts_short old new result told
 
   -- over a run
   pub lasts_all : (chunk : ℕ) (sure : Bool) (calls : List (FloorCall M)) (old new : FloorShown M) → AreCalled chunk sure calls old new

@@ -1,6 +1,6 @@
 -- What a cut does to a floor.
-use Rattle.std.specs.Prelude.{◌≡◌, ◌<◌, ◌≤◌, ◌⊎◌, Result, Ok, Err, ⊤, count_by, is_some}
-use Rattle.cml_board.specs.{Refusal, Cuts, ShowsTheSame}
+use Rattle.std.specs.Prelude.{◌≡◌, ◌<◌, ◌⊎◌, Result, Ok, Err, ⊤, count_by, is_some}
+use Rattle.cml_board.specs.{Refusal, Cuts}
 use Rattle.cml_board.specs.declared.outcome.Refusal.TheVariants.{Busy}
 use Rattle.cml_lanes.specs.Floor.{FloorShown}
 
@@ -33,19 +33,3 @@ module _ {M : Type 0} where
   abbrev pub CutsAFloor : FloorShown M → FloorShown M → Result ⊤ Refusal → Type 0
   CutsAFloor old new (Ok done) = CutsFloor old new
   CutsAFloor old new (Err refusal) = NotCut old new refusal
-
-  -- the board shows the same, and the lanes and feeds are unchanged
-  pub record ShowsSameFloor (old new : FloorShown M) : Type 0 where
-    pub board : ShowsTheSame old.board new.board
-    pub lanes : new.lanes ≡ old.lanes
-    pub feeds : new.feeds ≡ old.feeds
-
-  -- the whole journal was cut away once a short one was made. All that the history says is unchanged, and so are the limit, the lanes
-  -- and the feeds, whether or not any is open. No reserved memory is lost
-  pub record CutsShort (old new : FloorShown M) : Type 0 where
-    pub history : new.board.history ≡ old.board.history
-    pub past : new.board.past ≡ old.board.history
-    pub limit : new.board.limit ≡ old.board.limit
-    pub reserved : old.board.reserved ≤ new.board.reserved
-    pub lanes : new.lanes ≡ old.lanes
-    pub feeds : new.feeds ≡ old.feeds

@@ -32,7 +32,7 @@ pub use Slots.{DrainsUntil, EndsSlot, HasFeed, HasLane, HasPorts, LeavesAll, OnS
 pub use Feeds.{EndsFeed, FillsFeed, MakesPort, OpensAFeed, Pumps, Starves}
 pub use Deeds.{Deed, as_it_was, feed_gone, feed_opened, feed_pumped, lane_drained, lane_gone, lane_opened}
 pub use Reserving.{FeedTakesEntryAlone, IsFloorAsBefore, LaneTakesEntryAlone, Reserves, TakesEntryAlone, added_since}
-pub use Cutting.{CutsAFloor, CutsFloor, CutsOpenFloor, CutsShort, IsBusy, NotCut, ShowsSameFloor}
-pub use Steps.{AbandonLane, AppliesSeat, Apply, AreCalled, CloseCounted, CloseLane, Compact, CompactAndCut, Cut, CutOpen, Drain, DropLane}
+pub use Cutting.{CutsAFloor, CutsFloor, CutsOpenFloor, IsBusy, NotCut}
+pub use Steps.{AbandonLane, AppliesSeat, Apply, AreCalled, CloseCounted, CloseLane, Cut, CutOpen, Drain, DropLane}
 pub use Steps.{EndFeed, FloorCall, IsCalled, OpenFeed, OpenLane, Pump, Reserve, TakeJournal, TakeJournalOpen, keeps_journal, takes_journal}
 pub use declared.way.Way.{Way}

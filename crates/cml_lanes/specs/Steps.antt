@@ -1,5 +1,5 @@
 -- A run of a floor's calls.
-use Rattle.std.specs.Prelude.{ℕ, ◌≡◌, ◌≤◌, Bool, true, false, not, ◌&&◌, List, [], ◌∷◌, Option, Result, MatchResult, ⊤}
+use Rattle.std.specs.Prelude.{ℕ, ◌≡◌, ◌≤◌, Bool, true, false, not, ◌&&◌, List, [], ◌∷◌, Option, Result, ⊤}
 use Rattle.cml_board.specs.{Name, Call, Refusal, Applies}
 use Rattle.cml_board.specs.declared.outcome.Outcome.{Outcome}
 use Rattle.cml_board.specs.declared.entry.Who.TheVariants.{Seat}
@@ -11,7 +11,7 @@ use Rattle.cml_lanes.specs.Barring.{is_barred}
 use Rattle.cml_lanes.specs.Lanes.{OpensALane, Drains, Closes, ClosesCounted, Drops, Abandons}
 use Rattle.cml_lanes.specs.Feeds.{OpensAFeed, Pumps, Ends}
 use Rattle.cml_lanes.specs.Reserving.{Reserves}
-use Rattle.cml_lanes.specs.Cutting.{CutsAFloor, CutsOpenFloor, CutsShort, ShowsSameFloor}
+use Rattle.cml_lanes.specs.Cutting.{CutsAFloor, CutsOpenFloor}
 
 -- a call of a floor, what it was given, and what it told
 pub data FloorCall (M : Type 0) : Type 0 where
@@ -30,8 +30,6 @@ pub data FloorCall (M : Type 0) : Type 0 where
   TakeJournal : Result ⊤ Refusal → FloorCall M
   CutOpen : FloorCall M
   TakeJournalOpen : FloorCall M
-  Compact : Result ⊤ Refusal → FloorCall M
-  CompactAndCut : Result ⊤ Refusal → FloorCall M
 
 module _ {M : Type 0} where
   -- a seat's call: an open feed bars it, or this is what becomes of it on the board; no lane or feed is changed
@@ -58,8 +56,6 @@ module _ {M : Type 0} where
   IsCalled chunk sure (TakeJournal result) old new = CutsAFloor old new result
   IsCalled chunk sure CutOpen old new = CutsOpenFloor old new × (old.board.reserved ≤ new.board.reserved)
   IsCalled chunk sure TakeJournalOpen old new = CutsOpenFloor old new
-  IsCalled chunk sure (Compact result) old new = ShowsSameFloor old new
-  IsCalled chunk sure (CompactAndCut result) old new = MatchResult result (λ _. CutsShort old new) (λ _. ShowsSameFloor old new)
 
   -- the call hands the journal over, and with it the memory that stood reserved
   abbrev pub takes_journal : FloorCall M → Bool

@@ -7,7 +7,6 @@ ghost use Rattle.cml_board.specs.{no_entries, entries_in, lanes_of, feeds_of, Ap
 ghost use Rattle.cml_lanes.specs.{laned, is_open_lane, is_open_feed, stays, OnLane, KeepsLanes, KeepsFeeds, KeepsRings, IsOfRing, GivesAll};
 ghost use Rattle.cml_lanes.specs.{DrainsUntil, is_barred, Reserves, CutsAFloor, CutsFloor, CutsOpenFloor, NotCut, IsBusy};
 
-mod compacting;
 mod feeds;
 mod lanes;
 

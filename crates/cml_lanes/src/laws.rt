@@ -26,8 +26,8 @@ pub fn ended_feeds_get_no_entry<M>()
 
 /// Shows that over a run of calls on a floor only added entries use up reserved memory, one each. Suppose that fewer entries
 /// were added than were reserved, and that only the next entry needs memory. Then no seat's call fails for want of memory,
-/// and no lane or feed stops. `take_journal` hands the reserved memory over; a cut and a compaction keep it. `HoldsUp` and
-/// `Starves` say what a failed `drain` and a failed `pump` do.
+/// and no lane or feed stops. `take_journal` hands the reserved memory over; a cut keeps it. `HoldsUp` and `Starves` say what
+/// a failed `drain` and a failed `pump` do.
 pub fn reserved_lasts_on_a_floor<M>()
     ensures lasts { (chunk : ℕ) (sure : Bool) (calls : List (FloorCall M)) (old new : FloorShown M)
         → AreCalled chunk sure calls old new

@@ -1,7 +1,3 @@
-use Rattle.std.proofs.Common.{length, subst, ◌∙◌}
-use Rattle.cml_board.specs.{made}
-use Rattle.cml_compact.specs.{settled}
-use Rattle.cml_compact.specs.Stepping.{Reaches}
 use Rattle.cml_compact.proofs.StagesLemmas.{all_by_none}
 use Rattle.cml_compact.proofs.SettlingLemmas.{compacts_told}
 use Rattle.cml_compact.proofs.compacting.compact.Goals as goal
@@ -9,8 +5,7 @@ use Rattle.cml_compact.proofs.compacting.compact.Goals as goal
 pub returns-clause-ok : goal.returns-clause-ok
 returns-clause-ok g c =
     compacts_told c.args.board.now c.send_all.new.new.limit c.settle_all.new.new c.facts.ensures.sound.lawful
-    (subst (λ h. Reaches c.send_all.new.new.limit c.settle_all.new.new (length (made h)) (settled h))
-    (c.send_all.ensures.same.history ∙ c.plan_of.ensures.same.history) c.in_ok-settle_all.ensures.ok)
+    c.in_ok-settle_all.ensures.ok
 
 pub returns-clause-whose : goal.returns-clause-whose
 returns-clause-whose g c =

@@ -1,9 +1,5 @@
 use Rattle.std.proofs.Common.{◌≡◌, ◌++◌}
-use Rattle.cml_board.specs.{ShowsTheSame}
 use Rattle.cml_compact.proofs.planning.add_owed.Given as goal
 
 abbrev pub invariant-loop-message : goal.invariant-loop-message
-invariant-loop-message g l = record {
-  items : l.messages.items ≡ l.fn.messages.items ++ l.yielded;
-  same : ShowsTheSame l.fn.board l.board;
-}
+invariant-loop-message g l = l.messages.items ≡ l.fn.messages.items ++ l.yielded

@@ -1,11 +1,10 @@
-use Rattle.std.proofs.Common.{◌+◌, ◌-◌, ap, subst, arith}
+use Rattle.std.proofs.Common.{◌+◌, ◌-◌, arith}
 use Rattle.std.proofs.lemmas.Result.{err_from_is_err_and}
 use Rattle.cml_board.specs.{entries_in}
 use Rattle.cml_compact.specs.{begun_anew, compact_size, stocked}
 use Rattle.cml_compact.specs.Stages.{weight}
-use Rattle.cml_compact.specs.Stepping.{Changes}
 use Rattle.cml_compact.proofs.AnewLemmas.{halfway_next, stops_more}
-use Rattle.cml_compact.proofs.StagesLemmas.{half_more, stocked_less, stocked_more, same_twice}
+use Rattle.cml_compact.proofs.StagesLemmas.{half_more, stocked_less, stocked_more}
 use Rattle.cml_compact.proofs.sending.send_all.Goals as goal
 
 pub returns-in_err-send_one-clause-err : goal.returns-in_err-send_one-clause-err
@@ -15,13 +14,9 @@ returns-in_err-send_one-clause-err g c =
     let p = err_from_is_err_and c.from_residual.result c.from_residual.ensures.1 in
     let more = half_more _ _ name c.loop-name.new (begun_anew h) (stocked h) c.loop-name.invariant.half
     (omega (arith, c.loop-name-test.true, c.object_count-name-end.ensures)) (stocked_more h) in
-    let now = c.loop-name.board.history in
-    let one = ap (λ history. weight (begun_anew history name)) c.loop-name.invariant.same.history in
-    let two = ap (λ history. weight (stocked history name)) c.loop-name.invariant.same.history in
     rw (p.1, p.2) (stops_more c.loop-name.new.limit c.args.new.now.limit
-    (entries_in c.loop-name.new.history + (weight (stocked now name) - weight (begun_anew now name))) (compact_size h)
-    c.in_err-send_one.field-0.0 c.loop-name.invariant.half.limit (omega (arith, more, one, two, stocked_less h))
-    c.in_err-send_one.ensures.err)
+    (entries_in c.loop-name.new.history + (weight (stocked h name) - weight (begun_anew h name))) (compact_size h)
+    c.in_err-send_one.field-0.0 c.loop-name.invariant.half.limit (omega (arith, more, stocked_less h)) c.in_err-send_one.ensures.err)
 
 pub loop-name-preserved : goal.loop-name-preserved
 loop-name-preserved g c =
@@ -29,9 +24,6 @@ loop-name-preserved g c =
     record {
       half =
           halfway_next _ c.loop-name.new c.send_one.new.new _ c.loop-name.name (begun_anew h) (stocked h) c.loop-name.invariant.half
-          (omega (arith, c.loop-name-test.true, c.object_count-name-end.ensures))
-          (subst (λ history. Changes c.loop-name.new c.send_one.new.new c.loop-name.name (stocked history c.loop-name.name))
-          c.loop-name.invariant.same.history c.in_ok-send_one.ensures.ok);
-      same = same_twice c.args.board.now c.loop-name.board c.send_one.new.board c.loop-name.invariant.same c.send_one.ensures.same;
+          (omega (arith, c.loop-name-test.true, c.object_count-name-end.ensures)) c.in_ok-send_one.ensures.ok;
       whose = λ before. c.in_ok-send_one.ensures.whose (c.loop-name.invariant.whose before);
     }

@@ -1,5 +1,5 @@
 use Rattle.std.proofs.Common.{length}
-use Rattle.cml_board.specs.{ShowsTheSame, made}
+use Rattle.cml_board.specs.{made}
 use Rattle.cml_compact.specs.{AllBy, begun_anew, stocked}
 use Rattle.cml_compact.specs.Stepping.{Halfway}
 use Rattle.cml_compact.proofs.sending.send_all.Given as goal
@@ -9,6 +9,5 @@ invariant-loop-name g l =
     let h = l.fn.board.history in
     record {
       half : Halfway l.fn.new.limit l.new (length (made h)) l.name (begun_anew h) (stocked h);
-      same : ShowsTheSame l.fn.board l.board;
       whose : AllBy l.who l.fn.new.history → AllBy l.who l.new.history;
     }
