@@ -23,8 +23,8 @@ use Rattle.cml.proofs.CommandWordsLemmas.{help_alone}
 use Rattle.cml.proofs.CommandWordsLemmas.{holding, limit_parser, limited, long_help, neither, none_of_both, same_or_other}
 use Rattle.cml.proofs.CommandWordsLemmas.{some_kind, turn_of, uses_of}
 use Rattle.clap.specs.Lexer.{long_of, short_of}
-use Rattle.cml_script.specs.{Form}
-use Rattle.cml_script.specs.declared.form.Form.TheVariants.{Report, Journal}
+use Rattle.cml_report.specs.{Form}
+use Rattle.cml_report.specs.declared.form.Form.TheVariants.{Report, Journal}
 use Rattle.clap.proofs.KindLemmas.{value_kinds-ok}
 
 -- the program's own level of words

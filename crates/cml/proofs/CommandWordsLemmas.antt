@@ -19,7 +19,7 @@ use Rattle.clap.specs.declared.builder.value_parser.ValueParser.{ValueParser}
 use Rattle.clap.specs.declared.builder.value_parser.ValueParser.TheVariants as parser
 use Rattle.clap.proofs.ValueTestLemmas.{accepts-Accepts}
 use Rattle.cml.specs.{AreOfUse, AreUses, Flag, IsLimitOption, Limit, Use, flag_rule, given_by, limit_rule, state_by}
-use Rattle.cml_script.specs.{Form}
+use Rattle.cml_report.specs.{Form}
 
 pub some_kind : (k : ErrorKind) (ks : Kinds) → k ∷ ks ≡ [] → ⊥
 some_kind k ks none = cc

@@ -7,8 +7,8 @@ use Rattle.clap.specs.Simple.{on_top}
 use Rattle.clap.specs.declared.error.Error.{Error}
 use Rattle.clap.specs.declared.builder.value_parser.ValueParser.TheVariants as parser
 use Rattle.clap.specs.declared.builder.action.ArgAction.TheVariants.{SetTrue}
-use Rattle.cml_script.specs.{Form}
-use Rattle.cml_script.specs.declared.form.Form.TheVariants.{Report, Journal}
+use Rattle.cml_report.specs.{Form}
+use Rattle.cml_report.specs.declared.form.Form.TheVariants.{Report, Journal}
 use Rattle.cml.specs.declared.asked.Order.{Order}
 use Rattle.cml.specs.declared.asked.Order.TheVariants as order
 

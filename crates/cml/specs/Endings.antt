@@ -1,8 +1,8 @@
 -- The exit status of an ending, and whether standard error shows it.
 use Rattle.std.specs.Prelude.{ℕ, Bool, true, false}
-use Rattle.cml_script.specs.Endings as script
+use Rattle.cml_report.specs.Endings as script
 use Rattle.cml_script.specs.{Ending as ScriptEnding}
-use Rattle.cml_script.specs.declared.ending.Ending.TheVariants as ended
+use Rattle.cml_report.specs.declared.ending.Ending.TheVariants as ended
 use Rattle.cml_explore.specs.Endings as explored
 use Rattle.cml_explore.specs.{Ending as ExploredEnding}
 use Rattle.cml_explore.specs.declared.ending.Ending.TheVariants.{Script, TooMany}

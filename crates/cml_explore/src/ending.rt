@@ -3,7 +3,7 @@ ghost use Rattle.std.specs.Prelude.{◌≡◌};
 ghost use Rattle.cml_explore.specs.Endings.{status};
 
 use cml_grammar::{Fault, Unread};
-use cml_script::Ending as Ended;
+use cml_report::Ending as Ended;
 use std::alloc::{AllocError, AllocFailed};
 use thiserror::Error;
 
@@ -55,7 +55,7 @@ impl Ending {
         ensures { result ≡ status self.now }
     {
         match self {
-            Ending::Script(ended) => cml_script::status_of(ended),
+            Ending::Script(ended) => cml_report::status_of(ended),
             Ending::TooMany(_) => 8,
         }
     }

@@ -6,7 +6,7 @@ use crate::reading::read;
 use crate::search::Search;
 use crate::telling::{tell_all, tell_journal};
 use cml_grammar::Script;
-use cml_script::{Ending as Ended, Form, Plan};
+use cml_report::{Ending as Ended, Form, Plan};
 use std::alloc::Global;
 use std::io::{Read, Write};
 

@@ -1,7 +1,7 @@
 //! The endings that were found.
 
 use crate::walk::Walk;
-use cml_script::{Ending as Ended, Stop};
+use cml_report::{Ending as Ended, Stop};
 use indexmap::IndexMap;
 use std::alloc::{AllocError, Global};
 

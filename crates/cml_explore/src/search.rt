@@ -4,7 +4,7 @@ use crate::found::{Found, Leaf};
 use crate::key::key_of;
 use crate::states::{States, Step};
 use crate::walk::Walk;
-use cml_script::{Ending as Ended, Plan};
+use cml_report::{Ending as Ended, Plan};
 use std::alloc::{AllocError, Global};
 
 /// The most steps that lead on from a state: a script has no more threads.

@@ -6,7 +6,7 @@ use crate::search::Search;
 use crate::walk::Walk;
 use cml_grammar::write_whole;
 use cml_journal::{ScriptWords, add_piece_in};
-use cml_script::{Ending as Ended, Stop};
+use cml_report::{Ending as Ended, Stop};
 use std::alloc::{AllocError, Global};
 use std::io::Write;
 

@@ -1,15 +1,14 @@
 //! A script under way, of which any thread may take its next step.
 ghost use Rattle.std.specs.Prelude.{◌≡◌, ◌↔◌, IfOk, IsTrue, string_bytes};
 ghost use Rattle.cml_board.specs.{no_entries};
-ghost use Rattle.cml_script.specs.{IsReportOf, no_rings};
+ghost use Rattle.cml_report.specs.{IsReportOf, no_rings};
 
-use cml_board::{Board, BoardLog, Call, Name, Refusal, Reply, Response, Text, Want, Who};
-use cml_grammar::{Action, Makes, Named, Script, Step};
-use cml_script::{Ending as Ended, Plan, Played, Stop, Tally, conclude};
+use cml_board::{Board, BoardLog, Call, Name, Refusal, Reply, Response, Text, Who};
+use cml_grammar::{Makes, Named, Script, Step};
+use cml_report::{
+    Ending as Ended, Plan, Played, Stop, THREADS, Tally, call_on, conclude, used_by, want_on,
+};
 use std::alloc::{AllocError, Global};
-
-/// How many threads a script may have.
-const THREADS: usize = 64;
 
 /// How many entries the journal takes, as without `--limit` in a replay.
 const LIMIT: u64 = 65_536;
@@ -270,29 +269,6 @@ fn count_threads(script: &Script) -> usize {
         }
     }
     threads
-}
-
-/// The position of the name that a step uses.
-fn used_by(action: &Action) -> usize {
-    match action {
-        Action::Give(_, at, _) | Action::Ask(_, at) => *at,
-    }
-}
-
-/// The call of a step on this object.
-fn call_on(action: &Action, object: Name) -> Result<Call<Text>, AllocError> {
-    match action {
-        Action::Give(give, _, message) => Ok(Call::give(*give, object, message.clone()?)),
-        Action::Ask(ask, _) => Ok(Call::ask(*ask, object)),
-    }
-}
-
-/// What that call waits for, if it may wait.
-fn want_on(action: &Action, object: Name) -> Option<Want> {
-    match action {
-        Action::Give(give, _, _) => Call::give(*give, object, ()).want(),
-        Action::Ask(ask, _) => Call::<()>::ask(*ask, object).want(),
-    }
 }
 
 /// The object that a reply gives the name of a step on an object: the one that was made, or the closed port itself.

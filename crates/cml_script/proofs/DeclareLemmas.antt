@@ -14,15 +14,16 @@ use Rattle.cml_board.specs.declared.entry.Reply.TheVariants as reply
 use Rattle.cml_grammar.specs.{Makes, FeedMaking, Declaration, Given, makes_feed, SourceLine, Lines, names_of, makes_of, source_of}
 use Rattle.cml_grammar.specs.{GivesNames, ReadsDeclaration, IsMadeWell}
 use Rattle.cml_grammar.specs.declared.forms.Makes.TheVariants as makes
-use Rattle.cml_script.specs.{one_if, how_many, History, declared_count, objects_of, number_of, maker, is_object, is_feed, makes_object}
-use Rattle.cml_script.specs.{IsDeclaration, IsOfCaller, IsOfScript, IsKnown, IsMadeOfDeclared, Executed, IsNext, IsNextObject, IsNextPort}
+use Rattle.cml_report.specs.{one_if, how_many, History, declared_count, objects_of, number_of, maker, is_object, is_feed, makes_object}
+use Rattle.cml_report.specs.{IsDeclaration, IsOfCaller, IsOfScript, IsKnown}
+use Rattle.cml_replay.specs.{Executed, IsNext, IsNextObject, IsNextPort}
 use Rattle.cml_script.specs.{Made, with_call, with_feed, is_of_feed, with_refused, BeginsAt, capacity_made, feed_capacity, AreOpened}
 use Rattle.cml_script.specs.{Declares, HasCapacity, HasMade, making}
-use Rattle.cml_script.proofs.ListLemmas.{count_taken, filter_at, read_at, taken_all, told_more}
-use Rattle.cml_script.proofs.LineLemmas.{declaration_object, declaration_feed, declaration_read}
-use Rattle.cml_script.proofs.KindLemmas.{next_object}
-use Rattle.cml_script.proofs.StandLemmas.{declared_is}
-use Rattle.cml_script.proofs.ObjectLemmas.{feeds_before}
+use Rattle.cml_report.proofs.ListLemmas.{count_taken, filter_at, read_at, taken_all, told_more}
+use Rattle.cml_report.proofs.LineLemmas.{declaration_object, declaration_feed, declaration_read}
+use Rattle.cml_replay.proofs.MakingLemmas.{next_object}
+use Rattle.cml_report.proofs.KeptLemmas.{declared_is}
+use Rattle.cml_report.proofs.ObjectLemmas.{feeds_before}
 
 -- what is kept is so of what was made
 pub record IsDeclaring (script : Lines) (i : ℕ) (made : Option Made) : Type 0 where
@@ -223,14 +224,7 @@ read_of_plan script shown items i d same lines reads gives within is =
     } in
     subst (λ (s : Lines). IsReadAt s i d) same told
 
--- what is made well is made of declared names
-pub well_declared : (script : Lines) (i : ℕ) (m : Makes) → i < length script.declarations
-    → IsMadeWell (names_of script) i m → IsMadeOfDeclared script m
-well_declared script i (makes.Port channel) lt well = omega (arith, lt, well.1)
-well_declared script i (makes.Feed feed) lt well = omega (arith, lt, well.1)
-well_declared script i m lt well = tt
-
--- and a feed has room
+-- a feed that is made well has room
 pub well_fitted : (names : List Given) (i : ℕ) (m : Makes) → IsMadeWell names i m → HasCapacity m
 well_fitted names i (makes.Feed feed) well = well.3
 well_fitted names i m well = tt

@@ -3,8 +3,9 @@ use Rattle.std.proofs.Common.{◌≡◌, Result, Ok, Err, sym, ◌∙◌}
 use Rattle.std.specs.Prelude.{◌≢◌, IfOk}
 use Rattle.cml_board.specs.{Refusal}
 use Rattle.cml_board.specs.declared.outcome.Refusal.TheVariants as refusal
-use Rattle.cml_script.specs.{Stop, Played, Ending, IsUnheld, stop_of}
-use Rattle.cml_script.specs.declared.stop.Stop.TheVariants.{Held}
+use Rattle.cml_report.specs.{Stop, Played, Ending}
+use Rattle.cml_script.specs.{IsUnheld, stop_of}
+use Rattle.cml_report.specs.declared.stop.Stop.TheVariants.{Held}
 
 -- no refusal is a hold
 pub stop_unheld : (r : Refusal) → IsUnheld (stop_of r)

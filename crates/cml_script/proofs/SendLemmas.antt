@@ -11,12 +11,13 @@ use Rattle.cml_calls.specs.declared.table.Give.TheVariants as give
 use Rattle.cml_calls.specs.declared.table.Ask.TheVariants as ask
 use Rattle.cml_grammar.specs.{Action, Step, SourceLine, Lines, names_of, action_of, seat_of_step, source_of, ReadsStep, UsesWell}
 use Rattle.cml_grammar.specs.declared.forms.Action.TheVariants as action
-use Rattle.cml_script.specs.declared.route.Route.TheVariants as route
-use Rattle.cml_script.specs.{feed_route, feed_at, route_of, route_of_line, by_feed, act_of, act_of_line, IsKnown, IsObjectAt, route_at}
-use Rattle.cml_script.proofs.ListLemmas.{mapped_at}
-use Rattle.cml_script.proofs.LineLemmas.{all_at, step_route}
-use Rattle.cml_script.proofs.FitLemmas.{used_taker}
-use Rattle.cml_script.proofs.UseLemmas.{given_port}
+use Rattle.cml_report.specs.declared.route.Route.TheVariants as route
+use Rattle.cml_report.specs.{feed_route, feed_at, route_of, route_of_line, IsKnown, IsObjectAt, route_at}
+use Rattle.cml_script.specs.{by_feed, act_of, act_of_line}
+use Rattle.cml_report.proofs.ListLemmas.{mapped_at}
+use Rattle.cml_report.proofs.LineLemmas.{all_at, step_route}
+use Rattle.cml_report.proofs.FitLemmas.{used_taker}
+use Rattle.cml_report.proofs.UseLemmas.{given_port}
 
 no_lane : (o : Option ℕ) (capacity : ℕ) → feed_route o ≡ route.Lane capacity → ⊥
 no_lane None capacity e = cc

@@ -4,12 +4,12 @@ use Rattle.std.proofs.Common.{Option, Some, None, inl, inr, refl, sym, ap, ◌�
 use Rattle.std.proofs.lemmas.List.{take_all}
 use Rattle.std.proofs.lemmas.Bool.{and_parts, false≢true, cases_lt}
 use Rattle.cml_grammar.specs.{SourceLine, Lines}
-use Rattle.cml_script.specs.declared.running.worker.Course.{Course}
-use Rattle.cml_script.specs.{one_if, how_many, is_seated, is_called, is_apart, positions_where, goes_apart, Made, IsTurn, IsUnderWay}
-use Rattle.cml_script.specs.{HasTaken}
-use Rattle.cml_script.proofs.ListLemmas.{how_many-le, count_taken, taken_all, taken_count}
-use Rattle.cml_script.proofs.LineLemmas.{none_within, called_seated}
-use Rattle.cml_script.proofs.QueueLemmas.{positions_count, position_is}
+use Rattle.cml_script.specs.declared.worker.Course.{Course}
+use Rattle.cml_report.specs.{one_if, how_many, is_seated, is_called, is_apart, positions_where}
+use Rattle.cml_script.specs.{goes_apart, Made, IsTurn, IsUnderWay, HasTaken}
+use Rattle.cml_report.proofs.ListLemmas.{how_many-le, count_taken, taken_all, taken_count}
+use Rattle.cml_report.proofs.LineLemmas.{none_within, called_seated}
+use Rattle.cml_report.proofs.QueueLemmas.{positions_count, position_is}
 use Rattle.cml_script.proofs.WorkLemmas.{turn_within}
 
 -- of the items between two places, no more pass the narrower test

@@ -13,23 +13,22 @@ use Rattle.cml_board.specs.declared.entry.Who.TheVariants.{Seat}
 use Rattle.cml_board.specs.declared.entry.Reply.TheVariants as reply
 use Rattle.cml_threads.specs.{suits}
 use Rattle.cml_grammar.specs.{Step, Lines, names_of, source_of, ReadsStep, UsesEarlier, used_by}
-use Rattle.cml_script.specs.{Stop, Route, one_if, History, declared_count, maker, performed, is_seat, is_called, is_by_ring, route_of_line}
-use Rattle.cml_script.specs.{earlier, next_position, given_by, step_call, bound_by, binding_of, port_bound, goes_apart, earlier_apart}
-use Rattle.cml_script.specs.{act_of_line, is_of_thread, IsKnown, HasSeats, AsksForPorts, route_at, AreBindings, with_binding, Made}
-use Rattle.cml_script.specs.{with_call, with_apart, with_closed, waits, MayCall, BeginsAt, AreBySeat, AreByMakers, IsOpening, AreNextSteps}
-use Rattle.cml_script.specs.{IsTurn, IsUnrefused, IsStop, Works, with_refused, stop_of, ending_with, closed_if, IsRefusedSo, AreSuiting}
-use Rattle.cml_script.specs.{IsUnderWay, HasTaken}
-use Rattle.cml_script.specs.declared.running.worker.Course.{Course}
-use Rattle.cml_script.specs.Apart.{Apart}
-use Rattle.cml_script.specs.declared.binding.Binding.TheVariants as binding
-use Rattle.cml_script.specs.declared.route.Route.TheVariants as route
-use Rattle.cml_script.specs.Apart.{is_by_lane}
-use Rattle.cml_script.proofs.ListLemmas.{how_many-le, count_taken, taken_all, told_more}
-use Rattle.cml_script.proofs.GivingLemmas.{giver, next_at, none_other}
-use Rattle.cml_script.proofs.BindingLemmas.{AreSteps, asks_port, bound_more, maker_is_none, none_seated}
-use Rattle.cml_script.proofs.StandLemmas.{bindings_more}
-use Rattle.cml_script.proofs.UseLemmas.{used_stands_for}
-use Rattle.cml_script.proofs.FollowerLemmas.{named, step_calls}
+use Rattle.cml_report.specs.{Stop, Route, one_if, History, declared_count, maker, performed, is_seat, is_called, is_by_ring, route_of_line}
+use Rattle.cml_report.specs.{earlier, next_position, given_by, step_call, bound_by, binding_of, port_bound, is_of_thread, IsKnown}
+use Rattle.cml_report.specs.{HasSeats, AsksForPorts, route_at, AreBindings, with_binding}
+use Rattle.cml_script.specs.{goes_apart, earlier_apart, act_of_line, Made, with_call, with_apart, with_closed, waits, MayCall, BeginsAt}
+use Rattle.cml_script.specs.{AreBySeat, AreByMakers, IsOpening, AreNextSteps, IsTurn, IsUnrefused, IsStop, Works, with_refused, stop_of}
+use Rattle.cml_script.specs.{ending_with, closed_if, IsRefusedSo, AreSuiting, IsUnderWay, HasTaken}
+use Rattle.cml_script.specs.declared.worker.Course.{Course}
+use Rattle.cml_script.specs.Apart.{Apart, is_by_lane}
+use Rattle.cml_report.specs.declared.binding.Binding.TheVariants as binding
+use Rattle.cml_report.specs.declared.route.Route.TheVariants as route
+use Rattle.cml_report.proofs.ListLemmas.{how_many-le, count_taken, taken_all, told_more}
+use Rattle.cml_report.proofs.GivingLemmas.{giver, next_at, none_other}
+use Rattle.cml_report.proofs.BindingLemmas.{AreSteps, asks_port, bound_more, maker_is_none, none_seated}
+use Rattle.cml_report.proofs.KeptLemmas.{bindings_more}
+use Rattle.cml_report.proofs.UseLemmas.{used_stands_for}
+use Rattle.cml_report.proofs.FollowerLemmas.{named, step_calls}
 
 -- An opening.
 

@@ -4,10 +4,10 @@ use Rattle.std.specs.Option.{option_and_then}
 use Rattle.cml_board.specs.{Name}
 use Rattle.cml_grammar.specs.{Action, SourceLine, Lines, names_of, action_of}
 use Rattle.cml_grammar.specs.declared.forms.Action.TheVariants as action
-use Rattle.cml_script.specs.declared.route.Route.{Route}
-use Rattle.cml_script.specs.declared.route.Route.TheVariants as route
-use Rattle.cml_script.specs.Counting.{how_many}
-use Rattle.cml_script.specs.Schedule.{number_of, is_seated, is_apart, route_of_line}
+use Rattle.cml_report.specs.declared.route.Route.{Route}
+use Rattle.cml_report.specs.declared.route.Route.TheVariants as route
+use Rattle.cml_report.specs.Counting.{how_many}
+use Rattle.cml_report.specs.Schedule.{number_of, is_seated, is_apart, route_of_line}
 
 -- a message sent by the lane to this object, which has room for this many, or a poll of the feed of this number
 pub data Apart : Type 0 where

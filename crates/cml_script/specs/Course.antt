@@ -4,14 +4,14 @@ use Rattle.std.specs.Option.{option_map}
 use Rattle.cml_board.specs.{Refusal, entries_in}
 use Rattle.cml_threads.specs.{suits}
 use Rattle.cml_grammar.specs.{Lines}
-use Rattle.cml_script.specs.declared.running.worker.Course.{Course}
-use Rattle.cml_script.specs.declared.running.worker.Turn.{Turn}
-use Rattle.cml_script.specs.Counting.{how_many}
-use Rattle.cml_script.specs.Schedule.{History, declared_count, is_seated, earlier}
+use Rattle.cml_script.specs.declared.worker.Course.{Course}
+use Rattle.cml_script.specs.declared.worker.Turn.{Turn}
+use Rattle.cml_report.specs.Counting.{how_many}
+use Rattle.cml_report.specs.Schedule.{History, declared_count, is_seated, earlier}
 use Rattle.cml_script.specs.Apart.{Apart, AreNextApart, earlier_apart}
-use Rattle.cml_script.specs.Bindings.{AreBindings}
+use Rattle.cml_report.specs.Bindings.{AreBindings}
 use Rattle.cml_script.specs.Working.{Made, with_closed, with_refused, IsOpening, IsTurn, AreBySeat, AreNextSteps}
-use Rattle.cml_script.specs.Plan.{IsKnown}
+use Rattle.cml_report.specs.Plan.{IsKnown}
 
 -- all its lanes are closed, if any are to be
 abbrev pub closed_if : Bool → Option Made → Option Made

@@ -4,7 +4,7 @@ use Rattle.std.specs.Option.{option_map}
 use Rattle.cml_board.specs.{Name, Call, Reply}
 use Rattle.cml_grammar.specs.{Lines, Makes, IsCapacity}
 use Rattle.cml_grammar.specs.declared.forms.Makes.TheVariants as makes
-use Rattle.cml_script.specs.Schedule.{number_of, making_call}
+use Rattle.cml_report.specs.Schedule.{number_of, making_call}
 use Rattle.cml_script.specs.Working.{Made, with_call, with_feed}
 
 -- the call that makes this, where each declared object has the number of its declaration among them

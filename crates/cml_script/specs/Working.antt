@@ -11,12 +11,12 @@ use Rattle.cml_board.specs.declared.entry.Reply.TheVariants as reply
 use Rattle.cml_board.specs.declared.outcome.Refusal.TheVariants.{JournalFull, NoMemory}
 use Rattle.cml_grammar.specs.{SourceLine, Lines, names_of, makes_of, Makes}
 use Rattle.cml_grammar.specs.declared.forms.Makes.TheVariants as makes
-use Rattle.cml_script.specs.declared.stop.Stop.{Stop}
-use Rattle.cml_script.specs.declared.stop.Stop.TheVariants.{Done, Stalled, Full, Held}
-use Rattle.cml_script.specs.Counting.{how_many}
-use Rattle.cml_script.specs.Schedule.{History, declared_count, is_feed, maker, is_seated, earlier}
+use Rattle.cml_report.specs.declared.stop.Stop.{Stop}
+use Rattle.cml_report.specs.declared.stop.Stop.TheVariants.{Done, Stalled, Full, Held}
+use Rattle.cml_report.specs.Counting.{how_many}
+use Rattle.cml_report.specs.Schedule.{History, declared_count, is_feed, maker, is_seated, earlier}
 use Rattle.cml_script.specs.Apart.{Apart, is_by_lane, AreNextApart, earlier_apart}
-use Rattle.cml_script.specs.Audit.{IsNextOfThread, IsOfScript}
+use Rattle.cml_report.specs.Audit.{IsNextOfThread, IsOfScript}
 
 -- What a caller made.
 

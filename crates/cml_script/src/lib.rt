@@ -1,45 +1,26 @@
-//! Scripts of threads, replayed on one board or run on a switchboard, and their reports.
+//! Scripts of threads, run by threads of the system on a switchboard. What needs no thread is that of `cml_report` and
+//! `cml_replay`.
 #![tactic(auto)]
 
-mod auditing;
-mod binding;
-mod calls;
-mod ending;
-mod execution;
-mod follower;
-mod form;
-mod laws;
-mod objects;
-mod perform;
-mod plan;
-mod ran;
-mod read;
-mod replaying;
-mod report;
-mod route;
+mod caller;
+mod declaring;
+mod gate;
+mod rings;
 mod running;
-mod snapshot;
-mod stop;
-mod tally;
-mod verdict;
-mod whole;
-mod writing;
+mod worker;
+mod workers;
 
-pub use auditing::audit;
+pub use caller::{Caller, Seated};
 pub use cml_grammar::{Fault, Script, What, read_script};
-pub use ending::{Ending, status_of};
-pub use form::Form;
-pub use laws::{
-    reports_tell_what_is_left, schedules_are_one, scripts_have_a_schedule, stalled_threads_wait,
+pub use cml_replay::{
+    play, replay, replay_journal, replay_text, reports_tell_what_is_left, schedules_are_one,
+    scripts_have_a_schedule, stalled_threads_wait,
 };
-pub use perform::{Played, play};
-pub use plan::Plan;
-pub use replaying::{replay, replay_journal, replay_text};
-pub use route::Route;
-pub use running::{
-    Caller, Ended, Gate, OpenGate, Seated, conclude, declare, perform_in_threads, run, run_journal,
-    work,
+pub use cml_report::{
+    Ending, Form, Plan, Played, Route, Stop, Tally, Verdict, audit, conclude, status_of,
 };
-pub use stop::Stop;
-pub use tally::Tally;
-pub use verdict::Verdict;
+pub use declaring::declare;
+pub use gate::{Gate, OpenGate};
+pub use running::{run, run_journal};
+pub use worker::work;
+pub use workers::{Ended, perform_in_threads};

@@ -1,42 +1,22 @@
 //! A script whose threads are real threads, from the reader's bytes to those of its report or its journal.
 ghost use Rattle.std.specs.Prelude.{◌≡◌, ◌≢◌, ◌↔◌, ◌≤◌, ◌^◌, true, IsTrue, IfOk, IfErr, string_bytes};
-ghost use Rattle.cml_script.specs.{AreAll, IsRunText, IsTextOf, IsUnsettled, IsUntold, IsOfRun, EndsUntold, Runs, RunsAs, RunsJournal};
+ghost use Rattle.cml_report.specs.{AreAll, IsTextOf};
+ghost use Rattle.cml_script.specs.{IsRunText, IsUnsettled, IsUntold, IsOfRun, EndsUntold, Runs, RunsAs, RunsJournal};
 
-mod caller;
-mod concluding;
-mod declaring;
-mod gate;
-mod lanes;
-mod rings;
-mod stalling;
-mod worker;
-mod workers;
-
-use crate::ending::Ending;
-use crate::form::Form;
-use crate::perform::Played;
-use crate::plan::Plan;
-use crate::ran::Ran;
-use crate::read::read_all;
-use crate::stop::Stop;
-use crate::tally::Tally;
-use crate::writing::write_played;
-pub use caller::{Caller, Seated};
+use crate::gate::Gate;
+use crate::workers::perform_in_threads;
 use cml_board::{Board, BoardLog, Text};
 use cml_grammar::{Script, read_script};
+use cml_report::{
+    Ending, Form, Plan, Played, Ran, Stop, Tally, conclude_as, read_all, write_played,
+};
 use cml_threads::{PARTS, Settled, Switchboard};
-pub use concluding::conclude;
-use concluding::conclude_as;
-pub use declaring::declare;
-pub use gate::{Gate, OpenGate};
 use std::alloc::{AllocError, Global};
 use std::io::{Read, Write};
 use std::marker::Brand;
 use std::sync::Wait;
 use std::sync::ledger::{Blank, Ledger};
 use std::thread::Threads;
-pub use worker::work;
-pub use workers::{Ended, perform_in_threads};
 
 /// Runs a script: it reads the whole script, and performs each of its threads on an operating-system thread, all on one
 /// switchboard. Then it audits the journal and writes the report. The order of the threads differs from run to run.

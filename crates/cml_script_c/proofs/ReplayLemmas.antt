@@ -1,8 +1,9 @@
 -- What came of a script, by how it ended.
 use Rattle.std.proofs.Common.{◌≡◌, ℕ, List, []}
-use Rattle.cml_script.specs.{Ending, Stop, ending_of_stop, IsPlayedText, EndsUnplayedText}
-use Rattle.cml_script.specs.declared.ending.Ending.TheVariants as ending
-use Rattle.cml_script.specs.declared.stop.Stop.TheVariants as stop
+use Rattle.cml_report.specs.{Ending, Stop, ending_of_stop}
+use Rattle.cml_replay.specs.{IsPlayedText, EndsUnplayedText}
+use Rattle.cml_report.specs.declared.ending.Ending.TheVariants as ending
+use Rattle.cml_report.specs.declared.stop.Stop.TheVariants as stop
 use Rattle.cml_script_c.specs.{IsReplay}
 
 pub played : (limit : ℕ) (script report : List ℕ) (stopped : Stop) → IsPlayedText limit script stopped report

@@ -1,8 +1,9 @@
 -- What a replay returns to a caller in C.
 use Rattle.std.specs.Prelude.{ℕ, ◌≡◌, ◌≤◌, ◌<◌, List, [], ◌++◌, length, drop}
-use Rattle.cml_script.specs.{Ending, status, IsPlayedText, EndsUnplayedText}
-use Rattle.cml_script.specs.declared.ending.Ending.TheVariants as ending
-use Rattle.cml_script.specs.declared.stop.Stop.TheVariants as stop
+use Rattle.cml_report.specs.{Ending, status}
+use Rattle.cml_replay.specs.{IsPlayedText, EndsUnplayedText}
+use Rattle.cml_report.specs.declared.ending.Ending.TheVariants as ending
+use Rattle.cml_report.specs.declared.stop.Stop.TheVariants as stop
 use Rattle.cml_script_c.specs.declared.SeryugoEnd.{SeryugoEnd}
 
 abbrev pub line_of : Ending → ℕ

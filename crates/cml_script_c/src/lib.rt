@@ -4,7 +4,8 @@
 ghost use Rattle.std.specs.Prelude.{◌≡◌, ◌≤◌, ◌<◌, ◌^◌, ◌++◌, length, drop, string_bytes};
 ghost use Rattle.cml_script_c.specs.{Fills, HasNoRoom, IsReplay, line_of};
 
-use cml_script::{Ending, replay_text, status_of};
+use cml_replay::replay_text;
+use cml_report::{Ending, status_of};
 use std::alloc::Global;
 
 /// The report, or nothing, is in the buffer.

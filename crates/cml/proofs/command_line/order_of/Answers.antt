@@ -1,7 +1,7 @@
 use Rattle.std.proofs.Common.{codes, ◌≡◌, ◌∙◌, ap, refl, sym, ℕ, Bool, true, false, bytes_eq, Option, Some}
 use Rattle.clap.specs.Words.{Text, found_of, one_text}
 use Rattle.cml.specs.{Finds, FindsFlag, FindsLimit, form_if, Order}
-use Rattle.cml_script.specs.{Form}
+use Rattle.cml_report.specs.{Form}
 use Rattle.cml.specs.declared.asked.Order.TheVariants.{Replay, Run, Explore, Check, Compact}
 use Rattle.cml.proofs.command_line.order_of.Goals as goal
 

@@ -1,5 +1,5 @@
 use Rattle.std.proofs.Common.{refl}
-use Rattle.cml_script.proofs.ReplayLemmas.{text_under, refused_untold}
+use Rattle.cml_script.proofs.RunLemmas.{text_under, refused_untold}
 use Rattle.cml_script.proofs.running.conclude_settled.Goals as goal
 
 pub returns-clause-text : goal.returns-clause-text

@@ -1,6 +1,6 @@
 use Rattle.std.proofs.Common.{List, ℕ, sym, subst}
 use Rattle.cml_grammar.specs.{IsScript}
-use Rattle.cml_script.proofs.ReplayLemmas.{read_run, untold_ends}
+use Rattle.cml_script.proofs.RunLemmas.{read_run, untold_ends}
 use Rattle.cml_script.proofs.GatesLemmas.{kept_unheld}
 use Rattle.cml_script.proofs.running.run_read.Goals as goal
 

@@ -1,0 +1,11 @@
+pub mod PlainLemmas
+pub mod ReadyLemmas
+pub mod StandLemmas
+pub mod BoundLemmas
+pub mod ScheduleLemmas
+pub mod MakingLemmas
+pub mod NextLemmas
+pub mod WaitingLemmas
+pub mod LeftLemmas
+pub mod ReplayLemmas
+pub mod GoingOnLemmas

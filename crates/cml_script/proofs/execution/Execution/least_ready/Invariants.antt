@@ -1,5 +1,0 @@
-use Rattle.cml_script.specs.{IsLeastBelow}
-use Rattle.cml_script.proofs.execution.Execution.least_ready.Given as goal
-
-abbrev pub invariant-loop-thread : goal.invariant-loop-thread
-invariant-loop-thread l = IsLeastBelow l.self.script l.self.history l.thread l.least

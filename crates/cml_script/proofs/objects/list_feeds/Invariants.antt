@@ -1,6 +1,0 @@
-use Rattle.std.proofs.Common.{◌≡◌, take}
-use Rattle.cml_script.specs.{is_feed, positions_where}
-use Rattle.cml_script.proofs.objects.list_feeds.Given as goal
-
-abbrev pub invariant-loop-at : goal.invariant-loop-at
-invariant-loop-at l = l.feeds.items ≡ positions_where (is_feed l.script) 0 (take l.at l.script.declarations)

@@ -1,6 +1,0 @@
-use Rattle.cml_script.specs.{is_apart}
-use Rattle.cml_script.proofs.LineLemmas.{AreCounted}
-use Rattle.cml_script.proofs.plan.count_apart.Given as goal
-
-abbrev pub invariant-loop-step : goal.invariant-loop-step
-invariant-loop-step l = AreCounted (is_apart l.script) l.script.steps l.step-index l.apart

@@ -1,5 +1,0 @@
-use Rattle.std.proofs.Common.{rules}
-use Rattle.cml_script.proofs.report.write_reply.Goals as goal
-
-pub returns-in-Got : goal.returns-in-Got
-returns-in-Got c = search rules

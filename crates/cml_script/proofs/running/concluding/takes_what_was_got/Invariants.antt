@@ -1,6 +1,0 @@
-use Rattle.std.proofs.Common.{ℕ, ◌<◌}
-use Rattle.cml_script.specs.{IsTakenAt}
-use Rattle.cml_script.proofs.running.concluding.takes_what_was_got.Given as goal
-
-abbrev pub invariant-loop-at : goal.invariant-loop-at
-invariant-loop-at l = (k : ℕ) → k < l.at → IsTakenAt l.ran.plan.now l.ran.board.now.history l.ran.tally.now k

@@ -1,6 +1,0 @@
-use Rattle.std.proofs.Common.{◌≡◌, drop}
-use Rattle.cml_script.specs.{sends_to}
-use Rattle.cml_script.proofs.running.lanes.next_sent.Given as goal
-
-abbrev pub invariant-loop-i : goal.invariant-loop-i
-invariant-loop-i l = sends_to l.plan l.seat l.at (drop l.from l.plan.steps) ≡ sends_to l.plan l.seat l.at (drop l.i l.plan.steps)

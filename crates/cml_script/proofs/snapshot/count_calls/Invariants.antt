@@ -1,6 +1,0 @@
-use Rattle.cml_script.specs.{is_step_entry}
-use Rattle.cml_script.proofs.JournalLemmas.{AreCountedBefore}
-use Rattle.cml_script.proofs.snapshot.count_calls.Given as goal
-
-abbrev pub invariant-loop-entry : goal.invariant-loop-entry
-invariant-loop-entry l = AreCountedBefore l.journal is_step_entry l.entry-index l.calls
