@@ -1,8 +1,9 @@
 //! The calls of a switchboard of bytes.
 
 use crate::calls::{Calls, Give, Read};
+use crate::door::Asked;
 use crate::error::Error;
-use crate::explore;
+use crate::explore::{self, StepKind};
 use crate::journal::entry::Entry;
 use crate::message::carries::{Bytes, Carries, MessageKind, Seal};
 use crate::message::received::{RawEntry, Received};
@@ -63,13 +64,13 @@ impl Calls for Bytes {
 
     #[inline]
     fn give(call: Give, room: &mut Handle, seat: u64, object: u64, message: &[u8]) -> u32 {
-        let give = match call {
-            Give::Send => seryugo_bytes_send_from,
-            Give::Multicast => seryugo_bytes_multicast_from,
-            Give::Put => seryugo_bytes_put_from,
-        };
-        // SAFETY: the slice is good for the call, which keeps a copy.
-        unsafe { give(room, seat, object, message.as_ptr(), message.len()) }
+        if let Give::Send = call {
+            // SAFETY: the slice is good for the call, which keeps a copy.
+            return unsafe {
+                seryugo_bytes_send_from(room, seat, object, message.as_ptr(), message.len())
+            };
+        }
+        Asked::first(call.on(object), seat).with_bytes(message).give(room, &mut 0)
     }
 
     #[inline]
@@ -81,28 +82,21 @@ impl Calls for Bytes {
         is_again: bool,
         to: &mut Received,
     ) -> u32 {
-        match call {
-            Read::Recv => seryugo_bytes_recv(room, seat, object, is_again, to),
-            Read::Get => seryugo_bytes_get(room, seat, object, is_again, to),
-            Read::Take => seryugo_bytes_take(room, seat, object, is_again, to),
+        if let Read::Recv = call {
+            return seryugo_bytes_recv(room, seat, object, is_again, to);
         }
+        Asked::first(call.ask_of(object), seat).again(is_again).hand_over(room, to)
     }
 
     #[inline]
     fn poll(call: Read, room: &mut Handle, seat: u64, object: u64, to: &mut Received) -> u32 {
-        match call {
-            Read::Recv => seryugo_bytes_recv_poll(room, seat, object, to),
-            Read::Get => seryugo_bytes_get_poll(room, seat, object, to),
-            Read::Take => seryugo_bytes_take_poll(room, seat, object, to),
-        }
+        Asked::first(call.ask_of(object).polled(), seat).hand_over(room, to)
     }
 
     #[inline]
     fn mvar_init(room: &mut Handle, seat: u64, message: &[u8], variable: &mut u64) -> u32 {
-        // SAFETY: the slice is good for the call, which keeps a copy.
-        unsafe {
-            seryugo_bytes_mvar_init_from(room, seat, message.as_ptr(), message.len(), variable)
-        }
+        let step = StepKind::MVarInit.makes();
+        Asked::first(step, seat).with_bytes(message).give(room, variable)
     }
 
     #[inline]
@@ -114,9 +108,8 @@ impl Calls for Bytes {
         is_again: bool,
         to: &mut Received,
     ) -> u32 {
-        let (at, length) = (message.as_ptr(), message.len());
-        // SAFETY: the slice is good for the call, which keeps a copy.
-        unsafe { seryugo_bytes_swap_from(room, seat, variable, at, length, is_again, to) }
+        let asked = Asked::first(StepKind::Swap.on(variable), seat).again(is_again);
+        asked.with_bytes(message).hand_over(room, to)
     }
 
     fn held(room: &mut Handle, variable: u64, to: &mut Received) -> u32 {
@@ -157,74 +150,12 @@ unsafe extern "C" {
         at: *const u8,
         length: usize,
     ) -> u32;
-    fn seryugo_bytes_multicast_from(
-        room: &mut Handle,
-        seat: u64,
-        channel: u64,
-        at: *const u8,
-        length: usize,
-    ) -> u32;
-    fn seryugo_bytes_put_from(
-        room: &mut Handle,
-        seat: u64,
-        variable: u64,
-        at: *const u8,
-        length: usize,
-    ) -> u32;
     safe fn seryugo_bytes_recv(
         room: &mut Handle,
         seat: u64,
         source: u64,
         is_again: bool,
         message: &mut Received,
-    ) -> u32;
-    safe fn seryugo_bytes_get(
-        room: &mut Handle,
-        seat: u64,
-        variable: u64,
-        is_again: bool,
-        message: &mut Received,
-    ) -> u32;
-    safe fn seryugo_bytes_take(
-        room: &mut Handle,
-        seat: u64,
-        variable: u64,
-        is_again: bool,
-        message: &mut Received,
-    ) -> u32;
-    safe fn seryugo_bytes_recv_poll(
-        room: &mut Handle,
-        seat: u64,
-        source: u64,
-        message: &mut Received,
-    ) -> u32;
-    safe fn seryugo_bytes_get_poll(
-        room: &mut Handle,
-        seat: u64,
-        variable: u64,
-        message: &mut Received,
-    ) -> u32;
-    safe fn seryugo_bytes_take_poll(
-        room: &mut Handle,
-        seat: u64,
-        variable: u64,
-        message: &mut Received,
-    ) -> u32;
-    fn seryugo_bytes_mvar_init_from(
-        room: &mut Handle,
-        seat: u64,
-        at: *const u8,
-        length: usize,
-        variable: &mut u64,
-    ) -> u32;
-    fn seryugo_bytes_swap_from(
-        room: &mut Handle,
-        seat: u64,
-        variable: u64,
-        at: *const u8,
-        length: usize,
-        is_again: bool,
-        held: &mut Received,
     ) -> u32;
     safe fn seryugo_bytes_held(room: &mut Handle, variable: u64, message: &mut Received) -> u32;
     fn seryugo_bytes_lane_send_from(lane: &mut Handle, at: *const u8, length: usize) -> u32;

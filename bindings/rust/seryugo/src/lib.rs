@@ -194,6 +194,7 @@
 mod bytes;
 mod calls;
 mod channel;
+mod door;
 mod error;
 pub mod explore;
 mod journal;

@@ -1,7 +1,9 @@
 //! The calls of a switchboard of numbers.
 
 use crate::calls::{Calls, Give, Read};
+use crate::door::Asked;
 use crate::error::Error;
+use crate::explore::StepKind;
 use crate::journal::entry::{Call, Entry, Reply, Who};
 use crate::message::carries::{Carries, MessageKind, Numbers, Seal};
 use crate::message::sent_as::{Encoded, SentAs};
@@ -62,11 +64,10 @@ impl Calls for Numbers {
 
     #[inline]
     fn give(call: Give, room: &mut Handle, seat: u64, object: u64, message: u64) -> u32 {
-        match call {
-            Give::Send => seryugo_send(room, seat, object, message),
-            Give::Multicast => seryugo_multicast(room, seat, object, message),
-            Give::Put => seryugo_put(room, seat, object, message),
+        if let Give::Send = call {
+            return seryugo_send(room, seat, object, message);
         }
+        Asked::first(call.on(object), seat).with_number(message).give(room, &mut 0)
     }
 
     #[inline]
@@ -78,25 +79,21 @@ impl Calls for Numbers {
         is_again: bool,
         to: &mut u64,
     ) -> u32 {
-        match call {
-            Read::Recv => seryugo_recv(room, seat, object, is_again, to),
-            Read::Get => seryugo_get(room, seat, object, is_again, to),
-            Read::Take => seryugo_take(room, seat, object, is_again, to),
+        if let Read::Recv = call {
+            return seryugo_recv(room, seat, object, is_again, to);
         }
+        Asked::first(call.ask_of(object), seat).again(is_again).give(room, to)
     }
 
     #[inline]
     fn poll(call: Read, room: &mut Handle, seat: u64, object: u64, to: &mut u64) -> u32 {
-        match call {
-            Read::Recv => seryugo_recv_poll(room, seat, object, to),
-            Read::Get => seryugo_get_poll(room, seat, object, to),
-            Read::Take => seryugo_take_poll(room, seat, object, to),
-        }
+        Asked::first(call.ask_of(object).polled(), seat).give(room, to)
     }
 
     #[inline]
     fn mvar_init(room: &mut Handle, seat: u64, message: u64, variable: &mut u64) -> u32 {
-        seryugo_mvar_init(room, seat, message, variable)
+        let step = StepKind::MVarInit.makes();
+        Asked::first(step, seat).with_number(message).give(room, variable)
     }
 
     #[inline]
@@ -108,7 +105,8 @@ impl Calls for Numbers {
         is_again: bool,
         to: &mut u64,
     ) -> u32 {
-        seryugo_swap(room, seat, variable, message, is_again, to)
+        let asked = Asked::first(StepKind::Swap.on(variable), seat).again(is_again);
+        asked.with_number(message).give(room, to)
     }
 
     fn held(room: &mut Handle, variable: u64, to: &mut u64) -> u32 {
@@ -179,51 +177,12 @@ struct RawReply {
 
 unsafe extern "C" {
     safe fn seryugo_send(room: &mut Handle, seat: u64, mailbox: u64, message: u64) -> u32;
-    safe fn seryugo_multicast(room: &mut Handle, seat: u64, channel: u64, message: u64) -> u32;
-    safe fn seryugo_put(room: &mut Handle, seat: u64, variable: u64, message: u64) -> u32;
     safe fn seryugo_recv(
         room: &mut Handle,
         seat: u64,
         source: u64,
         is_again: bool,
         message: &mut u64,
-    ) -> u32;
-    safe fn seryugo_get(
-        room: &mut Handle,
-        seat: u64,
-        variable: u64,
-        is_again: bool,
-        message: &mut u64,
-    ) -> u32;
-    safe fn seryugo_take(
-        room: &mut Handle,
-        seat: u64,
-        variable: u64,
-        is_again: bool,
-        message: &mut u64,
-    ) -> u32;
-    safe fn seryugo_recv_poll(room: &mut Handle, seat: u64, source: u64, message: &mut u64) -> u32;
-    safe fn seryugo_get_poll(room: &mut Handle, seat: u64, variable: u64, message: &mut u64)
-        -> u32;
-    safe fn seryugo_take_poll(
-        room: &mut Handle,
-        seat: u64,
-        variable: u64,
-        message: &mut u64,
-    ) -> u32;
-    safe fn seryugo_mvar_init(
-        room: &mut Handle,
-        seat: u64,
-        message: u64,
-        variable: &mut u64,
-    ) -> u32;
-    safe fn seryugo_swap(
-        room: &mut Handle,
-        seat: u64,
-        variable: u64,
-        message: u64,
-        is_again: bool,
-        held: &mut u64,
     ) -> u32;
     safe fn seryugo_held(room: &mut Handle, variable: u64, message: &mut u64) -> u32;
     safe fn seryugo_lane_send(lane: &mut Handle, message: u64) -> u32;

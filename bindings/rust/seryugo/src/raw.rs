@@ -427,14 +427,6 @@ unsafe extern "C" {
     pub safe fn seryugo_leave(room: &mut Handle, seat: u64) -> u32;
     pub safe fn seryugo_withdraw(room: &mut Handle, seat: u64) -> u32;
     pub safe fn seryugo_next_due(room: &mut Handle, seat: &mut u64) -> u32;
-    pub safe fn seryugo_new_mailbox(room: &mut Handle, seat: u64, mailbox: &mut u64) -> u32;
-    pub safe fn seryugo_new_channel(room: &mut Handle, seat: u64, channel: &mut u64) -> u32;
-    pub safe fn seryugo_new_port(room: &mut Handle, seat: u64, channel: u64, port: &mut u64)
-        -> u32;
-    pub safe fn seryugo_copy_port(room: &mut Handle, seat: u64, port: u64, copy: &mut u64) -> u32;
-    pub safe fn seryugo_close_port(room: &mut Handle, seat: u64, port: u64) -> u32;
-    pub safe fn seryugo_new_ivar(room: &mut Handle, seat: u64, variable: &mut u64) -> u32;
-    pub safe fn seryugo_new_mvar(room: &mut Handle, seat: u64, variable: &mut u64) -> u32;
     pub safe fn seryugo_lane_open(
         room: &mut Handle,
         target: u64,

@@ -37,6 +37,11 @@ uint32_t seryugo_take_by(void *room, uint32_t taking, void **journal, uint64_t *
     *journal = journal;
     return code(taking < 2 ? "SERYUGO_TEST_OPENING" : "SERYUGO_TEST_OTHER");
 }
+uint32_t seryugo_call_from(void *room, const uint32_t *kind, uint64_t *given, void *message)
+{
+    bool makes = *kind < 3 || *kind == 5 || *kind == 6;
+    return code(makes ? "SERYUGO_TEST_OPENING" : "SERYUGO_TEST_OTHER");
+}
 "#;
 
 /// The files that declare what the crate calls.

@@ -9,7 +9,8 @@ use std::fmt;
 /// The number of no object, and of no seat.
 pub(crate) const NONE: u64 = u64::MAX;
 
-/// A kind of step. Those of calls have the journal's words.
+/// A kind of step. Those of calls have the journal's words, and come first, by their numbers in the
+/// table of calls.
 #[derive(Clone, Copy, PartialEq, Eq, Hash, Debug)]
 pub(crate) enum StepKind {
     Mailbox,
@@ -267,5 +268,19 @@ impl Read {
             Read::Take => StepKind::TakePoll,
         }
         .on(object)
+    }
+}
+
+#[cfg(test)]
+mod tests {
+    use super::*;
+
+    /// The library finds a call by this number.
+    #[test]
+    fn steps_of_calls_have_the_numbers_of_the_table() {
+        for number in 0..18 {
+            let call = Call::of(number, 0, || 0).unwrap();
+            assert_eq!(Step::of(&call).kind as u32, number);
+        }
     }
 }

@@ -1,11 +1,12 @@
 //! The calls of a seat that make objects, and close a port.
 
+use crate::door::Asked;
 use crate::error::{handing_back, Error, SendError};
 use crate::explore::{Step, StepKind};
 use crate::message::carries::{Carries, MessageKind};
 use crate::message::kind::Misfit;
 use crate::message::names::{Channel, IVar, MVar, Mailbox, Named, Port};
-use crate::raw::{self, code, done, done_or, Handle};
+use crate::raw::{code, done, done_or, Handle};
 use crate::seat::owned::Holds;
 use crate::seat::Seat;
 use crate::switchboard::call::Line;
@@ -30,9 +31,7 @@ impl<R: MessageKind, H: Holds<R>> Seat<'_, R, H> {
     where
         R: Carries<T>,
     {
-        self.make(StepKind::Mailbox.makes(), Line::SHORT, |room, seat, name| {
-            raw::seryugo_new_mailbox(room, seat, name)
-        })
+        self.make_bare(StepKind::Mailbox.makes())
     }
 
     /// Makes a channel of messages of a type.
@@ -52,9 +51,7 @@ impl<R: MessageKind, H: Holds<R>> Seat<'_, R, H> {
     where
         R: Carries<T>,
     {
-        self.make(StepKind::Channel.makes(), Line::SHORT, |room, seat, name| {
-            raw::seryugo_new_channel(room, seat, name)
-        })
+        self.make_bare(StepKind::Channel.makes())
     }
 
     /// Makes a port of a channel, which receives what is multicast from now on.
@@ -75,9 +72,7 @@ impl<R: MessageKind, H: Holds<R>> Seat<'_, R, H> {
     /// [The usual ones](crate::Seat#how-a-call-fails).
     pub fn port<T>(&mut self, channel: Channel<T>) -> Result<Port<T>, Error> {
         let channel = self.here(channel)?;
-        self.make(StepKind::Port.on(channel), Line::SHORT, |room, seat, name| {
-            raw::seryugo_new_port(room, seat, channel, name)
-        })
+        self.make_bare(StepKind::Port.on(channel))
     }
 
     /// Makes a port at this port's place. Returns `None` if this port was closed.
@@ -101,9 +96,9 @@ impl<R: MessageKind, H: Holds<R>> Seat<'_, R, H> {
     pub fn copy<T>(&mut self, port: Port<T>) -> Result<Option<Port<T>>, Error> {
         let port = self.here(port)?;
         let mut number = 0;
-        let code = self.call(StepKind::Copy.on(port), Line::SHORT, |room, seat| {
-            raw::seryugo_copy_port(room, seat, port, &mut number)
-        });
+        let step = StepKind::Copy.on(port);
+        let code = self
+            .call(step, Line::SHORT, |room, seat| Asked::first(step, seat).give(room, &mut number));
         let is_open = done_or(code?, code::CLOSED)?;
         Ok(is_open.then(|| self.board.name(number)))
     }
@@ -126,9 +121,9 @@ impl<R: MessageKind, H: Holds<R>> Seat<'_, R, H> {
     /// [The usual ones](crate::Seat#how-a-call-fails).
     pub fn close<T>(&mut self, port: Port<T>) -> Result<bool, Error> {
         let port = self.here(port)?;
-        let code = self.call(StepKind::Close.on(port), Line::SHORT, |room, seat| {
-            raw::seryugo_close_port(room, seat, port)
-        });
+        let step = StepKind::Close.on(port);
+        let code =
+            self.call(step, Line::SHORT, |room, seat| Asked::first(step, seat).give(room, &mut 0));
         done_or(code?, code::CLOSED).map_err(|error| error.misfit(Misfit::Feed(port)))
     }
 
@@ -150,9 +145,7 @@ impl<R: MessageKind, H: Holds<R>> Seat<'_, R, H> {
     where
         R: Carries<T>,
     {
-        self.make(StepKind::IVar.makes(), Line::SHORT, |room, seat, name| {
-            raw::seryugo_new_ivar(room, seat, name)
-        })
+        self.make_bare(StepKind::IVar.makes())
     }
 
     /// Makes an empty m-variable.
@@ -174,9 +167,7 @@ impl<R: MessageKind, H: Holds<R>> Seat<'_, R, H> {
     where
         R: Carries<T>,
     {
-        self.make(StepKind::MVar.makes(), Line::SHORT, |room, seat, name| {
-            raw::seryugo_new_mvar(room, seat, name)
-        })
+        self.make_bare(StepKind::MVar.makes())
     }
 
     /// Makes an m-variable that holds this, of this type.
@@ -203,6 +194,11 @@ impl<R: MessageKind, H: Holds<R>> Seat<'_, R, H> {
             })
         });
         handing_back(made, message)
+    }
+
+    /// Makes an object that holds no message.
+    fn make_bare<N: Named>(&mut self, step: Step) -> Result<N, Error> {
+        self.make(step, Line::SHORT, |room, seat, name| Asked::first(step, seat).give(room, name))
     }
 
     fn make<N: Named>(
@@ -249,9 +245,7 @@ impl<R: MessageKind, H: Holds<R>> Seat<'_, R, H> {
     where
         R: Carries<T>,
     {
-        self.again(number, StepKind::Mailbox, |room, seat, name| {
-            raw::seryugo_new_mailbox(room, seat, name)
-        })
+        self.again(number, StepKind::Mailbox)
     }
 
     /// Finds the channel of this number, or makes it.
@@ -271,9 +265,7 @@ impl<R: MessageKind, H: Holds<R>> Seat<'_, R, H> {
     where
         R: Carries<T>,
     {
-        self.again(number, StepKind::Channel, |room, seat, name| {
-            raw::seryugo_new_channel(room, seat, name)
-        })
+        self.again(number, StepKind::Channel)
     }
 
     /// Finds the i-variable of this number, or makes an empty one.
@@ -294,9 +286,7 @@ impl<R: MessageKind, H: Holds<R>> Seat<'_, R, H> {
     where
         R: Carries<T>,
     {
-        self.again(number, StepKind::IVar, |room, seat, name| {
-            raw::seryugo_new_ivar(room, seat, name)
-        })
+        self.again(number, StepKind::IVar)
     }
 
     /// Finds the m-variable of this number, or makes an empty one.
@@ -317,24 +307,21 @@ impl<R: MessageKind, H: Holds<R>> Seat<'_, R, H> {
     where
         R: Carries<T>,
     {
-        self.again(number, StepKind::MVar, |room, seat, name| {
-            raw::seryugo_new_mvar(room, seat, name)
-        })
+        self.again(number, StepKind::MVar)
     }
 
-    fn again<N: Named>(
-        &mut self,
-        number: u64,
-        step: StepKind,
-        make: impl FnOnce(&mut Handle, u64, &mut u64) -> u32,
-    ) -> Result<N, Error> {
-        let seat = self.ready();
+    fn again<N: Named>(&mut self, number: u64, kind: StepKind) -> Result<N, Error> {
+        let (seat, step) = (self.ready(), kind.makes());
         let follower = self.board.follower();
         if follower.is_some_and(|follower| self.board.makes_again(follower, seat, number)) {
-            return self.make(step.makes(), Line::SHORT, make);
+            return self.make_bare(step);
         }
         let find = || {
-            let again = |state: &mut State<R>| state.again(seat, number, N::KIND, make);
+            let again = |state: &mut State<R>| {
+                state.again(seat, number, N::KIND, |room, seat, name| {
+                    Asked::first(step, seat).give(room, name)
+                })
+            };
             self.board.change(Some(&self.parker), again)
         };
         self.board.pass_by(StepKind::LookAtAll.makes(), find, |()| number)?;

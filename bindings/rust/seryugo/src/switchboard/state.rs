@@ -425,6 +425,8 @@ fn uncompacted(error: Error) -> io::Error {
 mod tests {
     use super::*;
     use crate::calls::{Calls, Give, Read};
+    use crate::door::Asked;
+    use crate::explore::StepKind;
     use crate::message::carries::Numbers;
 
     const SEATS: u64 = 4;
@@ -450,7 +452,8 @@ mod tests {
         for _ in 0..SEATS {
             state.new_seat().unwrap();
         }
-        let made = written(|name| raw::seryugo_new_mailbox(&mut state.handle, 0, name));
+        let asked = Asked::first(StepKind::Mailbox.makes(), 0);
+        let made = written(|name| asked.give(&mut state.handle, name));
         assert_eq!(made, Ok(MAILBOX));
         state
     }
