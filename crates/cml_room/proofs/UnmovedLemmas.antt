@@ -7,7 +7,7 @@ use Rattle.cml_board.specs.{Entry, Name, Refusal, Cuts, entries_in, HasRoom, IsA
 use Rattle.cml_board.specs.Shown.{Shown}
 use Rattle.cml_board.specs.declared.outcome.Refusal.TheVariants.{NoSuch}
 use Rattle.cml_lanes.specs.{LaneShown, Ended, FloorShown, NoSuchOr, FindsNoFeed, OpensALane, CutsFloor, CutsAFloor, CutsOpenFloor, NotCut}
-use Rattle.cml_lanes.specs.{CutsShort, Reserves, IsFloorAsBefore, ShowsSameFloor}
+use Rattle.cml_lanes.specs.{Reserves, IsFloorAsBefore}
 use Rattle.cml_lanes.specs.Feeds.{Ends}
 use Rattle.cml_room.specs.{Place, Waiter, states_in, IsMate, NoneOpen, AreIdle, WouldWait, AreAt, IsWatched}
 
@@ -96,29 +96,6 @@ module _ {M : Type 0} where
       → IsWatched old places all_due → IsWatched new places all_due
   cut_open_watched old new places all_due journal all cut was =
       cut_watched old new places all_due (past_within journal old.board.past old.board.history all) cut.board cut.lanes was
-
-  -- a short journal was made, and nothing is changed
-  pub shows_watched : (old new : FloorShown M) (places : List Place) (all_due : Bool) → ShowsSameFloor old new
-      → IsWatched old places all_due → IsWatched new places all_due
-  shows_watched old new places all_due same was =
-      same_watched old new places all_due was same.board.history (same_room old.board new.board same.board.history same.board.past
-      same.board.limit) (λ none. subst NoneOpen same.lanes none)
-
-  -- or the journal was cut then
-  cut_short_watched : (old new : FloorShown M) (places : List Place) (all_due : Bool)
-      → entries_in old.board.past ≤ entries_in old.board.history → CutsShort old new
-      → IsWatched old places all_due → IsWatched new places all_due
-  cut_short_watched old new places all_due past cut was =
-      same_watched old new places all_due was cut.history (more_room old.board new.board past cut.history cut.past cut.limit)
-      (λ none. subst NoneOpen cut.lanes none)
-
-  pub short_watched : {X : Type 0} (old new : FloorShown M) (places : List Place) (all_due : Bool) (journal : List (Entry M))
-      (told : Result X Refusal) → journal ++ old.board.past ≡ old.board.history
-      → MatchResult told (λ _. CutsShort old new) (λ _. ShowsSameFloor old new)
-      → IsWatched old places all_due → IsWatched new places all_due
-  short_watched old new places all_due journal (Ok entries) all cut was =
-      cut_short_watched old new places all_due (past_within journal old.board.past old.board.history all) cut was
-  short_watched old new places all_due journal (Err refusal) all same was = shows_watched old new places all_due same was
 
   as_before_watched : (old new : FloorShown M) (places : List Place) (all_due : Bool) → IsFloorAsBefore old new
       → IsWatched old places all_due → IsWatched new places all_due

@@ -7,7 +7,6 @@ ghost use Rattle.cml_room.specs.{states_in, MakesNoneDue, free_in, parked_in, fl
 ghost use Rattle.cml_room.specs.{SleepsRightly, with_state, Other, GivesNext, IsMade};
 
 mod asking;
-mod compacting;
 mod feeds;
 mod journal;
 mod lanes;
