@@ -1,9 +1,9 @@
 //! The calls of a switchboard of bytes.
 
-use crate::calls::{Calls, Give, Read};
+use crate::calls::Calls;
 use crate::door::Asked;
 use crate::error::Error;
-use crate::explore::{self, StepKind};
+use crate::explore::{self, Step};
 use crate::journal::entry::Entry;
 use crate::message::carries::{Bytes, Carries, MessageKind, Seal};
 use crate::message::received::{RawEntry, Received};
@@ -63,53 +63,24 @@ impl Calls for Bytes {
     const MESSAGES: Messages = Messages::Bytes;
 
     #[inline]
-    fn give(call: Give, room: &mut Handle, seat: u64, object: u64, message: &[u8]) -> u32 {
-        if let Give::Send = call {
-            // SAFETY: the slice is good for the call, which keeps a copy.
-            return unsafe {
-                seryugo_bytes_send_from(room, seat, object, message.as_ptr(), message.len())
-            };
-        }
-        Asked::first(call.on(object), seat).with_bytes(message).give(room, &mut 0)
+    fn send(room: &mut Handle, seat: u64, mailbox: u64, message: &[u8]) -> u32 {
+        // SAFETY: the slice is good for the call, which keeps a copy.
+        unsafe { seryugo_bytes_send_from(room, seat, mailbox, message.as_ptr(), message.len()) }
     }
 
     #[inline]
-    fn ask(
-        call: Read,
-        room: &mut Handle,
-        seat: u64,
-        object: u64,
-        is_again: bool,
-        to: &mut Received,
-    ) -> u32 {
-        if let Read::Recv = call {
-            return seryugo_bytes_recv(room, seat, object, is_again, to);
-        }
-        Asked::first(call.ask_of(object), seat).again(is_again).hand_over(room, to)
+    fn recv(room: &mut Handle, seat: u64, source: u64, is_again: bool, to: &mut Received) -> u32 {
+        seryugo_bytes_recv(room, seat, source, is_again, to)
     }
 
     #[inline]
-    fn poll(call: Read, room: &mut Handle, seat: u64, object: u64, to: &mut Received) -> u32 {
-        Asked::first(call.ask_of(object).polled(), seat).hand_over(room, to)
+    fn sending(step: Step, seat: u64, message: Self::Sent<'_>) -> Asked<'_> {
+        Asked::first(step, seat).with_bytes(message)
     }
 
     #[inline]
-    fn mvar_init(room: &mut Handle, seat: u64, message: &[u8], variable: &mut u64) -> u32 {
-        let step = StepKind::MVarInit.makes();
-        Asked::first(step, seat).with_bytes(message).give(room, variable)
-    }
-
-    #[inline]
-    fn swap(
-        room: &mut Handle,
-        seat: u64,
-        variable: u64,
-        message: &[u8],
-        is_again: bool,
-        to: &mut Received,
-    ) -> u32 {
-        let asked = Asked::first(StepKind::Swap.on(variable), seat).again(is_again);
-        asked.with_bytes(message).hand_over(room, to)
+    fn make(asked: &Asked, room: &mut Handle, to: &mut Received) -> u32 {
+        asked.hand_over(room, to)
     }
 
     fn held(room: &mut Handle, variable: u64, to: &mut Received) -> u32 {

@@ -1,6 +1,8 @@
 //! The library's calls that have a message, for both kinds of switchboard.
 
+use crate::door::Asked;
 use crate::error::Error;
+use crate::explore::{Step, StepKind};
 use crate::journal::entry::Entry;
 use crate::message::carries::{Carries, MessageKind};
 use crate::raw::{done, EntrySource, Handle, Messages};
@@ -45,8 +47,30 @@ pub trait Calls: Sized {
     /// Which messages the library is asked for.
     const MESSAGES: Messages;
 
-    fn give(call: Give, room: &mut Handle, seat: u64, object: u64, message: Self::Sent<'_>) -> u32;
+    /// Sends, and receives, by functions of the library's own: most calls are these.
+    fn send(room: &mut Handle, seat: u64, mailbox: u64, message: Self::Sent<'_>) -> u32;
+    fn recv(
+        room: &mut Handle,
+        seat: u64,
+        source: u64,
+        is_again: bool,
+        to: &mut Self::Received,
+    ) -> u32;
+    /// A call that sends this message.
+    fn sending(step: Step, seat: u64, message: Self::Sent<'_>) -> Asked<'_>;
+    /// Makes a call that gives a message.
+    fn make(asked: &Asked, room: &mut Handle, to: &mut Self::Received) -> u32;
+
+    #[inline]
+    fn give(call: Give, room: &mut Handle, seat: u64, object: u64, message: Self::Sent<'_>) -> u32 {
+        if let Give::Send = call {
+            return Self::send(room, seat, object, message);
+        }
+        Self::sending(call.on(object), seat, message).give(room, &mut 0)
+    }
+
     /// A call that may block.
+    #[inline]
     fn ask(
         call: Read,
         room: &mut Handle,
@@ -54,10 +78,24 @@ pub trait Calls: Sized {
         object: u64,
         is_again: bool,
         to: &mut Self::Received,
-    ) -> u32;
+    ) -> u32 {
+        if let Read::Recv = call {
+            return Self::recv(room, seat, object, is_again, to);
+        }
+        Self::make(&Asked::first(call.ask_of(object), seat).again(is_again), room, to)
+    }
+
     /// The same, but it never blocks.
-    fn poll(call: Read, room: &mut Handle, seat: u64, object: u64, to: &mut Self::Received) -> u32;
-    fn mvar_init(room: &mut Handle, seat: u64, message: Self::Sent<'_>, variable: &mut u64) -> u32;
+    #[inline]
+    fn poll(call: Read, room: &mut Handle, seat: u64, object: u64, to: &mut Self::Received) -> u32 {
+        Self::make(&Asked::first(call.ask_of(object).polled(), seat), room, to)
+    }
+
+    fn mvar_init(room: &mut Handle, seat: u64, message: Self::Sent<'_>, variable: &mut u64) -> u32 {
+        Self::sending(StepKind::MVarInit.makes(), seat, message).give(room, variable)
+    }
+
+    #[inline]
     fn swap(
         room: &mut Handle,
         seat: u64,
@@ -65,7 +103,11 @@ pub trait Calls: Sized {
         message: Self::Sent<'_>,
         is_again: bool,
         to: &mut Self::Received,
-    ) -> u32;
+    ) -> u32 {
+        let asked = Self::sending(StepKind::Swap.on(variable), seat, message);
+        Self::make(&asked.again(is_again), room, to)
+    }
+
     fn held(room: &mut Handle, variable: u64, to: &mut Self::Received) -> u32;
     fn lane_send(lane: &mut Handle, message: Self::Sent<'_>) -> u32;
     fn feed_recv(feed: &mut Handle, to: &mut Self::Received) -> u32;

@@ -8,7 +8,7 @@ use std::ptr::NonNull;
 
 /// A seat's call, as `struct seryugo_asked` of the header.
 #[repr(C)]
-pub(crate) struct Asked<'m> {
+pub struct Asked<'m> {
     kind: u32,
     is_again: bool,
     takes_numbers: bool,

@@ -1,9 +1,9 @@
 //! The calls of a switchboard of numbers.
 
-use crate::calls::{Calls, Give, Read};
+use crate::calls::Calls;
 use crate::door::Asked;
 use crate::error::Error;
-use crate::explore::StepKind;
+use crate::explore::Step;
 use crate::journal::entry::{Call, Entry, Reply, Who};
 use crate::message::carries::{Carries, MessageKind, Numbers, Seal};
 use crate::message::sent_as::{Encoded, SentAs};
@@ -63,50 +63,23 @@ impl Calls for Numbers {
     const MESSAGES: Messages = Messages::Numbers;
 
     #[inline]
-    fn give(call: Give, room: &mut Handle, seat: u64, object: u64, message: u64) -> u32 {
-        if let Give::Send = call {
-            return seryugo_send(room, seat, object, message);
-        }
-        Asked::first(call.on(object), seat).with_number(message).give(room, &mut 0)
+    fn send(room: &mut Handle, seat: u64, mailbox: u64, message: u64) -> u32 {
+        seryugo_send(room, seat, mailbox, message)
     }
 
     #[inline]
-    fn ask(
-        call: Read,
-        room: &mut Handle,
-        seat: u64,
-        object: u64,
-        is_again: bool,
-        to: &mut u64,
-    ) -> u32 {
-        if let Read::Recv = call {
-            return seryugo_recv(room, seat, object, is_again, to);
-        }
-        Asked::first(call.ask_of(object), seat).again(is_again).give(room, to)
+    fn recv(room: &mut Handle, seat: u64, source: u64, is_again: bool, to: &mut u64) -> u32 {
+        seryugo_recv(room, seat, source, is_again, to)
     }
 
     #[inline]
-    fn poll(call: Read, room: &mut Handle, seat: u64, object: u64, to: &mut u64) -> u32 {
-        Asked::first(call.ask_of(object).polled(), seat).give(room, to)
+    fn sending(step: Step, seat: u64, message: Self::Sent<'_>) -> Asked<'_> {
+        Asked::first(step, seat).with_number(message)
     }
 
     #[inline]
-    fn mvar_init(room: &mut Handle, seat: u64, message: u64, variable: &mut u64) -> u32 {
-        let step = StepKind::MVarInit.makes();
-        Asked::first(step, seat).with_number(message).give(room, variable)
-    }
-
-    #[inline]
-    fn swap(
-        room: &mut Handle,
-        seat: u64,
-        variable: u64,
-        message: u64,
-        is_again: bool,
-        to: &mut u64,
-    ) -> u32 {
-        let asked = Asked::first(StepKind::Swap.on(variable), seat).again(is_again);
-        asked.with_number(message).give(room, to)
+    fn make(asked: &Asked, room: &mut Handle, to: &mut u64) -> u32 {
+        asked.give(room, to)
     }
 
     fn held(room: &mut Handle, variable: u64, to: &mut u64) -> u32 {

@@ -12,7 +12,7 @@ pub(crate) const NONE: u64 = u64::MAX;
 /// A kind of step. Those of calls have the journal's words, and come first, by their numbers in the
 /// table of calls.
 #[derive(Clone, Copy, PartialEq, Eq, Hash, Debug)]
-pub(crate) enum StepKind {
+pub enum StepKind {
     Mailbox,
     Channel,
     Port,
@@ -184,7 +184,7 @@ impl StepKind {
 
 /// A kind of step, with the number of its object, or of its lane or feed.
 #[derive(Clone, Copy, PartialEq, Eq, Hash, Debug)]
-pub(crate) struct Step {
+pub struct Step {
     pub kind: StepKind,
     pub object: u64,
 }
