@@ -1,5 +1,5 @@
 -- How many entries of a history are of lanes and feeds.
-use Rattle.std.proofs.Common.{◌≡◌, ℕ, ◌≤◌, List, [], ◌∷◌, arith}
+use Rattle.std.proofs.Common.{◌≡◌, ◌≤◌, List, [], ◌∷◌, arith}
 use Rattle.cml_board.specs.{Who, Entry, ring_by, entries_in, rings_in, behind_seat, seats_of}
 use Rattle.cml_board.specs.declared.entry.Who.TheVariants.{Seat, Lane, Feed}
 

@@ -6,7 +6,6 @@ ghost use Rattle.cml_room.specs.{KeepsSeats, MakesNoneDue, AllSleepRightly, None
 ghost use Rattle.cml_threads.specs.{Sitting, floor_of, room_of, MayAsk, with_state};
 
 mod asking;
-mod compacting;
 mod counting;
 mod due;
 mod feeds;

@@ -33,6 +33,7 @@ use std::thread::Threads;
 /// end, `settle` returns the board with all that was answered.
 #[derive(Drop)]
 pub struct Switchboard<M, L: MessageLog<M>, Led: Ledger> {
+    alloc: Global,
     locked: Locked<M, L, Led>,
 }
 
@@ -43,6 +44,7 @@ impl<M: Message, L: MessageLog<M>, Led: Ledger> Switchboard<M, L, Led> {
         requires { HaveLeft hall.seats }
     {
         Ok(Switchboard {
+            alloc,
             locked: Locked::new(alloc, hall)?,
         })
     }
@@ -220,12 +222,13 @@ impl<M: Message, L: MessageLog<M>, Led: Ledger> Switchboard<M, L, Led> {
         ensures total { IfOk result (λ settled. settled.seats + settled.rings ≡ entries_in settled.board.history) }
         ensures back { IfErr result (λ back. back.1 ≡ lefts) }
     {
+        let alloc = self.alloc;
         let (hall, parkers) = self.locked.into_parts();
         match hall.settle(lefts) {
             Ok(settled) => Ok(settled),
             Err((hall, lefts)) => {
                 let locked = Locked::of_parts(hall, parkers);
-                Err((Switchboard { locked }, lefts))
+                Err((Switchboard { alloc, locked }, lefts))
             }
         }
     }
