@@ -2,8 +2,9 @@
 
 mod common;
 
-use common::{board, board_of_numbers, on_each_runtime};
-use seryugo::Error;
+use common::{board, board_of_numbers, ms, on_each_runtime};
+use seryugo::{Error, Request, Switchboard};
+use std::sync::Arc;
 use tokio::task::{spawn_blocking, yield_now, JoinSet};
 
 /// All that the tasks of a set return, in no order.
@@ -220,5 +221,37 @@ fn a_guest_of_tasks_that_come_late() {
         assert_eq!(seat.recv_async(mailbox).await.unwrap(), "late");
         coming.await.unwrap();
         assert_eq!(seat.recv_async(mailbox).await, Err(Error::Stalled));
+    });
+}
+
+/// Their first client comes late, and a channel of tokio ends them.
+#[test]
+fn workers_beside_another_channel() {
+    on_each_runtime(|| async {
+        let board = Arc::new(Switchboard::new(100_000).unwrap());
+        let doubles = board.seat_owned().unwrap().mailbox::<Request<u64, u64>>().unwrap();
+        let (stop, _) = tokio::sync::broadcast::channel::<()>(1);
+        let mut workers = JoinSet::new();
+        for _ in 0..4 {
+            let (mut seat, mut stopped) = (board.seat_owned().unwrap(), stop.subscribe());
+            workers.spawn(async move {
+                let mut count = 0;
+                loop {
+                    let request = tokio::select! {
+                        request = seat.recv_async(doubles) => request.unwrap(),
+                        _ = stopped.recv() => return count,
+                    };
+                    request.answer_with(&mut seat, |question| 2 * question).unwrap();
+                    count += 1;
+                }
+            });
+        }
+        tokio::time::sleep(ms(20)).await;
+        let mut client = board.seat_owned().unwrap();
+        for question in 0..100 {
+            assert_eq!(client.request_async(doubles, question).await, Ok(2 * question));
+        }
+        stop.send(()).unwrap();
+        assert_eq!(joined(workers).await.iter().sum::<u64>(), 100);
     });
 }

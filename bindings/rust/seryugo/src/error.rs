@@ -6,6 +6,7 @@ use crate::error::cause::FileCause;
 use crate::explore::Diverged;
 use crate::message::kind::{Misfit, Missing};
 use crate::raw::code;
+use crate::switchboard::waiting::write_last_stall;
 use crate::version::Version;
 use std::any;
 use std::fmt;
@@ -57,8 +58,9 @@ pub enum Error {
     /// keeps them.
     NotKept,
     /// The call would wait, and no present seat or open lane could ever answer it: a deadlock. No
-    /// call fails so while a [`Guest`](crate::Guest) is there, or a seat is
-    /// [expected](crate::Switchboard::expect).
+    /// call fails so while a seat waits with a time limit or as a future, while a
+    /// [`Guest`](crate::Guest) is there, or while a seat is [expected](crate::Switchboard::expect).
+    /// Its text says who waited at what, as the last call of the thread that prints it failed so.
     Stalled,
     /// There was no memory for it.
     NoMemory,
@@ -215,6 +217,19 @@ impl Error {
     }
 }
 
+/// What `Stalled` says in each text.
+const STALLED: &str = "no seat and no lane is left that could answer this call";
+
+impl Error {
+    /// Why a call was refused, in words that don't depend on the thread.
+    pub(crate) fn why(&self) -> String {
+        match self {
+            Error::Stalled => STALLED.to_string(),
+            other => other.to_string(),
+        }
+    }
+}
+
 impl fmt::Display for Error {
     fn fmt(&self, f: &mut fmt::Formatter<'_>) -> fmt::Result {
         f.write_str(match self {
@@ -224,7 +239,10 @@ impl fmt::Display for Error {
             Error::WrongKind(misfit) => return misfit.fmt(f),
             Error::JournalFull => "the journal is full until it is cut or taken",
             Error::NotKept => "nobody took the entries that were cut from the journal",
-            Error::Stalled => "no seat and no lane is left that could answer this call",
+            Error::Stalled => {
+                write!(f, "{STALLED}; if somebody comes later, announce it by `hold` or `expect`")?;
+                return write_last_stall(f);
+            }
             Error::NoMemory => "there is no memory for this call",
             Error::Unseen => "not all messages that were sent on the lane were seen",
             Error::Full => "the lane has no free slot until it is drained",

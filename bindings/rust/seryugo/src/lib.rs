@@ -29,10 +29,11 @@
 //! - **A seat that isn't made yet is none.** Make all seats before the first thread waits, or say
 //!   how many will come: until they are made, [`board.expect(n)`](Switchboard::expect) keeps calls
 //!   from `Stalled`.
-//! - **A seat that waits with a time limit, or as a future, waits.** So `recv_timeout` on a seat
-//!   that waits alone fails at once. While a guest is there, which
-//!   [`board.hold()`](Switchboard::hold) returns, the call waits for its time, and no call fails
-//!   with `Stalled`.
+//! - **While a seat waits with a time limit, or as a future, no call fails so**, since its caller
+//!   may go on. [`open_waits_stall`](Switchboard::open_waits_stall) takes that back, for programs
+//!   whose futures wait for nothing else.
+//! - **A guest**, which [`board.hold()`](Switchboard::hold) returns, says that somebody will come:
+//!   while it is there, no call fails so.
 //! - **A seat that is free keeps the others waiting.** Drop it as soon as its thread has no more to
 //!   do.
 //!
@@ -204,6 +205,7 @@ mod numbers;
 mod park {
     pub(crate) mod backoff;
     pub(crate) mod cache_padded;
+    pub(crate) mod note;
     pub(crate) mod parker;
     pub(crate) mod table;
     pub(crate) mod yields;
@@ -253,5 +255,6 @@ pub use seat::iter::{Iter, TryIter};
 pub use seat::owned::{Holds, OwnedFeed, OwnedLane, OwnedSeat};
 pub use seat::Seat;
 pub use switchboard::guest::{Guest, OwnedGuest};
+pub use switchboard::waiting::{Waiting, WaitsAt};
 pub use switchboard::Switchboard;
 pub use version::Version;

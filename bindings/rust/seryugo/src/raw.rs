@@ -46,6 +46,8 @@ pub mod code {
     /// The library never returns it: a call that this crate didn't make, since nobody took the
     /// entries of a full journal.
     pub const NOT_KEPT: u32 = u32::MAX - 1;
+    /// As above: a call that the library would let fail as stalled, while a wait is open.
+    pub const DEFERRED: u32 = u32::MAX - 2;
 }
 
 /// Which messages a room or a reading has.

@@ -21,17 +21,18 @@ use crate::request::answers::Answers;
 use crate::seat::owned::Holds;
 use crate::seat::pending::{held, PendingCall};
 use crate::seat::unreturned::Unreturned;
-use crate::switchboard::call::Line;
+use crate::switchboard::call::{Line, Wait};
 use crate::switchboard::Switchboard;
 use std::fmt;
 use std::marker::PhantomData;
+use std::mem;
 
 /// A seat at a switchboard, for one thread at a time. It leaves when it is dropped. It borrows the
 /// switchboard, or has a share of it ([`OwnedSeat`](crate::OwnedSeat)).
 ///
-/// A call that would wait blocks. If all other seats wait, and no lane is open, it fails with
-/// [`Error::Stalled`]: nothing could answer it. While a [`Guest`](crate::Guest) is there, it blocks
-/// on. Drop the seat as soon as its thread has no more to do: while the seat is free, no call fails
+/// A call that would wait blocks. If all other seats wait, none of them with a time limit or as a
+/// future, and no lane is open, it fails with [`Error::Stalled`]: nothing could answer it. While a
+/// [`Guest`](crate::Guest) is there, it blocks on. Drop the seat as soon as its thread has no more to do: while the seat is free, no call fails
 /// with `Stalled`.
 ///
 /// ```
@@ -63,9 +64,10 @@ use std::marker::PhantomData;
 /// - A call whose time passes fails with [`Error::TimedOut`], and has done nothing. Neither has a
 ///   future that is dropped.
 /// - The journal has polls that found nothing. It has no call that timed out.
-/// - If all seats wait, and no lane is open, each call that waits fails with [`Error::Stalled`]. A
-///   seat that waits with a time limit or as a future counts as one that waits. If it is to answer
-///   others later, hold a [`Guest`](crate::Guest).
+/// - If all seats wait, and no lane is open, each call that waits fails with [`Error::Stalled`]. It
+///   doesn't while a seat waits with a time limit or as a future: its caller may go on. A forgotten
+///   future (`mem::forget`) counts until its seat's next call. Programs whose futures wait for
+///   nothing else say [`open_waits_stall`](Switchboard::open_waits_stall).
 ///
 /// # How a call fails
 ///
@@ -84,9 +86,9 @@ pub struct Seat<'a, R: MessageKind = Bytes, H: Holds<R> = &'a Switchboard<R>> {
     pub(crate) board: H,
     number: u64,
     pub(crate) parker: ParkerAt,
-    /// Whether the library may have the seat as parked, so that the next call withdraws it first: a
-    /// future waits by it or was forgotten, a call that waited is made again, or a sink panicked.
-    pub(crate) is_parked: bool,
+    /// A wait that may have begun, so that the next call ends it first: a future waits by the seat or
+    /// was forgotten, a call that waited is made again, or a sink panicked.
+    pub(crate) wait: Wait,
     /// Where its questions are answered, once it has asked one.
     pub(crate) answers: Option<Answers>,
     /// What it received for futures that were dropped before the disk had it.
@@ -108,7 +110,7 @@ impl<R: MessageKind, H: Holds<R>> Seat<'_, R, H> {
             board,
             number,
             parker,
-            is_parked: false,
+            wait: Wait::BLOCKING,
             answers: None,
             unreturned: Vec::new(),
             kind: PhantomData,
@@ -375,7 +377,7 @@ impl<R: MessageKind, H: Holds<R>> Seat<'_, R, H> {
     /// in which a sink panicked.
     #[inline]
     pub(crate) fn ready(&mut self) -> u64 {
-        if self.is_parked {
+        if self.wait.has_begun() {
             self.withdraw();
         }
         self.number
@@ -384,9 +386,9 @@ impl<R: MessageKind, H: Holds<R>> Seat<'_, R, H> {
     /// Ends the wait of a call or a future.
     #[cold]
     pub(crate) fn withdraw(&mut self) {
-        self.is_parked = false;
-        let seat = self.number;
-        self.board.change_unsettled(Some(&self.parker), |state| state.withdraw(seat));
+        let (seat, wait) = (self.number, mem::replace(&mut self.wait, Wait::BLOCKING));
+        self.parker.gives_up();
+        self.board.change_unsettled(Some(&self.parker), |state| state.end_wait(seat, wait));
         self.parker.forget_waker();
     }
 }
@@ -394,14 +396,13 @@ impl<R: MessageKind, H: Holds<R>> Seat<'_, R, H> {
 impl<R: MessageKind, H: Holds<R>> Drop for Seat<'_, R, H> {
     fn drop(&mut self) {
         let (seat, answers) = (self.number, self.answers.take());
-        if self.is_parked {
+        if self.wait.has_begun() {
+            self.parker.gives_up();
             self.parker.forget_waker();
         }
         // This is one call: the seat leaves also if the waker of another seat panics.
         self.board.change_unsettled(None, |state| {
-            if self.is_parked {
-                state.withdraw(seat);
-            }
+            state.end_wait(seat, self.wait);
             // The seat isn't parked, so that it may leave.
             raw::seryugo_leave(&mut state.handle, seat);
             state.free_answers.extend(answers);

@@ -1,5 +1,6 @@
 //! A room under a lock, on which threads call and wait.
 
+pub(crate) mod asking;
 pub(crate) mod call;
 pub(crate) mod expected;
 pub(crate) mod fences;
@@ -10,6 +11,7 @@ pub(crate) mod locked;
 pub(crate) mod moving;
 pub(crate) mod objects;
 pub(crate) mod state;
+pub(crate) mod waiting;
 
 use crate::error::Error;
 use crate::explore::{Conductor, StepKind};
@@ -151,7 +153,8 @@ impl<R: MessageKind> Switchboard<R> {
     }
 
     /// A new seat. Make all seats before the first thread waits, or say by
-    /// [`expect`](Switchboard::expect) how many will come: else its call may fail with `Stalled`.
+    /// [`expect`](Switchboard::expect) how many will come: else a call without a limit may fail with
+    /// `Stalled`.
     ///
     /// ```
     /// # let board = seryugo::Switchboard::new(1_000)?;
@@ -284,6 +287,12 @@ impl<R: MessageKind> Switchboard<R> {
 
 impl<R: MessageKind> fmt::Debug for Switchboard<R> {
     fn fmt(&self, f: &mut fmt::Formatter<'_>) -> fmt::Result {
-        f.debug_struct("Switchboard").field("number", &self.number).finish_non_exhaustive()
+        let mut shown = f.debug_struct("Switchboard");
+        shown.field("number", &self.number);
+        match self.waiting_now() {
+            Some(waiting) => shown.field("waiting", &waiting),
+            None => shown.field("waiting", &format_args!("<locked>")),
+        };
+        shown.finish_non_exhaustive()
     }
 }

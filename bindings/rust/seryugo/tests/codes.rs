@@ -132,7 +132,7 @@ fn a_count_that_an_object_has_not_is_named() {
 #[test]
 fn a_full_journal_refuses_each_call_that_it_would_have() {
     for (call, make) in written() {
-        let board = board_of_each(OBJECTS);
+        let board = board_of_each(OBJECTS).open_waits_stall();
         let names = Names::of(&board);
         let mut seat = board.seat().unwrap();
         assert_eq!(make(&board, &mut seat, &names), Err(Error::JournalFull), "{call}");
@@ -161,7 +161,7 @@ fn a_full_journal_takes_no_new_object() {
 
 #[test]
 fn each_call_that_waits_alone_is_stalled() {
-    let board = board_of_each(100);
+    let board = board_of_each(100).open_waits_stall();
     let mut seat = board.seat().unwrap();
     let (mailbox, port, ivar, mvar) = (
         board.mailbox(MAILBOX).unwrap(),

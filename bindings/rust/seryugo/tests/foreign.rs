@@ -162,7 +162,9 @@ fn each_code_at_each_call() {
         assert!(Checker::new().is_err());
         assert_eq!(Switchboard::open("x.journal").err(), Some(unopened(code)));
         returns(0, code);
-        let (bytes, numbers) = (Switchboard::new(9).unwrap(), Switchboard::of_numbers(9).unwrap());
+        // A future that this library lets fail as stalled would wait.
+        let bytes = Switchboard::new(9).unwrap().open_waits_stall();
+        let numbers = Switchboard::of_numbers(9).unwrap().open_waits_stall();
         calls(&bytes, code);
         calls(&numbers, code);
         questions(&bytes, code);

@@ -95,7 +95,7 @@ fn run_all(tasks: Vec<Task<'_>>) {
 #[test]
 fn each_call_is_a_future() {
     without_a_hang(|| {
-        let board = Switchboard::of_numbers(100).unwrap();
+        let board = Switchboard::of_numbers(100).unwrap().open_waits_stall();
         let (mut seat, mut other) = (board.seat().unwrap(), board.seat().unwrap());
         let mailbox = seat.mailbox().unwrap();
         let channel = seat.channel().unwrap();
@@ -184,7 +184,7 @@ fn each_task_that_is_due_is_woken() {
         (|_, seat| drop(seat), Err(Error::Stalled)),
     ];
     for (event, expected) in events {
-        let board = Switchboard::of_numbers(20).unwrap();
+        let board = Switchboard::of_numbers(20).unwrap().open_waits_stall();
         let mut first = board.seat().unwrap();
         let variable = first.ivar().unwrap();
         first.mailbox().unwrap();

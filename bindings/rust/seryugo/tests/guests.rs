@@ -15,8 +15,10 @@ use std::time::{Duration, Instant};
 
 const SHORT: Duration = Duration::from_millis(2);
 
+/// Here waits with a time limit and futures are stalled too, so that they show when somebody is
+/// awaited.
 fn board() -> Arc<Board> {
-    Arc::new(Switchboard::of_numbers(1_000).unwrap())
+    Arc::new(Switchboard::of_numbers(1_000).unwrap().open_waits_stall())
 }
 
 /// A switchboard, a seat at it, and a mailbox.

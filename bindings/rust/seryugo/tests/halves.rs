@@ -2,7 +2,7 @@
 
 mod common;
 
-use common::{block_on, without_a_hang, PATIENCE};
+use common::{block_on, without_a_hang};
 use seryugo::{Error, Kind, Message, Missing, Numbers, Receiver, Sender, Switchboard, WhenFull};
 use std::sync::Arc;
 use std::thread;
@@ -52,7 +52,7 @@ fn a_receiver_ends_once_all_senders_are_dropped() {
             drop(sender);
             let receiving = thread::spawn(move || other.iter().sum::<u64>());
             let sum = receiver.iter().sum::<u64>();
-            assert_eq!(receiver.recv_timeout(PATIENCE), Err(Error::Stalled));
+            assert_eq!(receiver.recv(), Err(Error::Stalled));
             drop(receiver);
             assert_eq!(sum + receiving.join().unwrap(), 3 * round + 3);
         }
@@ -102,7 +102,7 @@ fn a_mailbox_of_another_switchboard_has_no_halves_here() {
 
 #[test]
 fn they_use_up_expected_seats() {
-    let board = board();
+    let board = Arc::new(Switchboard::new(1_000).unwrap().open_waits_stall());
     let mut seat = board.seat_owned().unwrap();
     let mailbox = seat.mailbox::<u64>().unwrap();
     board.expect(2).unwrap();

@@ -64,7 +64,7 @@ fn what_is_there_is_received_whatever_the_limit() {
 fn a_call_with_a_limit_is_answered_and_refused_as_any_other() {
     without_a_hang(|| {
         for timeout in [Duration::from_secs(3_600), Duration::MAX] {
-            let board = Switchboard::of_numbers(100).unwrap();
+            let board = Switchboard::of_numbers(100).unwrap().open_waits_stall();
             let mut first = board.seat().unwrap();
             let mailbox = first.mailbox().unwrap();
             let channel = first.channel().unwrap();

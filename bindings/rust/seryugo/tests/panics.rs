@@ -161,7 +161,7 @@ fn a_thread_in_whose_call_the_sink_panics_wakes_the_next() {
 /// A second panic would abort the tests.
 #[test]
 fn a_waker_may_panic_as_a_thread_that_panics_drops_its_seat() {
-    let board = Switchboard::of_numbers(100).unwrap();
+    let board = Switchboard::of_numbers(100).unwrap().open_waits_stall();
     let (last, mut seats) = (board.seat().unwrap(), seats(&board, 3));
     let mailbox = seats[0].mailbox().unwrap();
     let alarms = [0, 1, 2].map(|at| Alarm::new(at, at == 0));
@@ -182,7 +182,7 @@ fn a_waker_may_panic_as_a_thread_that_panics_drops_its_seat() {
 /// A seat that is dropped hands its turn on, and the waker of the other seat panics.
 #[test]
 fn a_seat_leaves_though_a_waker_panics() {
-    let board = Switchboard::of_numbers(100).unwrap();
+    let board = Switchboard::of_numbers(100).unwrap().open_waits_stall();
     let (mut ann, mut ben, mut carl) =
         (board.seat().unwrap(), board.seat().unwrap(), board.seat().unwrap());
     let mailbox = ann.mailbox().unwrap();

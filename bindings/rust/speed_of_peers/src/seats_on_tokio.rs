@@ -9,7 +9,8 @@ use tokio::task::JoinSet;
 
 /// A switchboard that tasks share: it lives as long as the process does.
 fn board() -> &'static Switchboard<Numbers> {
-    Box::leak(Box::new(Switchboard::of_numbers(1 << 32).unwrap()))
+    // Nothing else ends these futures.
+    Box::leak(Box::new(Switchboard::of_numbers(1 << 32).unwrap().open_waits_stall()))
 }
 
 pub fn token<const THREADS: usize>(messages: u64) -> Duration {

@@ -27,14 +27,14 @@ pub fn on_each_runtime<F: Future<Output = ()>>(scenario: impl Fn() -> F) {
     }
 }
 
-/// A switchboard that tasks share. It goes with the last of them.
+/// A switchboard that tasks share. It goes with the last of them. Their futures wait for nothing else.
 pub fn board() -> Arc<Switchboard> {
-    Arc::new(Switchboard::new(MANY).unwrap())
+    Arc::new(Switchboard::new(MANY).unwrap().open_waits_stall())
 }
 
 /// The same for numbers alone.
 pub fn board_of_numbers() -> Arc<Switchboard<Numbers>> {
-    Arc::new(Switchboard::of_numbers(MANY).unwrap())
+    Arc::new(Switchboard::of_numbers(MANY).unwrap().open_waits_stall())
 }
 
 pub fn ms(count: u64) -> Duration {

@@ -7,6 +7,7 @@ use crate::message::carries::MessageKind;
 use crate::message::kind;
 use crate::raw::{self, code, EntrySource, Handle, Reader, Taking};
 use crate::switchboard::call::Ask;
+use crate::switchboard::waiting::WaitsAt;
 use crate::switchboard::Switchboard;
 use std::hash::{DefaultHasher, Hash, Hasher};
 
@@ -34,6 +35,15 @@ pub(crate) struct Look {
     pub place: u64,
 }
 
+/// A call that waits.
+#[derive(Clone, Copy)]
+pub(crate) struct Blocked {
+    pub seat: u64,
+    pub step: Step,
+    /// As in [`Wait`](crate::switchboard::call::Wait).
+    pub is_open: bool,
+}
+
 /// A switchboard of some kind that is explored.
 pub(crate) trait Board: Send + Sync {
     fn look(&self, step: Step) -> Look;
@@ -51,7 +61,7 @@ pub(crate) trait Board: Send + Sync {
     fn text(&self) -> String;
     /// Whether one of these calls would fail as stalled, if all of them were made, and which seats
     /// are free then.
-    fn stall(&self, waits: &[(u64, Step)]) -> (bool, Vec<u64>);
+    fn stall(&self, waits: &[Blocked]) -> (bool, Vec<u64>);
 }
 
 impl<R: MessageKind> Board for Switchboard<R> {
@@ -135,29 +145,30 @@ impl<R: MessageKind> Board for Switchboard<R> {
         }
     }
 
-    fn stall(&self, waits: &[(u64, Step)]) -> (bool, Vec<u64>) {
+    fn stall(&self, waits: &[Blocked]) -> (bool, Vec<u64>) {
         let mut state = self.lock();
-        let mut fails_as_stalled = false;
-        for &(seat, step) in waits {
-            let read = match step.kind {
-                StepKind::Recv => Read::Recv,
-                StepKind::Get => Read::Get,
+        let mut is_last_stalled = false;
+        for &Blocked { seat, step, .. } in waits {
+            let (read, at) = match step.kind {
+                StepKind::Recv => (Read::Recv, WaitsAt::Recv(step.object)),
+                StepKind::Get => (Read::Get, WaitsAt::Get(step.object)),
                 // A swap waits as a take does.
-                _ => Read::Take,
+                _ => (Read::Take, WaitsAt::Take(step.object)),
             };
             let mut found = R::nothing();
-            let code = state.ask(Ask::first(seat), |room| {
+            let code = state.ask(Ask::blocking(seat, at), |room| {
                 R::ask(read, room, seat, step.object, false, &mut found)
             });
-            fails_as_stalled = code == code::STALLED;
+            is_last_stalled = code == code::STALLED;
         }
         let seats = state.next_place();
         let is_free = |seat: &u64| is_free::<R>(&mut state.handle, *seat);
         let free = (0..seats).filter(is_free).collect();
-        for &(seat, _) in waits {
-            state.withdraw(seat);
+        for waits in waits {
+            state.withdraw(waits.seat);
         }
-        (fails_as_stalled, free)
+        let is_held_up = !state.open_waits_may_stall() && waits.iter().any(|waits| waits.is_open);
+        (is_last_stalled && !is_held_up, free)
     }
 }
 

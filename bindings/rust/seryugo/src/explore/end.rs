@@ -103,7 +103,9 @@ impl fmt::Display for End {
                 })?;
                 match (fails_as_stalled, &free[..]) {
                     (true, _) => Ok(()),
-                    (false, []) => f.write_str("a lane is open, or somebody is awaited"),
+                    (false, []) => {
+                        f.write_str("a lane is open, a future waits, or somebody is awaited")
+                    }
                     (false, [seat]) => write!(f, "seat {seat} is free"),
                     (false, seats) => write!(f, "the seats {seats:?} are free"),
                 }

@@ -143,8 +143,12 @@ impl Explorer {
 
     /// Runs the program once.
     pub fn run<R: MessageKind>(&self, run: u64, program: &impl Fn(&Arc<Switchboard<R>>)) -> Run {
-        let board =
-            Switchboard::<R>::with_limit(self.strategy.limits.entries).expect("a switchboard");
+        let limits = self.strategy.limits;
+        let board = Switchboard::<R>::with_limit(limits.entries).expect("a switchboard");
+        let board = match limits.open_waits_stall {
+            true => board.open_waits_stall(),
+            false => board,
+        };
         let board = Arc::new(board.conducted_by(Conductor::Exploration(Arc::clone(&self.play))));
         self.play.lock().begin(Arc::clone(&board) as Arc<dyn Board>, &self.main, run);
         play::enter(&self.play, 0);

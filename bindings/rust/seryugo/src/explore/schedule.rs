@@ -26,12 +26,13 @@ impl Choice {
 /// The choices of a run, where more than one thread could go on. A digit or a letter is a thread,
 /// `(36)` one with a higher number, `[1]` its second future, `!` says that its call ends by its time
 /// or as stalled, and `{9}` that the same thread is chosen nine times. A `+` before all says that
-/// calls are let fail as stalled, a `*` that polls of futures are steps, and `!2:` that two calls
-/// may end by their time though something else can happen.
+/// calls are let fail as stalled, a `=` that open waits may fail so, a `*` that polls of futures are
+/// steps, and `!2:` that two calls may end by their time though something else can happen.
 #[derive(Clone, Default, PartialEq, Eq, Debug)]
 pub(crate) struct Schedule {
     pub choices: Vec<Choice>,
     pub tells_stalls: bool,
+    pub open_waits_stall: bool,
     pub polls_are_steps: bool,
     pub time_outs: u32,
 }
@@ -43,6 +44,9 @@ impl fmt::Display for Schedule {
     fn fmt(&self, f: &mut fmt::Formatter<'_>) -> fmt::Result {
         if self.tells_stalls {
             f.write_char('+')?;
+        }
+        if self.open_waits_stall {
+            f.write_char('=')?;
         }
         if self.polls_are_steps {
             f.write_char('*')?;
@@ -77,6 +81,7 @@ impl Schedule {
     /// Reads a line that a schedule was written as. `None` if it is no such line.
     pub fn read(line: &str) -> Option<Schedule> {
         let (rest, tells_stalls) = has_prefix(line, '+');
+        let (rest, open_waits_stall) = has_prefix(rest, '=');
         let (rest, polls_are_steps) = has_prefix(rest, '*');
         let (time_outs, rest) = match rest.strip_prefix('!') {
             Some(rest) => number_until(rest, ':')?,
@@ -92,6 +97,7 @@ impl Schedule {
         Some(Schedule {
             choices,
             tells_stalls,
+            open_waits_stall,
             polls_are_steps,
             time_outs: u32::try_from(time_outs).ok()?,
         })
@@ -151,11 +157,12 @@ mod tests {
         let schedule = Schedule {
             choices,
             tells_stalls: true,
+            open_waits_stall: true,
             polls_are_steps: true,
             time_outs: 12,
         };
-        assert_eq!(schedule.to_string(), "+*!12:0b(40)!2{9}1[2]!");
-        assert_eq!(Schedule::read("+*!12:0b(40)!2{9}1[2]!"), Some(schedule));
+        assert_eq!(schedule.to_string(), "+=*!12:0b(40)!2{9}1[2]!");
+        assert_eq!(Schedule::read("+=*!12:0b(40)!2{9}1[2]!"), Some(schedule));
         assert_eq!(Schedule::read(""), Some(Schedule::default()));
         for line in [
             "?",

@@ -70,6 +70,8 @@ pub(crate) struct Limits {
     pub steps: u64,
     pub entries: u64,
     pub tells_stalls: bool,
+    /// Whether calls with a time limit and futures may fail as stalled.
+    pub open_waits_stall: bool,
     /// This many calls may end by their time though something else can happen.
     pub time_outs: u32,
     /// Whether each poll of a future is a step.

@@ -82,12 +82,11 @@ impl Strategy {
         let Some(read) = Schedule::read(schedule) else {
             panic!("{schedule:?} is no schedule");
         };
-        let (tells_stalls, polls_are_steps) = (read.tells_stalls, read.polls_are_steps);
-        let time_outs = read.time_outs;
-        let mut strategy = Strategy::of(Order::Again(read));
-        strategy.limits.tells_stalls = tells_stalls;
-        strategy.limits.polls_are_steps = polls_are_steps;
-        strategy.limits.time_outs = time_outs;
+        let mut strategy = Strategy::of(Order::Again(read.clone()));
+        strategy.limits.tells_stalls = read.tells_stalls;
+        strategy.limits.open_waits_stall = read.open_waits_stall;
+        strategy.limits.polls_are_steps = read.polls_are_steps;
+        strategy.limits.time_outs = read.time_outs;
         strategy
     }
 
@@ -99,6 +98,7 @@ impl Strategy {
                 steps: 10_000,
                 entries: 1 << 20,
                 tells_stalls: false,
+                open_waits_stall: false,
                 polls_are_steps: false,
                 time_outs: 0,
             },
@@ -134,6 +134,14 @@ impl Strategy {
     /// Until you say it, such a run ends as [`End::Stalled`](super::End::Stalled).
     pub fn stalls_are_told(mut self) -> Strategy {
         self.limits.tells_stalls = true;
+        self
+    }
+
+    /// Explores the program on a switchboard of
+    /// [`open_waits_stall`](crate::Switchboard::open_waits_stall): a future may fail with
+    /// [`Stalled`](crate::Error::Stalled) too.
+    pub fn open_waits_stall(mut self) -> Strategy {
+        self.limits.open_waits_stall = true;
         self
     }
 

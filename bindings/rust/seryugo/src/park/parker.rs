@@ -1,7 +1,10 @@
 //! How a parked seat waits: by a thread that sleeps, or by a future's waker.
 
 use crate::park::backoff::{pass_by_spinning, LongBackoff, Pass, ShortBackoff};
+use crate::park::note::WaitNote;
 use crate::park::yields::pass_by_yielding;
+use crate::switchboard::call::Wait;
+use crate::switchboard::waiting::{Waiting, WaitsAt};
 use std::mem;
 use std::panic::{self, AssertUnwindSafe};
 use std::sync::atomic::{AtomicBool, AtomicU64, AtomicU8, Ordering};
@@ -42,15 +45,16 @@ const NOBODY: u64 = u64::MAX;
 /// wait too early. Then the seat asks again in vain, and waits on. No wake for the last ask is
 /// lost, since the state becomes `AWAKE` only before an ask, and never between the ask and the
 /// sleep.
+#[repr(C)]
 pub(crate) struct Parker {
     /// The seat's number.
     number: u64,
-    state: AtomicU8,
     /// The seat whose call woke it last.
     woken_by: AtomicU64,
     /// The waker of a future that listens. A thread that sleeps has this lock until it sleeps.
     waker: Mutex<Option<Waker>>,
     woken: Condvar,
+    state: AtomicU8,
     // These are for the seat's thread alone.
     is_answer_near: AtomicBool,
     has_waited_long: AtomicBool,
@@ -58,12 +62,14 @@ pub(crate) struct Parker {
     long: LongBackoff,
     /// How many calls had been made on the switchboard when the seat was parked.
     parked_at: AtomicU64,
+    /// What the seat waits at.
+    note: WaitNote,
 }
 
-// All of it is in one line of memory. The thread that wakes and the one that is woken run on two
-// processors, and each line that both use has to go from one to the other.
+// All but the note is in one line of memory. The thread that wakes and the one that is woken run on
+// two processors, and each line that both use has to go from one to the other.
 #[cfg(target_os = "linux")]
-const _: () = assert!(mem::size_of::<Parker>() <= 64);
+const _: () = assert!(mem::offset_of!(Parker, note) == 64 && mem::size_of::<Parker>() <= 128);
 
 impl Parker {
     pub fn new(number: u64) -> Parker {
@@ -78,6 +84,7 @@ impl Parker {
             short: ShortBackoff::new(),
             long: LongBackoff::new(),
             parked_at: AtomicU64::new(0),
+            note: WaitNote::default(),
         }
     }
 
@@ -195,17 +202,39 @@ impl Parker {
         }
     }
 
-    /// The seat made a call that may park it, or made it again. This many calls were made on the
-    /// switchboard.
-    #[inline]
-    pub fn note_ask(&self, is_again: bool, is_parked: bool, calls: u64) {
-        if is_again {
-            let meanwhile = calls.wrapping_sub(self.parked_at.load(Ordering::Relaxed));
-            self.has_waited_long.store(meanwhile > FEW_CALLS, Ordering::Relaxed);
-        }
-        if is_parked {
-            self.parked_at.store(calls, Ordering::Relaxed);
-        }
+    /// The seat begins this wait at a call. The journal has had so many entries, and this many calls
+    /// were made on the switchboard.
+    pub fn begins_wait(&self, wait: Wait, at: WaitsAt, entries: u64, calls: u64) {
+        self.parked_at.store(calls, Ordering::Relaxed);
+        self.note.begin(at, wait.is_open, entries);
+    }
+
+    /// The seat made its call again, and waits on.
+    pub fn waits_on(&self, calls: u64) {
+        self.note_length(calls);
+        self.parked_at.store(calls, Ordering::Relaxed);
+    }
+
+    /// The seat made its call again, and waits no longer.
+    pub fn ends_wait(&self, calls: u64) {
+        self.note_length(calls);
+        self.note.end();
+    }
+
+    /// The seat gives up its wait.
+    pub fn gives_up(&self) {
+        self.note.end();
+    }
+
+    fn note_length(&self, calls: u64) {
+        let meanwhile = calls.wrapping_sub(self.parked_at.load(Ordering::Relaxed));
+        self.has_waited_long.store(meanwhile > FEW_CALLS, Ordering::Relaxed);
+    }
+
+    /// What this seat, which has this number, waits at, if it waits. The caller has the switchboard's
+    /// lock.
+    pub fn waiting(&self, seat: u64) -> Option<Waiting> {
+        self.note.waiting(seat)
     }
 
     /// The seat's call has just woken another seat. If a thread slept there, or that seat had woken

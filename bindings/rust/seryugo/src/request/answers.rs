@@ -271,8 +271,7 @@ fn answer_in<A: Message>(asker: &Asker<A>, received: Answer<Bytes>) -> Option<Re
 /// assert_eq!(unanswered.error, Error::Stalled);
 /// assert!(unanswered.was_sent);
 /// assert_eq!(unanswered.question, "hello");
-/// let why = "no seat and no lane is left that could answer this call";
-/// assert_eq!(unanswered.to_string(), format!("the question has no answer: {why}"));
+/// assert!(unanswered.to_string().starts_with("the question has no answer: no seat and no lane"));
 /// # Ok(())
 /// # }
 /// ```

@@ -10,7 +10,8 @@ use crate::message::names::Source;
 use crate::raw::{self, code, Handle};
 use crate::seat::owned::Holds;
 use crate::seat::Seat;
-use crate::switchboard::call::{Ask, Line};
+use crate::switchboard::call::{Ask, Line, Wait};
+use crate::switchboard::waiting::WaitsAt;
 use std::future::Future;
 use std::pin::Pin;
 use std::task::{Context, Poll, Waker};
@@ -42,13 +43,25 @@ impl<R: MessageKind> PendingCall<'_, R> {
         }
     }
 
-    /// How this seat asks.
+    /// How this seat asks, in this wait.
     #[inline]
-    fn of(self, seat: u64, is_again: bool) -> Ask {
+    fn of(self, seat: u64, wait: Wait) -> Ask {
         Ask {
             seat,
-            is_again,
+            wait,
             line: self.line(),
+            at: self.at(),
+        }
+    }
+
+    /// What a seat waits at.
+    #[inline]
+    fn at(self) -> WaitsAt {
+        match self {
+            PendingCall::Read(Read::Recv, source) => WaitsAt::Recv(source),
+            PendingCall::Read(Read::Get, variable) => WaitsAt::Get(variable),
+            PendingCall::Read(Read::Take, variable) => WaitsAt::Take(variable),
+            PendingCall::Swap(variable, _) => WaitsAt::Swap(variable),
         }
     }
 
@@ -150,27 +163,28 @@ impl<'a, R: MessageKind, H: Holds<R>> Seat<'a, R, H> {
             return answer;
         }
         let mut received = R::nothing();
-        let mut is_again = false;
+        let mut wait = Wait::OPEN;
         let mut is_last = deadline <= Instant::now();
         loop {
-            let ask = call.of(seat, is_again);
-            let call = |room: &mut Handle| call.ask(room, seat, is_again, &mut received);
-            // As in `wait_freely`.
-            self.is_parked = is_again;
+            let ask = call.of(seat, wait);
+            let call = |room: &mut Handle| call.ask(room, seat, wait.is_parked(), &mut received);
+            // As in `wait_on`.
+            self.wait = wait;
             let code = if is_last {
+                self.parker.gives_up();
                 self.board.change(Some(&self.parker), |state| state.ask_at_last(ask, call))
             } else {
                 self.board.ask(&self.parker, ask, call)
             };
-            self.is_parked = false;
-            if code != code::PARKED {
+            self.wait = Wait::BLOCKING;
+            wait = wait.after(code);
+            if !wait.has_begun() {
                 return Ok((code, received));
             }
             if is_last {
                 return Err(Error::TimedOut);
             }
             is_last = !self.parker.park_until(deadline);
-            is_again = true;
         }
     }
 
@@ -199,17 +213,31 @@ impl<'a, R: MessageKind, H: Holds<R>> Seat<'a, R, H> {
     #[inline]
     fn wait_freely(&mut self, call: PendingCall<'_, R>, to: &mut R::Received) -> u32 {
         let seat = self.number();
-        let ask = call.of(seat, false);
-        let mut code = self.board.ask(&self.parker, ask, |room| call.ask(room, seat, false, to));
-        while code == code::PARKED {
-            self.parker.park();
-            // If a sink panics in this call, the seat's next one withdraws it, or the seat's end.
-            self.is_parked = true;
-            let again = call.of(seat, true);
-            code = self.board.ask(&self.parker, again, |room| call.ask(room, seat, true, to));
-            self.is_parked = false;
+        let ask = call.of(seat, Wait::BLOCKING);
+        let code = self.board.ask(&self.parker, ask, |room| call.ask(room, seat, false, to));
+        match ask.wait.after(code) {
+            wait if wait.has_begun() => self.wait_on(call, wait, to),
+            _ => code,
         }
-        code
+    }
+
+    /// Waits on at such a call: its code.
+    fn wait_on(&mut self, call: PendingCall<'_, R>, mut wait: Wait, to: &mut R::Received) -> u32 {
+        let seat = self.number();
+        loop {
+            self.parker.park();
+            // If a sink panics in this call, the seat's next one ends the wait, or the seat's end.
+            self.wait = wait;
+            let again = call.of(seat, wait);
+            let is_parked = wait.is_parked();
+            let code =
+                self.board.ask(&self.parker, again, |room| call.ask(room, seat, is_parked, to));
+            self.wait = Wait::BLOCKING;
+            wait = wait.after(code);
+            if !wait.has_begun() {
+                return code;
+            }
+        }
     }
 
     /// Lets an exploration or a rerun decide when the call is made. `None`: make it now, as any
@@ -219,7 +247,7 @@ impl<'a, R: MessageKind, H: Holds<R>> Seat<'a, R, H> {
         let conductor = self.board.conductor.as_ref()?;
         let (seat, mut received) = (self.number(), R::nothing());
         let asked = self.board.ask_conducted(conductor, seat, call.step(), is_timed, |state| {
-            let ask = call.of(seat, false);
+            let ask = call.of(seat, Wait::BLOCKING);
             state.ask_at_last(ask, |room| call.ask(room, seat, false, &mut received))
         });
         asked.transpose().map(|code| Ok((code?, received)))
@@ -245,17 +273,17 @@ struct Settling<R: MessageKind> {
 }
 
 impl<R: MessageKind, H: Holds<R>> Waiting<'_, '_, '_, R, H> {
-    /// Makes the call, for the first time or again. `None` if its seat is parked. Else the answer, and
-    /// the position up to which it rests on the file.
-    fn ask(&mut self, is_again: bool) -> Option<(Answer<R>, u64)> {
+    /// Makes the call, in this wait. `None` if its seat waits on. Else the answer, and the position up
+    /// to which it rests on the file.
+    fn ask(&mut self, wait: Wait) -> Option<(Answer<R>, u64)> {
         let (seat, call) = (self.seat.number(), self.call);
         let mut received = R::nothing();
-        let ask = call.of(seat, is_again);
+        let ask = call.of(seat, wait);
         let (code, position) = self.seat.board.ask_as::<false>(&self.seat.parker, ask, |room| {
-            call.ask(room, seat, is_again, &mut received)
+            call.ask(room, seat, wait.is_parked(), &mut received)
         });
-        self.seat.is_parked = code == code::PARKED;
-        (!self.seat.is_parked).then_some((Ok((code, received)), position))
+        self.seat.wait = wait.after(code);
+        (!self.seat.wait.has_begun()).then_some((Ok((code, received)), position))
     }
 
     /// Hands this answer over, if the disk has what it rests on. Else this keeps it, and has the file
@@ -280,15 +308,17 @@ impl<R: MessageKind, H: Holds<R>> Waiting<'_, '_, '_, R, H> {
         if let Some(left) = self.seat.take_unreturned(self.call) {
             return Some(left);
         }
-        let mut is_again = self.seat.is_parked;
         loop {
-            if is_again && !self.seat.parker.poll(waker) {
+            let wait = match self.seat.wait {
+                wait if wait.has_begun() => wait,
+                _ => Wait::OPEN,
+            };
+            if wait.has_begun() && !self.seat.parker.poll(waker) {
                 return None;
             }
-            if let Some(answer) = self.ask(is_again) {
+            if let Some(answer) = self.ask(wait) {
                 return Some(answer);
             }
-            is_again = true;
         }
     }
 

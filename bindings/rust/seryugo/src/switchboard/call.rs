@@ -3,6 +3,7 @@
 use crate::error::Error;
 use crate::message::carries::MessageKind;
 use crate::raw::{code, Handle};
+use crate::switchboard::waiting::WaitsAt;
 
 /// What a call under the lock returns.
 pub(crate) trait Outcome {
@@ -86,21 +87,89 @@ impl Line {
     }
 }
 
-/// A call that may park its seat, or that of a parked seat again.
+/// What became of a call that may block, as it was made last.
+#[derive(Clone, Copy, PartialEq, Eq, Debug)]
+pub(crate) enum Before {
+    /// It wasn't made, or was answered.
+    Never,
+    /// The library parked its seat.
+    Parked,
+    /// The library would let it fail as stalled, and has its seat as free. Since a wait is open, its
+    /// caller waits nevertheless.
+    Deferred,
+}
+
+impl Before {
+    /// What became of a call that returned this code.
+    #[inline]
+    pub const fn of(code: u32) -> Before {
+        match code {
+            code::PARKED => Before::Parked,
+            code::DEFERRED => Before::Deferred,
+            _ => Before::Never,
+        }
+    }
+}
+
+/// A wait of a seat.
+#[derive(Clone, Copy, PartialEq, Eq, Debug)]
+pub(crate) struct Wait {
+    pub before: Before,
+    /// Whether its caller can end it: it has a time limit, or is a future.
+    pub is_open: bool,
+}
+
+impl Wait {
+    /// One that goes on until there is an answer, and has not begun.
+    pub const BLOCKING: Wait = Wait {
+        before: Before::Never,
+        is_open: false,
+    };
+    /// One that its caller can end, and that has not begun.
+    pub const OPEN: Wait = Wait {
+        before: Before::Never,
+        is_open: true,
+    };
+
+    /// The same wait, after its call returned this code.
+    #[inline]
+    pub const fn after(self, code: u32) -> Wait {
+        Wait {
+            before: Before::of(code),
+            ..self
+        }
+    }
+
+    /// Whether it has begun.
+    #[inline]
+    pub fn has_begun(self) -> bool {
+        self.before != Before::Never
+    }
+
+    /// Whether the library has the seat as parked.
+    #[inline]
+    pub fn is_parked(self) -> bool {
+        self.before == Before::Parked
+    }
+}
+
+/// A call that may block, for the first time or again.
 #[derive(Clone, Copy)]
 pub(crate) struct Ask {
     pub seat: u64,
-    pub is_again: bool,
+    pub wait: Wait,
     pub line: Line,
+    pub at: WaitsAt,
 }
 
 impl Ask {
-    /// The first ask of a seat, whose line is short.
-    pub fn first(seat: u64) -> Ask {
+    /// The first ask of a seat that waits until there is an answer, and whose line is short.
+    pub fn blocking(seat: u64, at: WaitsAt) -> Ask {
         Ask {
             seat,
-            is_again: false,
+            wait: Wait::BLOCKING,
             line: Line::SHORT,
+            at,
         }
     }
 }

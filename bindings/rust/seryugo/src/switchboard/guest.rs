@@ -22,10 +22,13 @@ use std::sync::Arc;
 /// let mut seat = board.seat()?;
 /// let mailbox = seat.mailbox::<u64>()?;
 /// let guest = board.hold()?;
-/// let limit = Duration::from_millis(1);
-/// assert_eq!(seat.recv_timeout(mailbox, limit), Err(Error::TimedOut));
-/// drop(guest);
-/// assert_eq!(seat.recv_timeout(mailbox, limit), Err(Error::Stalled));
+/// std::thread::scope(|scope| {
+///     let waiter = scope.spawn(move || seat.recv(mailbox));
+///     std::thread::sleep(Duration::from_millis(1));
+///     assert!(!waiter.is_finished());
+///     drop(guest);
+///     assert_eq!(waiter.join().unwrap(), Err(Error::Stalled));
+/// });
 /// # Ok(())
 /// # }
 /// ```
@@ -63,12 +66,13 @@ impl<R: MessageKind, H: Holds<R>> fmt::Debug for Guest<'_, R, H> {
 
 /// # Who will come
 ///
-/// A call that waits fails with [`Error::Stalled`] if nothing could answer it any more. These say
-/// that somebody will come.
+/// A call that waits fails with [`Error::Stalled`] if nothing could answer it any more, unless a seat
+/// waits with a time limit or as a future. These say that somebody will come, or that no timer ends
+/// such waits.
 impl<R: MessageKind> Switchboard<R> {
-    /// Returns a [`Guest`]. While one is there, no call fails with [`Error::Stalled`], and each
-    /// call with a time limit waits for its time. If the last one is dropped while all seats wait,
-    /// one of their calls fails with `Stalled`, and the next once that seat has left.
+    /// Returns a [`Guest`]. While one is there, no call fails with [`Error::Stalled`]. If the last
+    /// one is dropped while all seats wait, one of their calls fails with `Stalled`, and the next
+    /// once that seat has left.
     ///
     /// A guest has no entry in the journal. One that comes while nobody is expected takes as much
     /// memory as a seat, until the switchboard goes.
@@ -127,6 +131,26 @@ impl<R: MessageKind> Switchboard<R> {
     /// `NoMemory`.
     pub fn hold_owned(self: &Arc<Self>) -> Result<OwnedGuest<R>, Error> {
         Guest::at(Arc::clone(self))
+    }
+
+    /// Lets calls fail with [`Error::Stalled`] also while seats wait with a time limit or as futures,
+    /// and those calls too. Say it if your futures wait for nothing else, and no timer or socket ends
+    /// them.
+    ///
+    /// ```
+    /// use seryugo::{Error, Switchboard};
+    /// use std::time::Duration;
+    ///
+    /// let board = Switchboard::new(1_000)?.open_waits_stall();
+    /// let mut seat = board.seat()?;
+    /// let mailbox = seat.mailbox::<u64>()?;
+    /// assert_eq!(seat.recv_timeout(mailbox, Duration::from_secs(60)), Err(Error::Stalled));
+    /// # Ok::<(), Error>(())
+    /// ```
+    #[must_use]
+    pub fn open_waits_stall(mut self) -> Switchboard<R> {
+        self.state_mut().let_open_waits_stall();
+        self
     }
 
     /// From now on this many seats are still to be made. Each [`seat`](Switchboard::seat) and

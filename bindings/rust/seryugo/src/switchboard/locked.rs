@@ -6,7 +6,7 @@ use crate::park::backoff;
 use crate::park::parker::{Parker, Woken};
 use crate::park::yields::pass_by_yielding;
 use crate::raw::{code, done, Handle};
-use crate::switchboard::call::{Ask, Outcome};
+use crate::switchboard::call::{Ask, Outcome, Wait};
 use crate::switchboard::lock::Guard;
 use crate::switchboard::state::State;
 use crate::switchboard::Switchboard;
@@ -68,16 +68,14 @@ impl<R: MessageKind> Switchboard<R> {
     #[inline(never)]
     fn end_call<const SETTLES: bool, T: Outcome>(
         &self,
-        mut state: Guard<'_, State<R>>,
+        state: Guard<'_, State<R>>,
         by: Option<&Parker>,
         answer: T,
     ) -> (T, u64) {
         if state.has_file() {
             return self.keep_call::<SETTLES, T>(state, by, answer, None);
         }
-        let due = state.next_due();
-        drop(state);
-        self.wake_at(due, by);
+        self.wake_next(state, true, by);
         (answer, 0)
     }
 
@@ -108,60 +106,93 @@ impl<R: MessageKind> Switchboard<R> {
         if state.ends_at_once() {
             return (code, 0);
         }
-        self.end_ask::<SETTLES>(state, by, ask, code)
+        self.end_ask::<SETTLES>(state, by, ask.seat, ask.wait, code)
     }
 
     /// Ends such a call as `end_call` does.
     #[inline(never)]
     fn end_ask<const SETTLES: bool>(
         &self,
-        mut state: Guard<'_, State<R>>,
+        state: Guard<'_, State<R>>,
         by: &Parker,
-        ask: Ask,
+        seat: u64,
+        before: Wait,
         code: u32,
     ) -> (u32, u64) {
+        let wait = before.after(code);
+        let waits = wait.has_begun();
         if state.has_file() {
-            if code == code::PARKED {
+            let wait = Some((seat, wait));
+            if waits {
                 // It has no answer yet.
-                return self.keep_call::<false, u32>(state, Some(by), code, Some(ask.seat));
+                return self.keep_call::<false, u32>(state, Some(by), code, wait);
             }
-            return self.keep_call::<SETTLES, u32>(state, Some(by), code, Some(ask.seat));
+            return self.keep_call::<SETTLES, u32>(state, Some(by), code, wait);
         }
         // A call that parks a free seat makes no seat due. If others were due before, a call that
         // wakes them is on its way.
-        let may_be_due = ask.is_again || code != code::PARKED;
-        let due = may_be_due.then(|| state.next_due()).flatten();
-        drop(state);
-        self.wake_at(due, Some(by));
+        if waits && !before.has_begun() {
+            return (code, 0);
+        }
+        self.wake_next(state, !waits, Some(by));
         (code, 0)
     }
 
+    /// Unlocks the room, and then wakes the next seat that is due. If the call may have changed
+    /// something, this also wakes the seat whose call is deferred.
+    #[inline]
+    fn wake_next(&self, mut state: Guard<'_, State<R>>, has_changed: bool, by: Option<&Parker>) {
+        let (due, deferred) = self.next_woken(&mut state, has_changed);
+        drop(state);
+        self.wake_at(due, by);
+        self.wake_at(deferred, by);
+    }
+
+    /// The places of the seats that such a call wakes. If it fails as stalled, this notes who waits.
+    #[inline]
+    fn next_woken(&self, state: &mut State<R>, has_changed: bool) -> (Option<u64>, Option<u64>) {
+        let due = state.next_due();
+        if !state.sees_to_waits() {
+            return (due, None);
+        }
+        self.note_stalled(state);
+        (due, has_changed.then(|| state.take_deferred()).flatten())
+    }
+
     /// Ends a call on a switchboard whose journal has a file. Before the lock is free, the file has
-    /// the call's entries. If it hasn't, this refuses the call, and the seat of this number waits no
-    /// longer. It settles the answer, or returns the position up to which it rests on the file.
+    /// the call's entries. If it hasn't, this refuses the call, and a seat that is in this wait after
+    /// it waits no longer. It settles the answer, or returns the position up to which it rests on the
+    /// file.
     #[cold]
     fn keep_call<const SETTLES: bool, T: Outcome>(
         &self,
         mut state: Guard<'_, State<R>>,
         by: Option<&Parker>,
         answer: T,
-        seat: Option<u64>,
+        wait: Option<(u64, Wait)>,
     ) -> (T, u64) {
+        let mut waits = wait.is_some_and(|(_, wait)| wait.has_begun());
         let answer = match state.note() {
             code::DONE => answer,
             // The threads that wait are the parent's.
             code::FORKED => return (T::refused(code::FORKED), 0),
             refusal => {
-                if let Some(seat) = seat {
-                    state.withdraw(seat);
+                if let Some((seat, wait)) = wait {
+                    state.end_wait(seat, wait);
+                    by.into_iter().for_each(Parker::gives_up);
                 }
+                waits = false;
                 T::refused(refusal)
             }
         };
-        let (due, lost, position) = (state.next_due(), state.newly_lost(), state.position());
+        let (due, deferred) = self.next_woken(&mut state, !waits);
+        let (lost, position) = (state.newly_lost(), state.position());
         drop(state);
         match lost {
-            0 => self.wake_at(due, by),
+            0 => {
+                self.wake_at(due, by);
+                self.wake_at(deferred, by);
+            }
             seats => self.wake_all(seats, by),
         }
         match SETTLES {
@@ -260,7 +291,7 @@ impl<R: MessageKind> Switchboard<R> {
 
     /// The same, if no thread has the lock.
     #[inline]
-    fn try_lock(&self) -> Option<Guard<'_, State<R>>> {
+    pub(super) fn try_lock(&self) -> Option<Guard<'_, State<R>>> {
         self.state.0.try_lock()
     }
 
@@ -311,8 +342,6 @@ struct Panicking<'c, R: MessageKind> {
 impl<R: MessageKind> Drop for Panicking<'_, R> {
     #[cold]
     fn drop(&mut self) {
-        if let Some(due) = self.board.next_due() {
-            self.board.wake(due, self.by);
-        }
+        self.board.wake_next(self.board.lock(), true, self.by);
     }
 }

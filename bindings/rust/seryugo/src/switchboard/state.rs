@@ -7,18 +7,21 @@ use crate::journal::full::{
 use crate::journal::Journal;
 use crate::message::carries::MessageKind;
 use crate::message::kind::{Kind, Misfit, Missing};
-use crate::park::parker::Parker;
 use crate::raw::{self, code, done, written, File, Handle, Messages, Reader, Taking};
 use crate::request::answers::Answers;
-use crate::switchboard::call::{Ask, Line, Outcome};
+use crate::switchboard::asking::OpenWaits;
+use crate::switchboard::call::{Line, Outcome};
 use crate::switchboard::expected::Expected;
 use crate::switchboard::moving::OpenLane;
 use std::collections::BTreeMap;
 use std::io::{self, ErrorKind};
 use std::sync::Arc;
 
-/// No switchboard has so many seats.
-const FILE: u64 = 1 << 63;
+/// No switchboard has so many seats. With these the count of parked seats says what else a call sees
+/// to: a file keeps the journal, a call is deferred, or this one fails with `Stalled`.
+pub(super) const FILE: u64 = 1 << 63;
+pub(super) const DEFERRED: u64 = 1 << 62;
+pub(super) const STALLED: u64 = 1 << 61;
 
 /// The state under the lock. What each call uses comes first, so that it lies in the lock's cache
 /// line: each line moves from the thread that called before to the one that calls.
@@ -28,11 +31,11 @@ pub(crate) struct State<R: MessageKind> {
     /// The journal surely has room for this many more. Without a full-journal policy or a file no
     /// call asks, and with a file each does.
     pub(super) spare: u64,
-    /// What a call sees to once it is made: how many seats are parked, and `FILE` more if a file
-    /// keeps the journal.
-    after_call: u64,
+    /// What a call sees to once it is made: how many seats are parked, and `FILE`, `DEFERRED` and
+    /// `STALLED`.
+    pub(super) after_call: u64,
     /// How many calls were made that may park a seat or make one due.
-    calls: u64,
+    pub(super) calls: u64,
     /// The file that keeps the journal.
     pub(super) file: Option<Arc<File>>,
     /// The most bytes of a call's messages, if a sink takes the journal. A file measures them as it
@@ -48,9 +51,11 @@ pub(crate) struct State<R: MessageKind> {
     start: Start,
     /// The number of the first seat that was made here. Those of a journal from which the
     /// switchboard goes on have lesser ones.
-    first_seat: u64,
+    pub(super) first_seat: u64,
     /// How many seats were made here, hosts included.
-    seats: u64,
+    pub(super) seats: u64,
+    /// The waits that their callers can end.
+    pub(super) open: OpenWaits,
     /// Who will come.
     pub expected: Expected,
     /// Where seats that have left had their questions answered.
@@ -78,6 +83,7 @@ impl<R: MessageKind> State<R> {
             start: Start::default(),
             first_seat: 0,
             seats: 0,
+            open: OpenWaits::default(),
             expected: Expected::default(),
             free_answers: Vec::new(),
             after_call: 0,
@@ -99,15 +105,21 @@ impl<R: MessageKind> State<R> {
         self.file.is_some()
     }
 
-    /// Whether a call that was made sees to nothing more: no seat is parked, so that none is due, and
-    /// no file keeps the journal.
+    /// Whether a call that was made sees to nothing more: no seat is parked, so that none is due, none
+    /// is deferred, and no file keeps the journal.
     #[inline]
     pub fn ends_at_once(&self) -> bool {
         self.after_call == 0
     }
 
-    fn parked(&self) -> u64 {
-        self.after_call & !FILE
+    /// Whether a call is deferred, or has just failed as stalled.
+    #[inline]
+    pub fn sees_to_waits(&self) -> bool {
+        self.after_call & (DEFERRED | STALLED) != 0
+    }
+
+    pub(super) fn parked(&self) -> u64 {
+        self.after_call & !(FILE | DEFERRED | STALLED)
     }
 
     /// Stores what the room has had since the last time in its file.
@@ -350,67 +362,6 @@ impl<R: MessageKind> State<R> {
             kind => Kind::of(kind?).map(Some),
         }
     }
-
-    /// Makes a call that may park its seat, or that of a parked seat again. A parked seat's call
-    /// was taken before. So while the journal has room it is made, even if nobody took the entries
-    /// of the last full one. It fails with each other refusal.
-    #[inline]
-    pub fn ask(&mut self, ask: Ask, call: impl FnOnce(&mut Handle) -> u32) -> u32 {
-        let room = self.makes_room(ask.line);
-        if let Err(code) = room {
-            if !ask.is_again || code != code::NOT_KEPT {
-                return self.refuse(ask.seat, ask.is_again, code);
-            }
-        }
-        self.calls += 1;
-        let code = call(&mut self.handle);
-        if ask.is_again || code == code::PARKED {
-            self.note_parked(ask.is_again, code);
-        }
-        match code {
-            code::JOURNAL_FULL if room.is_err() => code::NOT_KEPT,
-            _ => code,
-        }
-    }
-
-    /// A seat was parked before such a call, or is now.
-    fn note_parked(&mut self, was: bool, code: u32) {
-        self.after_call =
-            (self.after_call + u64::from(code == code::PARKED)).saturating_sub(u64::from(was));
-    }
-
-    /// Makes such a call of the seat with this parker.
-    #[inline]
-    pub fn ask_by(&mut self, by: &Parker, ask: Ask, call: impl FnOnce(&mut Handle) -> u32) -> u32 {
-        let code = self.ask(ask, call);
-        by.note_ask(ask.is_again, code == code::PARKED, self.calls);
-        code
-    }
-
-    /// Refuses a call. If its seat was parked, it waits no longer.
-    #[cold]
-    fn refuse(&mut self, seat: u64, is_again: bool, code: u32) -> u32 {
-        if is_again {
-            self.withdraw(seat);
-        }
-        code
-    }
-
-    /// Makes a call at the end of a wait. If it parks its seat, this withdraws it before others have
-    /// the lock.
-    pub fn ask_at_last(&mut self, ask: Ask, call: impl FnOnce(&mut Handle) -> u32) -> u32 {
-        let code = self.ask(ask, call);
-        if code == code::PARKED {
-            self.withdraw(ask.seat);
-        }
-        code
-    }
-
-    /// Withdraws the call of a seat, if it is parked.
-    pub fn withdraw(&mut self, seat: u64) {
-        let code = raw::seryugo_withdraw(&mut self.handle, seat);
-        self.after_call = self.after_call.saturating_sub(u64::from(code == code::DONE));
-    }
 }
 
 /// Why there is no short journal.
@@ -418,84 +369,5 @@ fn uncompacted(error: Error) -> io::Error {
     match error {
         Error::NoMemory => ErrorKind::OutOfMemory.into(),
         error => io::Error::other(error),
-    }
-}
-
-#[cfg(test)]
-mod tests {
-    use super::*;
-    use crate::calls::{Calls, Give, Read};
-    use crate::door::Asked;
-    use crate::explore::StepKind;
-    use crate::message::carries::Numbers;
-
-    const SEATS: u64 = 4;
-    const MAILBOX: u64 = 0;
-
-    /// Pseudorandom numbers, by a linear congruential generator.
-    struct Random(u64);
-
-    impl Random {
-        fn below(&mut self, limit: u64) -> u64 {
-            self.0 = self
-                .0
-                .wrapping_mul(6_364_136_223_846_793_005)
-                .wrapping_add(1_442_695_040_888_963_407);
-            (self.0 >> 33) % limit
-        }
-    }
-
-    /// A room with a mailbox and some seats, whose journal has room for few entries.
-    fn room() -> State<Numbers> {
-        let opened = Handle::opened(|room| raw::seryugo_open_room(Messages::Numbers, 9, room));
-        let mut state = State::new(opened.unwrap(), 9);
-        for _ in 0..SEATS {
-            state.new_seat().unwrap();
-        }
-        let asked = Asked::first(StepKind::Mailbox.makes(), 0);
-        let made = written(|name| asked.give(&mut state.handle, name));
-        assert_eq!(made, Ok(MAILBOX));
-        state
-    }
-
-    fn receive(state: &mut State<Numbers>, seat: u64, is_again: bool) {
-        let ask = Ask {
-            is_again,
-            ..Ask::first(seat)
-        };
-        state.ask(ask, |room| Numbers::ask(Read::Recv, room, seat, MAILBOX, is_again, &mut 0));
-    }
-
-    /// Makes some calls, and wakes each seat that is due.
-    fn call(state: &mut State<Numbers>, random: &mut Random) {
-        for _ in 0..random.below(20) {
-            let seat = random.below(SEATS);
-            match random.below(4) {
-                0 | 1 => receive(state, seat, false),
-                2 => state.withdraw(seat),
-                _ => {
-                    Numbers::give(Give::Send, &mut state.handle, seat, MAILBOX, 5);
-                }
-            }
-            while let Some(due) = state.next_due() {
-                receive(state, due, true);
-            }
-        }
-    }
-
-    #[test]
-    fn parked_seats_are_counted() {
-        let mut random = Random(1);
-        let mut most = 0;
-        for _ in 0..1_000 {
-            let mut state = room();
-            call(&mut state, &mut random);
-            let parked = state.parked();
-            let is_parked =
-                |seat: &u64| raw::seryugo_withdraw(&mut state.handle, *seat) == code::DONE;
-            assert_eq!(parked, (0..SEATS).filter(is_parked).count() as u64);
-            most = most.max(parked);
-        }
-        assert_eq!(most, SEATS - 1);
     }
 }

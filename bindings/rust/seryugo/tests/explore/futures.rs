@@ -253,9 +253,16 @@ fn two_tasks_that_wait_for_ever() {
     };
     let at: Vec<String> = waits.iter().map(ToString::to_string).collect();
     assert_eq!(at, ["thread 0 (seat 1) at recv 0", "thread 0 (seat 2) at recv 1"]);
-    assert!(fails_as_stalled, "{found}");
+    // Something else may end a future. Where nothing does, a call fails.
+    assert!(!fails_as_stalled, "{found}");
+    let strictly = Strategy::every().open_waits_stall();
+    let found = explore(strictly.clone(), 10, program);
+    let told = found.bad().unwrap().end().to_string();
+    assert!(told.ends_with("one of these calls fails with `Stalled`"), "{told}");
     // If calls are told, each of them fails in turn.
-    let found = explore(Strategy::every().stalls_are_told(), 10, program);
+    let told = explore(Strategy::every().stalls_are_told(), 10, program);
+    assert!(matches!(told.bad().unwrap().end(), End::Stalled { .. }), "{told}");
+    let found = explore(strictly.stalls_are_told(), 10, program);
     let bad = found.bad().unwrap();
     let End::Panicked { message, .. } = bad.end() else {
         panic!("{found}")

@@ -162,7 +162,7 @@ fn panic_in_from_bytes() {
 
 #[test]
 fn the_last_sender_wakes_the_receivers() {
-    let board = Switchboard::new(MANY).unwrap();
+    let board = Switchboard::new(MANY).unwrap().open_waits_stall();
     let [mut sender, another, one, other] = seats(&board);
     let channel = sender.channel::<()>().unwrap();
     let mut recv = [one, other].map(|mut receiver| {

@@ -45,7 +45,7 @@ fn recv() {
 #[test]
 fn recv_timeout() {
     without_a_hang(|| {
-        let board = Switchboard::new(MANY).unwrap();
+        let board = Switchboard::new(MANY).unwrap().open_waits_stall();
         let [mut sender, mut receiver] = seats(&board);
         let mailbox = sender.mailbox::<u64>().unwrap();
         assert_eq!(receiver.recv_timeout(mailbox, ms(5)), Err(Error::TimedOut));

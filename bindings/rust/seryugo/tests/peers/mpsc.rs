@@ -236,7 +236,7 @@ fn very_long_recv_timeout() {
 #[test]
 fn a_time_limit_while_seats_come_and_go() {
     without_a_hang(|| {
-        let board = Switchboard::new(MANY).unwrap();
+        let board = Switchboard::new(MANY).unwrap().open_waits_stall();
         let [sender, mut receiver] = seats(&board);
         let mailbox = receiver.mailbox::<()>().unwrap();
         thread::scope(|scope| {
@@ -266,7 +266,7 @@ fn count_within(receiver: &mut Seat<'_>, mailbox: seryugo::Mailbox<i32>, limit: 
 #[test]
 fn stress_recv_timeout_two_threads() {
     without_a_hang(|| {
-        let board = Switchboard::new(MANY).unwrap();
+        let board = Switchboard::new(MANY).unwrap().open_waits_stall();
         let [mut sender, mut receiver] = seats(&board);
         let mailbox = sender.mailbox::<i32>().unwrap();
         thread::scope(|scope| {
@@ -284,7 +284,7 @@ fn stress_recv_timeout_two_threads() {
 #[test]
 fn stress_recv_timeout_shared() {
     without_a_hang(|| {
-        let board = Switchboard::new(MANY).unwrap();
+        let board = Switchboard::new(MANY).unwrap().open_waits_stall();
         let [mut receiver] = seats(&board);
         let mailbox = receiver.mailbox::<i32>().unwrap();
         thread::scope(|scope| {

@@ -172,7 +172,7 @@ fn count_within(receiver: &mut Seat<'_, Numbers>, mailbox: Mailbox<u64>, limit: 
 #[test]
 fn stress_recv_timeout() {
     without_a_hang(|| {
-        let board = Switchboard::of_numbers(MANY).unwrap();
+        let board = Switchboard::of_numbers(MANY).unwrap().open_waits_stall();
         let [mut receiver] = seats(&board);
         let mailbox = receiver.mailbox().unwrap();
         thread::scope(|scope| {

@@ -104,7 +104,7 @@ impl<'f, R: MessageKind> Entering<'f, R> {
             code
         };
         if let Some(maker) = self.follower.maker(self.caller.who) {
-            let why = Error::of_code(code);
+            let why = Error::of_code(code).why();
             maker.refused(format!("{}: refused, since {why}", self.caller));
         }
         code

@@ -231,7 +231,7 @@ impl<R: MessageKind> Switchboard<R> {
                 false
             }
             (None, drained) => {
-                let why = drained.err().unwrap_or(Error::Unseen);
+                let why = drained.err().unwrap_or(Error::Unseen).why();
                 let name = name_of(lane.who());
                 follower.diverge(position, format!("{name}: refused, since {why}"));
                 false

@@ -2,6 +2,7 @@
 
 use super::calls::Call;
 use super::{At, State, Task};
+use crate::explore::board::Blocked;
 use crate::explore::end::{End, Waits};
 use crate::explore::moves::Move;
 use crate::explore::schedule::Schedule;
@@ -11,9 +12,17 @@ use crate::explore::tree::Astray;
 impl State {
     /// As [`Board::stall`].
     pub(super) fn stall(&self) -> (bool, Vec<u64>) {
-        let calls = self.tasks.iter().flat_map(Task::calls);
-        let on_board = calls.filter(|call| !call.step.kind.is_beside());
-        let waits: Vec<(u64, Step)> = on_board.map(|call| (call.seat, call.step)).collect();
+        let blocked = |task: &'_ Task| {
+            let awaits = task.at == At::Futures;
+            let calls = task.calls().filter(|call| !call.step.kind.is_beside());
+            let at = |call: &Call| Blocked {
+                seat: call.seat,
+                step: call.step,
+                is_open: awaits || call.is_timed,
+            };
+            calls.map(at).collect::<Vec<_>>()
+        };
+        let waits: Vec<Blocked> = self.tasks.iter().flat_map(blocked).collect();
         self.board.as_ref().map(|board| board.stall(&waits)).unwrap_or_default()
     }
 
@@ -76,6 +85,7 @@ impl State {
         Schedule {
             choices: self.choices.clone(),
             tells_stalls: self.limits.tells_stalls,
+            open_waits_stall: self.limits.open_waits_stall,
             polls_are_steps: self.limits.polls_are_steps,
             time_outs: self.limits.time_outs,
         }
