@@ -1,6 +1,7 @@
 //! Questions that are sent together with where to answer them.
 
 pub(crate) mod answers;
+pub(crate) mod asked;
 pub(crate) mod halves;
 
 use crate::calls::{Calls, Give};
@@ -51,6 +52,7 @@ use std::panic::{self, AssertUnwindSafe};
 /// panics.
 ///
 /// If the asker has given up, its question stays in the mailbox, and a server still receives it.
+/// [`is_waiting`](Asker::is_waiting) says so, and [`gives_up_at`](Asker::gives_up_at) when it will.
 /// The answer is sent to the asker's mailbox, and no later question takes it.
 ///
 /// # The bytes
@@ -221,6 +223,10 @@ impl<A> Asker<A> {
 
     pub(crate) fn mailbox(&self) -> u64 {
         self.mailbox
+    }
+
+    pub(crate) fn question(&self) -> u64 {
+        self.question
     }
 
     /// What the asker has received, if it is of this question. An answer to another one came late.

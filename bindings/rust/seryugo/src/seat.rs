@@ -396,6 +396,9 @@ impl<R: MessageKind, H: Holds<R>> Seat<'_, R, H> {
 impl<R: MessageKind, H: Holds<R>> Drop for Seat<'_, R, H> {
     fn drop(&mut self) {
         let (seat, answers) = (self.number, self.answers.take());
+        if let Some(answers) = &answers {
+            answers.asked.end();
+        }
         if self.wait.has_begun() {
             self.parker.gives_up();
             self.parker.forget_waker();

@@ -7,19 +7,23 @@ use crate::message::names::{Mailbox, Object};
 use crate::message::sent_as::SentAs;
 use crate::message::Message;
 use crate::raw::{code, done};
+use crate::request::asked::{Asked, Asking};
 use crate::request::{Asker, Request};
 use crate::seat::owned::Holds;
 use crate::seat::pending::{Answer, PendingCall};
 use crate::seat::Seat;
 use crate::switchboard::call::Line;
 use std::fmt;
+use std::sync::Arc;
 use std::time::{Duration, Instant};
 
 /// The mailbox that takes the answers to a seat's questions, and how many it asked. After the seat
 /// another one has it, which numbers its questions on: so it takes no late answer as its own.
 pub(crate) struct Answers {
     pub mailbox: u64,
-    asked: u64,
+    count: u64,
+    /// Which of them has no answer yet.
+    pub asked: Arc<Asked>,
 }
 
 /// # Calls that ask
@@ -90,7 +94,7 @@ impl<H: Holds<Bytes>> Seat<'_, Bytes, H> {
         mailbox: Mailbox<Request<Q, A>>,
         question: M,
     ) -> Result<A, RequestError<M>> {
-        self.request_by(mailbox, question, Seat::answer_to)
+        self.request_by(mailbox, question, None, Seat::answer_to)
     }
 
     /// The same, but it blocks no longer than this.
@@ -146,7 +150,9 @@ impl<H: Holds<Bytes>> Seat<'_, Bytes, H> {
         question: M,
         deadline: Instant,
     ) -> Result<A, RequestError<M>> {
-        self.request_by(mailbox, question, |seat, call| seat.wait_until(call, deadline))
+        self.request_by(mailbox, question, Some(deadline), |seat, call| {
+            seat.wait_until(call, deadline)
+        })
     }
 
     /// The same as a future. It sends the question when it is first polled.
@@ -173,12 +179,12 @@ impl<H: Holds<Bytes>> Seat<'_, Bytes, H> {
         mailbox: Mailbox<Request<Q, A>>,
         question: M,
     ) -> Result<A, RequestError<M>> {
-        let (asker, question) = self.ask(mailbox, question)?;
-        let call = PendingCall::Read(Read::Recv, asker.mailbox());
+        let asked = self.ask(mailbox, question, None)?;
+        let call = PendingCall::Read(Read::Recv, asked.asker.mailbox());
         loop {
             let received = self.waiting(call).await;
-            if let Some(answer) = answer_in(&asker, received) {
-                return answer.map_err(|error| RequestError::new(question, true, error));
+            if let Some(answer) = answer_in(&asked.asker, received) {
+                return answer.map_err(|error| RequestError::new(asked.question, true, error));
             }
         }
     }
@@ -188,26 +194,32 @@ impl<H: Holds<Bytes>> Seat<'_, Bytes, H> {
         &mut self,
         mailbox: Mailbox<Request<Q, A>>,
         question: M,
+        deadline: Option<Instant>,
         mut wait: impl FnMut(&mut Self, PendingCall<'static, Bytes>) -> Answer<Bytes>,
     ) -> Result<A, RequestError<M>> {
-        let (asker, question) = self.ask(mailbox, question)?;
-        let call = PendingCall::Read(Read::Recv, asker.mailbox());
+        let asked = self.ask(mailbox, question, deadline)?;
+        let call = PendingCall::Read(Read::Recv, asked.asker.mailbox());
         loop {
             let received = wait(self, call);
-            if let Some(answer) = answer_in(&asker, received) {
-                return answer.map_err(|error| RequestError::new(question, true, error));
+            if let Some(answer) = answer_in(&asked.asker, received) {
+                return answer.map_err(|error| RequestError::new(asked.question, true, error));
             }
         }
     }
 
-    /// Sends a question: who asks, and the question.
+    /// Sends a question: who asks until when, and the question.
     fn ask<Q: Message, A, M: SentAs<Q>>(
         &mut self,
         mailbox: Mailbox<Request<Q, A>>,
         question: M,
-    ) -> Result<(Asker<A>, M), RequestError<M>> {
-        match self.send_question(mailbox, &question) {
-            Ok(asker) => Ok((asker, question)),
+        deadline: Option<Instant>,
+    ) -> Result<Unanswered<A, M>, RequestError<M>> {
+        match self.send_question(mailbox, &question, deadline) {
+            Ok((asker, asking)) => Ok(Unanswered {
+                asker,
+                question,
+                _asking: asking,
+            }),
             Err(error) => Err(RequestError::new(question, false, error)),
         }
     }
@@ -216,9 +228,10 @@ impl<H: Holds<Bytes>> Seat<'_, Bytes, H> {
         &mut self,
         mailbox: Mailbox<Request<Q, A>>,
         question: &impl SentAs<Q>,
-    ) -> Result<Asker<A>, Error> {
+        deadline: Option<Instant>,
+    ) -> Result<(Asker<A>, Asking), Error> {
         let mailbox = self.here(mailbox)?;
-        let asker = self.next_asker()?;
+        let (asker, asking) = self.next_asker(deadline)?;
         let mut bytes = Vec::new();
         asker.write_to(&mut bytes);
         <Bytes as Carries<Q>>::with_sent(question, |piece| bytes.extend_from_slice(piece));
@@ -226,26 +239,43 @@ impl<H: Holds<Bytes>> Seat<'_, Bytes, H> {
         done(self.call(Give::Send.on(mailbox), line, |room, seat| {
             Bytes::give(Give::Send, room, seat, mailbox, &bytes)
         })?)?;
-        Ok(asker)
+        Ok((asker, asking))
     }
 
-    /// The mailbox for the seat's answers, and the number of its next question.
-    fn next_asker<A>(&mut self) -> Result<Asker<A>, Error> {
+    /// The mailbox for the seat's answers, and the number of its next question, which is asked from
+    /// now on.
+    fn next_asker<A>(&mut self, deadline: Option<Instant>) -> Result<(Asker<A>, Asking), Error> {
         if self.answers.is_none() {
             self.answers = self.board.answers_for(self.number());
         }
         let mut answers = match self.answers.take() {
             Some(answers) => answers,
-            None => Answers {
-                mailbox: self.mailbox::<Vec<u8>>()?.number(),
-                asked: 0,
-            },
+            None => self.new_answers()?,
         };
-        answers.asked += 1;
-        let asker = Asker::new(answers.mailbox, answers.asked);
+        answers.count += 1;
+        let asker = Asker::new(answers.mailbox, answers.count);
+        let asking = Asking::begin(&answers.asked, answers.count, deadline);
         self.answers = Some(answers);
-        Ok(asker)
+        Ok((asker, asking))
     }
+
+    fn new_answers(&mut self) -> Result<Answers, Error> {
+        let mailbox = self.mailbox::<Vec<u8>>()?.number();
+        let asked = Arc::default();
+        self.board.locked()?.asked.insert(mailbox, Arc::clone(&asked));
+        Ok(Answers {
+            mailbox,
+            count: 0,
+            asked,
+        })
+    }
+}
+
+/// A question that was sent, and is asked until this is dropped.
+struct Unanswered<A, M> {
+    asker: Asker<A>,
+    question: M,
+    _asking: Asking,
 }
 
 /// What a wait for a question's answer has ended with. `None`: it was an answer to an older one.

@@ -6,7 +6,7 @@ use crate::message::sent_as::SentAs;
 use crate::message::Message;
 use crate::request::answers::RequestError;
 use crate::request::{Asker, Request};
-use std::time::Duration;
+use std::time::{Duration, Instant};
 
 /// # Questions
 ///
@@ -45,7 +45,7 @@ impl<Q: Message, A: Message> Sender<Request<Q, A>> {
     ///
     /// ```
     /// use seryugo::Request;
-    /// use std::time::Duration;
+    /// use std::time::{Duration, Instant};
     ///
     /// # let board = std::sync::Arc::new(seryugo::Switchboard::new(1_000)?);
     /// let (sender, _receiver) = board.unbounded::<Request<String, u64>>()?;
@@ -144,5 +144,29 @@ impl<Q, A: Message> Receiver<Request<Q, A>> {
     /// Those of [`Asker::decline`].
     pub fn decline(&self, asker: Asker<A>) -> Result<(), SendError<Asker<A>>> {
         asker.decline(&mut self.0.seat())
+    }
+
+    /// Returns whether the asker still waits for the answer. See [`Asker::is_waiting`].
+    ///
+    /// ```
+    /// use seryugo::Request;
+    /// use std::time::{Duration, Instant};
+    ///
+    /// # let board = std::sync::Arc::new(seryugo::Switchboard::new(1_000)?);
+    /// let (sender, receiver) = board.unbounded::<Request<u64, u64>>()?;
+    /// assert!(sender.request_timeout(4, Duration::from_millis(1)).is_err());
+    /// let Request { asker, .. } = receiver.recv()?;
+    /// assert!(!receiver.is_waiting(&asker) && receiver.gives_up_at(&asker).is_none());
+    /// # Ok::<(), seryugo::Error>(())
+    /// ```
+    #[must_use]
+    pub fn is_waiting(&self, asker: &Asker<A>) -> bool {
+        asker.is_waiting(&self.0.seat())
+    }
+
+    /// Returns when the asker gives up. See [`Asker::gives_up_at`].
+    #[must_use]
+    pub fn gives_up_at(&self, asker: &Asker<A>) -> Option<Instant> {
+        asker.gives_up_at(&self.0.seat())
     }
 }

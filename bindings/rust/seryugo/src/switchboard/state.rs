@@ -9,6 +9,7 @@ use crate::message::carries::MessageKind;
 use crate::message::kind::{Kind, Misfit, Missing};
 use crate::raw::{self, code, done, written, File, Handle, Messages, Reader, Taking};
 use crate::request::answers::Answers;
+use crate::request::asked::Asked;
 use crate::switchboard::asking::OpenWaits;
 use crate::switchboard::call::{Line, Outcome};
 use crate::switchboard::expected::Expected;
@@ -60,6 +61,8 @@ pub(crate) struct State<R: MessageKind> {
     pub expected: Expected,
     /// Where seats that have left had their questions answered.
     pub free_answers: Vec<Answers>,
+    /// The questions that are asked by mailboxes for answers.
+    pub asked: BTreeMap<u64, Arc<Asked>>,
     /// The open lanes, by their numbers.
     pub lanes: BTreeMap<u64, OpenLane>,
     /// How many messages were lost with their lanes.
@@ -86,6 +89,7 @@ impl<R: MessageKind> State<R> {
             open: OpenWaits::default(),
             expected: Expected::default(),
             free_answers: Vec::new(),
+            asked: BTreeMap::new(),
             after_call: 0,
             calls: 0,
             lanes: BTreeMap::new(),
