@@ -63,10 +63,16 @@ pub trait Calls: Sized {
 
     #[inline]
     fn give(call: Give, room: &mut Handle, seat: u64, object: u64, message: Self::Sent<'_>) -> u32 {
-        if let Give::Send = call {
-            return Self::send(room, seat, object, message);
+        match call {
+            Give::Send => Self::send(room, seat, object, message),
+            Give::Multicast | Give::Put => Self::give_by_door(call.on(object), room, seat, message),
         }
-        Self::sending(call.on(object), seat, message).give(room, &mut 0)
+    }
+
+    // It isn't part of a caller's code, nor are the others like it: so that has sends and receives alone.
+    #[inline(never)]
+    fn give_by_door(step: Step, room: &mut Handle, seat: u64, message: Self::Sent<'_>) -> u32 {
+        Self::sending(step, seat, message).give(room, &mut 0)
     }
 
     /// A call that may block.
@@ -79,23 +85,36 @@ pub trait Calls: Sized {
         is_again: bool,
         to: &mut Self::Received,
     ) -> u32 {
-        if let Read::Recv = call {
-            return Self::recv(room, seat, object, is_again, to);
+        match call {
+            Read::Recv => Self::recv(room, seat, object, is_again, to),
+            Read::Get | Read::Take => {
+                Self::read_by_door(call.ask_of(object), room, seat, is_again, to)
+            }
         }
-        Self::make(&Asked::first(call.ask_of(object), seat).again(is_again), room, to)
     }
 
     /// The same, but it never blocks.
     #[inline]
     fn poll(call: Read, room: &mut Handle, seat: u64, object: u64, to: &mut Self::Received) -> u32 {
-        Self::make(&Asked::first(call.ask_of(object).polled(), seat), room, to)
+        Self::read_by_door(call.ask_of(object).polled(), room, seat, false, to)
+    }
+
+    #[inline(never)]
+    fn read_by_door(
+        step: Step,
+        room: &mut Handle,
+        seat: u64,
+        is_again: bool,
+        to: &mut Self::Received,
+    ) -> u32 {
+        Self::make(&Asked::first(step, seat).again(is_again), room, to)
     }
 
     fn mvar_init(room: &mut Handle, seat: u64, message: Self::Sent<'_>, variable: &mut u64) -> u32 {
         Self::sending(StepKind::MVarInit.makes(), seat, message).give(room, variable)
     }
 
-    #[inline]
+    #[inline(never)]
     fn swap(
         room: &mut Handle,
         seat: u64,
