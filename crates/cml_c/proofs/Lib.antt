@@ -2,7 +2,6 @@ mod HandleBoxLemmas
 mod KeeperBoxLemmas
 mod GoingOnLemmas
 mod ShorteningLemmas
-mod RoomShorteningLemmas
 mod TakingLemmas
 mod NeedingLemmas
 mod RefusingLemmas

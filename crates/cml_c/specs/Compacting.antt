@@ -1,9 +1,9 @@
 -- What C gets of a journal that is made short: of one that was read, or of a room's.
-use Rattle.std.specs.Prelude.{ℕ, ◌≡◌, ◌<◌, ◌⊎◌, ◌^◌, List, length, Bool, true, false, Option, Some, Box, Vec, ⊤}
+use Rattle.std.specs.Prelude.{ℕ, ◌≡◌, ◌<◌, ◌≤◌, ◌⊎◌, ◌^◌, List, length, Bool, true, false, Option, Some, Box, Vec, ⊤}
 use Rattle.std.specs.declared.alloc.Global.{Global}
 use Rattle.cml_board.specs.{Entry, RestoredShown}
 use Rattle.cml_compact.specs.{IsShortJournal, compact_size, last_seat}
-use Rattle.cml_lanes.specs.{CutsShort, KeepsRings, ShowsSameFloor}
+use Rattle.cml_lanes.specs.{CutsOpenFloor, KeepsRings}
 use Rattle.cml_room.specs.{RoomShown, floor_of, KeepsSeats}
 use Rattle.cml_journal.specs.{Progress, IsSoFar, IsRestored, message_of_word, number_of}
 use Rattle.cml_c.specs.declared.code.Code.{Code}
@@ -63,22 +63,17 @@ ShortensKept from to before after told (Bytes old) new = (left : Resource (List 
     × Shortens 2 message_of_word Bytes from to before after told old left
 
 module _ {M : Type 0} where
-  -- the room shows the same, and its lanes, feeds and seats are unchanged
-  pub record ShowsSameRoom (old new : RoomShown M) : Type 0 where
-    pub floor : ShowsSameFloor (floor_of old) (floor_of new)
-    pub rings : KeepsRings (floor_of old) (floor_of new)
-    pub kept : KeepsSeats old new
-
-  -- its journal is cut while lanes and feeds go on, and no seat is changed
+  -- a room's journal is cut while lanes and feeds go on, no reserved memory is lost, and no seat is changed
   pub record CutsShortRoom (old new : RoomShown M) : Type 0 where
-    pub cut : CutsShort (floor_of old) (floor_of new)
+    pub cut : CutsOpenFloor (floor_of old) (floor_of new)
+    pub reserved : old.board.reserved ≤ new.board.reserved
     pub rings : KeepsRings (floor_of old) (floor_of new)
     pub kept : KeepsSeats old new
 
   -- what becomes of a room whose short journal is made
   abbrev pub LeavesShort : Bool → RoomShown M → RoomShown M → Type 0
   LeavesShort true old new = CutsShortRoom old new
-  LeavesShort false old new = ShowsSameRoom old new
+  LeavesShort false old new = new ≡ old
 
   -- the entries leave what all calls of the room leave, and the last seat made all of them
   abbrev pub IsShortOf : RoomShown M → List (Entry M) → Type 0
@@ -102,7 +97,7 @@ module _ {M : Type 0} where
     pub told : code ≡ number reason
     pub count : after ≡ before
     pub slot : to ≡ from
-    pub same : ShowsSameRoom old new
+    pub same : new ≡ old
 
   abbrev pub MakesShort : Bool → (Resource M → Owned) → Slot → Slot → ℕ → ℕ → ℕ → RoomShown M → RoomShown M → Type 0
   MakesShort cuts wrap from to code before after old new =

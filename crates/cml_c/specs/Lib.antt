@@ -66,7 +66,7 @@ pub use Exchanges.{EndsExchange, EndsExchangeIn, Moves, MovesBy, MovesIn, OpensE
 pub use Exchanges.{endings, machine_in, reading_of, readings, shown_move, way_number}
 pub use Summing.{OpensSumming, SumsIn, SumsPart, TellsSumSoFar}
 pub use Compacting.{CompactsNone, CompactsRoom, CutsShortRoom, IsNotShort, IsShortOf, LeavesShort, MakesShort, Shortens, ShortensBy, ShortensKept}
-pub use Compacting.{ShowsSameRoom, WritesShort, WritesTaken}
+pub use Compacting.{WritesShort, WritesTaken}
 pub use declared.handle.Slot.{Slot}
 pub use declared.keeper.Held.{Held}
 pub use declared.owned.Owned.{Owned}

@@ -1,6 +1,5 @@
-use Rattle.std.proofs.Common.{rules, inl, inr}
+use Rattle.std.proofs.Common.{rules, inl, inr, refl}
 use Rattle.cml_c.specs.declared.code.Code.TheVariants.{NoMemory}
-use Rattle.cml_c.proofs.RoomShorteningLemmas.{same_room}
 use Rattle.cml_c.proofs.room_compacting.compact_in.Goals as goal
 
 pub returns-in_default : goal.returns-in_default
@@ -11,15 +10,15 @@ returns-in_default g c = inr
       told = search rules;
       count = search rules;
       slot = search rules;
-      same = same_room c.args.room.now;
+      same = refl;
     })
 
-pub returns-in-Ok-short_journal : goal.returns-in-Ok-short_journal
-returns-in-Ok-short_journal g c = inl
+pub returns-in-Ok-short_of : goal.returns-in-Ok-short_of
+returns-in-Ok-short_of g c = inl
     (record {
       gives = record {
         done = search rules;
-        taken = c.in-Ok-short_journal.entries;
+        taken = c.in-Ok-short_of.entries;
         such = search rules;
         written = search rules;
         count = search rules;
