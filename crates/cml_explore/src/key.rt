@@ -7,7 +7,7 @@ use std::alloc::{AllocError, Global};
 
 /// The key of the state that a walk is at: how far each thread is, and what the object of each name has. Two walks of a script with
 /// one key can go on alike, and end alike. Objects count by their names, since their numbers depend on the order.
-pub(crate) fn key_of(alloc: Global, walk: &mut Walk<'_, '_>) -> Result<String, AllocError> {
+pub(crate) fn key_of(alloc: Global, walk: &Walk<'_, '_>) -> Result<String, AllocError> {
     let mut key = String::new(alloc);
     add_counts(&mut key, &walk.counts)?;
     for at in 0..walk.bindings.len() {
@@ -28,7 +28,7 @@ fn add_counts(key: &mut String, counts: &[usize]) -> Result<(), AllocError> {
 }
 
 /// Adds what the object of the name at this position has.
-fn add_object(key: &mut String, walk: &mut Walk<'_, '_>, at: usize) -> Result<(), AllocError> {
+fn add_object(key: &mut String, walk: &Walk<'_, '_>, at: usize) -> Result<(), AllocError> {
     match walk.bindings.get(at) {
         Some(Binding::Made(object)) => {
             let object = *object;
@@ -41,7 +41,7 @@ fn add_object(key: &mut String, walk: &mut Walk<'_, '_>, at: usize) -> Result<()
 }
 
 /// Adds what this object has. How much was sent to it follows from how far the threads are.
-fn add_contents(key: &mut String, walk: &mut Walk<'_, '_>, object: Name) -> Result<(), AllocError> {
+fn add_contents(key: &mut String, walk: &Walk<'_, '_>, object: Name) -> Result<(), AllocError> {
     match walk.board.kind(object) {
         Some(Kind::Mailbox) => add_owed(key, walk, object),
         Some(Kind::Port) => {
@@ -65,7 +65,7 @@ fn add_port(key: &mut String, walk: &Walk<'_, '_>, port: Name) -> Result<(), All
 }
 
 /// Adds the messages that are still to be received, in order.
-fn add_owed(key: &mut String, walk: &mut Walk<'_, '_>, object: Name) -> Result<(), AllocError> {
+fn add_owed(key: &mut String, walk: &Walk<'_, '_>, object: Name) -> Result<(), AllocError> {
     for message in walk.board.share_owed(object)? {
         add_message(key, &message)?;
     }

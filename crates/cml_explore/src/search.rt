@@ -97,7 +97,7 @@ impl<'p, 's> Search<'p, 's> {
 
     /// Adds the state that the walk came to by this step, if it is new and there is room.
     fn arrive(&mut self, step: Option<Step>) -> Result<(), Ended> {
-        let key = key_of(self.alloc, &mut self.walk)?;
+        let key = key_of(self.alloc, &self.walk)?;
         self.at = None;
         if self.states.has(key.as_str()) {
             return Ok(());

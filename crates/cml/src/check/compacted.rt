@@ -24,9 +24,9 @@ pub(crate) fn compacted<M: Message + Written>(
     ensures made { IfOk result (λ text. IsCompactOf M.VERSION M.text sealed restored (string_bytes text)) }
     ensures none { IfErr result (IsNoneOf M.text restored) }
 {
-    let (mut board, makers) = restored.into_parts();
+    let (board, makers) = restored.into_parts();
     let seat = Who::Seat(makers.seats.saturating_sub(1));
-    match compact(alloc, &mut board, seat, MOST) {
+    match compact(alloc, &board, seat, MOST) {
         Ok(new) => text_of(alloc, &new, sealed),
         Err(_) => Err(Ending::NoMemory),
     }
