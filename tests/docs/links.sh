@@ -1,7 +1,8 @@
 #!/bin/sh
 # Each link in a document leads to a file that is there, and to a heading there if it names one. Each page of docs/ that a document, a
 # source or a script names is there. README has at most 1,000 words, docs/DECISIONS.md 5,000 and all documents together 45,000, and
-# a sentence of README has at most 25: `sh tests/docs/links.sh`. The last line is `N passed, M failed`.
+# a sentence of README has at most 25. What a wrong edit replaces stands once in the file that it names: `sh tests/docs/links.sh`. The
+# last line is `N passed, M failed`.
 top=$(cd "$(dirname "$0")/../.." && pwd) || exit 1
 . "$top/tests/lib/cases.sh"
 cd "$top" || exit 1
@@ -96,6 +97,23 @@ kept | grep -E '\.(md|rs|rt|antt|h|c|py|sh|awk|toml)$' | while read -r file; do
 done >> "$work/links"
 while read -r from to; do leads "$from" "$to"; done < "$work/links"
 
+# strange_edits CRATE: the titles of the wrong edits of which a line to replace doesn't stand in its file, or stands there twice.
+strange_edits() {
+    awk -v crate="$1" '
+        /^edit: / { title = $2 }
+        /^file: / {
+            file = crate "/" substr($0, 7)
+            text = ""
+            while ((getline line < file) > 0) text = text line "\n"
+            close(file)
+        }
+        /^old: / {
+            old = substr($0, 6)
+            at = index(text, old)
+            if (at == 0 || index(substr(text, at + length(old)), old) > 0) print title
+        }' "$1/edits.txt"
+}
+
 at_most 1000 README.md README.md
 at_most 5000 docs/DECISIONS.md docs/DECISIONS.md
 # shellcheck disable=SC2046 # no document has a blank in its name
@@ -104,4 +122,9 @@ sentences README.md > "$work/sentences"
 while read -r many sentence; do
     if [ "$many" -le 25 ]; then pass; else fail "README.md: a sentence of $many words, more than 25: $sentence"; fi
 done < "$work/sentences"
+for edits in crates/*/edits.txt; do
+    strange=$(strange_edits "${edits%/edits.txt}")
+    # shellcheck disable=SC2086 # one line
+    if [ -z "$strange" ]; then pass; else fail "$edits: no longer fitting:" $strange; fi
+done
 count

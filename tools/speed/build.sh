@@ -25,11 +25,11 @@ build() {
     echo "$built/package" > "$built/python"
     cc -O2 -I "$2/include" tools/speed/speed.c "$2/lib/libseryugo.a" -o "$built/speed_in_c" || return
     cargo_builds seryugo --example journals && cp "$built/target/release/examples/journals" "$built" || return
+    cargo_builds seryugo --example speed && cp "$built/target/release/examples/speed" "$built" || return
     if has_peers; then
-        cargo_builds speed_of_peers && cp "$built/target/release/speed_of_peers" "$built/speed"
+        cargo_builds speed_of_peers && cp "$built/target/release/speed_of_peers" "$built/peers"
     else
         echo 'left out: crossbeam-channel and tokio: sh tools/packages.sh installs their sources' >&2
-        cargo_builds seryugo --example speed && cp "$built/target/release/examples/speed" "$built"
     fi
 }
 

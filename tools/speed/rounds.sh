@@ -60,8 +60,11 @@ by_rust() {
     messages=$(($2 / share))
     shift 2
     for word; do
-        ran "$work/$build/speed" "$messages" "$word" 1 || return
-        note "$build" 1 < "$work/told"
+        for program in speed peers; do
+            has "$build" "$program" || continue
+            ran "$work/$build/$program" "$messages" "$word" 1 || return
+            note "$build" 1 < "$work/told"
+        done
     done
 }
 
@@ -100,7 +103,7 @@ by_others() {
 by_count() {
     has "$1" speed_in_c || return 0
     count_in_c "$work/$1/speed_in_c" > "$work/told" && count_in_rust "$work/$1/speed" >> "$work/told" || return
-    ! has_peers || count_instructions "$work/$1/speed" 'one thread' crossbeam >> "$work/told" || return
+    ! has_peers || count_instructions "$work/$1/peers" 'one thread' crossbeam >> "$work/told" || return
     note "$1" 1 < "$work/told"
 }
 

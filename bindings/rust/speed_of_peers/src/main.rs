@@ -1,6 +1,6 @@
-//! What the example `speed` of the crate seryugo measures, with the same words, and beside it the
-//! same workloads by the channels of crossbeam and of tokio. None of these keeps a journal. Under
-//! tokio a task takes the place of a thread.
+//! What the example `speed` of the crate seryugo measures, with the same words, by the channels of
+//! crossbeam and of tokio. None of these keeps a journal. Under tokio a task takes the place of a
+//! thread. It is a program of its own, so that it changes nothing in what the example compiles to.
 
 mod crossbeam;
 mod seats_on_tokio;
@@ -12,7 +12,7 @@ mod speed;
 use speed::Way;
 
 fn main() {
-    speed::measure_all(peers);
+    speed::measure_all(|workload, _| peers(workload));
 }
 
 /// How the peers do a workload.

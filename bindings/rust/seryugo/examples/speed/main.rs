@@ -15,7 +15,7 @@
 //! round this many threads, and in `server32` and `server128` eight workers serve this many clients.
 //! These four take a tenth of the messages, since a thread sleeps and is woken for each.
 //!
-//! The crate `speed_of_peers` beside this one measures crossbeam-channel and tokio too.
+//! The crate `speed_of_peers` beside this one measures crossbeam-channel and tokio.
 
 mod cast;
 mod mailboxes;
@@ -33,17 +33,16 @@ pub use measure::Way;
 
 #[allow(dead_code)]
 fn main() {
-    measure_all(|_| Vec::new());
+    measure_all(|_, ways| ways.to_vec());
 }
 
-/// Measures each workload, with more ways of it after those of the library and of the standard
-/// library.
-pub fn measure_all(more: fn(&str) -> Vec<Way>) {
+/// Measures each workload, in the ways that are chosen by its name and the ways here.
+pub fn measure_all(choose: fn(&str, &[Way]) -> Vec<Way>) {
     let asked = measure::Asked::by_words();
     let many = asked.messages;
     let few = many.div_ceil(10);
     let measure = |workload, messages, ways: &[Way]| {
-        asked.measure(workload, messages, &[ways, &more(workload)].concat());
+        asked.measure(workload, messages, &choose(workload, ways));
     };
     measure("one thread", many, &one_thread::WAYS);
     measure("typed: a u64", many, &typed::NUMBERS);
